@@ -2,14 +2,14 @@
 use Prim.Native.Nat.{ℕ, zero, suc}
 use mathlib.Core.Bool.{Bool, true, false}
 use lib.Dec.{eqb, leb}
-use Rattle.definition.specs.declared.PathKind.{PathKind}
-use Rattle.definition.specs.declared.PathKind.the-variants.{Inductive, Unknown, Coinductive, ForcedAmbiguity}
-use Rattle.definition.specs.declared.Answer.{Answer}
-use Rattle.definition.specs.declared.Answer.the-variants.{No, Yes, Undecided, Overflow}
-use Rattle.definition.specs.declared.Refusal.{Refusal}
-use Rattle.definition.specs.declared.Refusal.the-variants.{BookLength, BookLine, BookHeader, BookBody, UnknownGoal, DepthAboveTop, CacheLength, CacheForm, WorkLength, ProvisionalCacheFull, CacheConflict, Unreachable}
-use Rattle.definition.specs.declared.Response.{Response}
-use Rattle.definition.specs.declared.Response.the-variants.{Answered, Refused}
+use Rattle.definition.specs.declared.paths.PathKind.{PathKind}
+use Rattle.definition.specs.declared.paths.PathKind.the-variants.{Inductive, Unknown, Coinductive, ForcedAmbiguity}
+use Rattle.definition.specs.declared.answers.Answer.{Answer}
+use Rattle.definition.specs.declared.answers.Answer.the-variants.{No, Yes, Undecided, Overflow}
+use Rattle.definition.specs.declared.query.Refusal.{Refusal}
+use Rattle.definition.specs.declared.query.Refusal.the-variants.{BookLength, BookLine, BookHeader, BookBody, UnknownGoal, DepthAboveTop, CacheLength, CacheForm, WorkLength, ProvisionalCacheFull, CacheConflict, Unreachable}
+use Rattle.definition.specs.declared.query.Response.{Response}
+use Rattle.definition.specs.declared.query.Response.the-variants.{Answered, Refused}
 
 abbrev pub answerNumber : Answer → ℕ
 answerNumber No = 0

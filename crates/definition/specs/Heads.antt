@@ -5,8 +5,8 @@ use mathlib.Core.Option.{Option, none, some}
 use mathlib.Core.List.{List, [], _∷_}
 use lib.ListN.{getD, set, replicate}
 use lib.Bits.{bitOr}
-use Rattle.definition.specs.declared.HeadUsages.{HeadUsages}
-use Rattle.definition.specs.declared.CycleHead.{CycleHead}
+use Rattle.definition.specs.declared.usages.HeadUsages.{HeadUsages}
+use Rattle.definition.specs.declared.heads.CycleHead.{CycleHead}
 use Rattle.definition.specs.Usages.{noUsages, addUsagesFromNested, ignoreUsages}
 
 abbrev pub CycleHeads : Type 0

@@ -5,7 +5,7 @@ use mathlib.Core.List.{List, [], _∷_}
 use lib.Dec.{eqb}
 use lib.ListN.{getD, set, replicate}
 use lib.Bits.{bitOr}
-use Rattle.definition.specs.declared.PathKind.{PathKind}
+use Rattle.definition.specs.declared.paths.PathKind.{PathKind}
 use Rattle.definition.specs.Paths.{extendWith}
 
 abbrev pub NestedGoals : Type 0

@@ -4,8 +4,8 @@ use mathlib.Core.Bool.{Bool, true, false}
 use mathlib.Core.List.{List, [], _∷_}
 use lib.Dec.{leb, eqb}
 use lib.Bits.{bitAnd, bitOr}
-use Rattle.definition.specs.declared.PathKind.{PathKind}
-use Rattle.definition.specs.declared.PathKind.the-variants.{Inductive, Unknown, Coinductive, ForcedAmbiguity}
+use Rattle.definition.specs.declared.paths.PathKind.{PathKind}
+use Rattle.definition.specs.declared.paths.PathKind.the-variants.{Inductive, Unknown, Coinductive, ForcedAmbiguity}
 
 -- the number that a call line has for a kind
 abbrev pub kindNumber : PathKind → ℕ

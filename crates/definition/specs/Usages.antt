@@ -4,9 +4,9 @@ use Prim.Native.Nat.{ℕ, _+_, _-_, min}
 use mathlib.Core.Bool.{Bool, true, false, _&&_, _||_}
 use mathlib.Core.List.{List, [], _∷_}
 use lib.Dec.{eqb, leb}
-use Rattle.definition.specs.declared.PathKind.{PathKind}
-use Rattle.definition.specs.declared.PathKind.the-variants.{Inductive, Unknown, Coinductive, ForcedAmbiguity}
-use Rattle.definition.specs.declared.HeadUsages.{HeadUsages}
+use Rattle.definition.specs.declared.paths.PathKind.{PathKind}
+use Rattle.definition.specs.declared.paths.PathKind.the-variants.{Inductive, Unknown, Coinductive, ForcedAmbiguity}
+use Rattle.definition.specs.declared.usages.HeadUsages.{HeadUsages}
 
 unfoldable pub counterLimit : ℕ
 counterLimit = 4294967296
