@@ -109,12 +109,17 @@ insertProvisionalCache h g input step r =
     ]
 
 -- refused where the slot holds a different result
-abbrev pub insertGlobalCache : Header → Graph → ℕ → EvaluationResult → Outcome
-insertGlobalCache h g input r =
+abbrev pub insertInSlot : Header → Graph → ℕ → EvaluationResult → Outcome
+insertInSlot h g input r =
     elim (cacheInsert h (g .globalCache) input r) [
       | none ↦ Stopped CacheConflict
       | some cache ↦ Done (withGlobalCache g cache) (r .result)
     ]
+
+-- a required depth is never above the top depth, so that there is a slot
+abbrev pub insertGlobalCache : Header → Graph → ℕ → EvaluationResult → Outcome
+insertGlobalCache h g input r =
+    elim (leb (r .requiredDepth) (h .top)) [ true ↦ insertInSlot h g input r | false ↦ Stopped Unreachable ]
 
 abbrev pub insertResult : Header → Graph → ℕ → PathKind → EvaluationResult → Outcome
 insertResult h g input step r =
