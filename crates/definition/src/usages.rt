@@ -1,4 +1,7 @@
 // Usages of cycle heads.
+use crate::paths::PathKind;
+ghost use mathlib.Core.Path.{_≡_};
+ghost use Rattle.definition.specs.Usages.{addCounter, subtractCounter, counterCovers, atMostOne, noUsages, oneUsage, addUsages, addUsage, addUsagesFromNested, ignoreUsages, usagesCover, isEmpty, isSingle};
 
 // How often a cycle head was used, by the kind of the cycle.
 pub struct HeadUsages {
@@ -6,4 +9,143 @@ pub struct HeadUsages {
     pub unknown: u64,
     pub coinductive: u64,
     pub forced: u64,
+}
+
+// A counter that comes to the limit stays there.
+const LIMIT: u64 = 4294967296;
+
+// The sum of two counters, or the limit.
+fn add(a: u64, b: u64) -> u64
+    ensures { λ r. ⌜ r ≡ addCounter a b ⌝ }
+{
+    if a < LIMIT && b < LIMIT - a {
+        a + b
+    } else {
+        LIMIT
+    }
+}
+
+// The difference of two counters, 0 where b is larger; a counter at the limit keeps
+// its value.
+fn subtract(a: u64, b: u64) -> u64
+    ensures { λ r. ⌜ r ≡ subtractCounter a b ⌝ }
+{
+    if LIMIT <= a {
+        return a;
+    }
+    if a < b {
+        return 0;
+    }
+    a - b
+}
+
+fn covers(a: u64, b: u64) -> bool
+    ensures { λ r. ⌜ r ≡ counterCovers a b ⌝ }
+{
+    if LIMIT <= a {
+        return true;
+    }
+    b <= a
+}
+
+fn at_most_one(n: u64) -> u64
+    ensures { λ r. ⌜ r ≡ atMostOne n ⌝ }
+{
+    if n == 0 { 0 } else { 1 }
+}
+
+impl HeadUsages {
+    pub fn none() -> HeadUsages
+        ensures { λ r. ⌜ r ≡ noUsages ⌝ }
+    {
+        HeadUsages {
+            inductive: 0,
+            unknown: 0,
+            coinductive: 0,
+            forced: 0,
+        }
+    }
+
+    // One usage of a kind.
+    pub fn one(kind: PathKind) -> HeadUsages
+        ensures { λ r. ⌜ r ≡ oneUsage kind ⌝ }
+    {
+        let mut usages = HeadUsages::none();
+        match kind {
+            PathKind::Inductive => usages.inductive = 1,
+            PathKind::Unknown => usages.unknown = 1,
+            PathKind::Coinductive => usages.coinductive = 1,
+            PathKind::ForcedAmbiguity => usages.forced = 1,
+        }
+        usages
+    }
+
+    // One usage more, of a kind.
+    pub fn add_usage(self, kind: PathKind) -> HeadUsages
+        ensures { λ r. ⌜ r ≡ addUsage self kind ⌝ }
+    {
+        self.add_usages(HeadUsages::one(kind))
+    }
+
+    pub fn add_usages(self, other: HeadUsages) -> HeadUsages
+        ensures { λ r. ⌜ r ≡ addUsages self other ⌝ }
+    {
+        HeadUsages {
+            inductive: add(self.inductive, other.inductive),
+            unknown: add(self.unknown, other.unknown),
+            coinductive: add(self.coinductive, other.coinductive),
+            forced: add(self.forced, other.forced),
+        }
+    }
+
+    // The usages of a nested goal: whether it used the head counts, not how often.
+    pub fn add_usages_from_nested(self, nested: HeadUsages) -> HeadUsages
+        ensures { λ r. ⌜ r ≡ addUsagesFromNested self nested ⌝ }
+    {
+        self.add_usages(HeadUsages {
+            inductive: at_most_one(nested.inductive),
+            unknown: at_most_one(nested.unknown),
+            coinductive: at_most_one(nested.coinductive),
+            forced: at_most_one(nested.forced),
+        })
+    }
+
+    pub fn ignore_usages(self, other: HeadUsages) -> HeadUsages
+        ensures { λ r. ⌜ r ≡ ignoreUsages self other ⌝ }
+    {
+        HeadUsages {
+            inductive: subtract(self.inductive, other.inductive),
+            unknown: subtract(self.unknown, other.unknown),
+            coinductive: subtract(self.coinductive, other.coinductive),
+            forced: subtract(self.forced, other.forced),
+        }
+    }
+
+    // Whether `ignore_usages` takes no more away than there is.
+    pub fn covers(self, other: HeadUsages) -> bool
+        ensures { λ r. ⌜ r ≡ usagesCover self other ⌝ }
+    {
+        covers(self.inductive, other.inductive)
+            && covers(self.unknown, other.unknown)
+            && covers(self.coinductive, other.coinductive)
+            && covers(self.forced, other.forced)
+    }
+
+    pub fn is_empty(self) -> bool
+        ensures { λ r. ⌜ r ≡ isEmpty self ⌝ }
+    {
+        self.inductive == 0 && self.unknown == 0 && self.coinductive == 0 && self.forced == 0
+    }
+
+    // Whether every usage is of one kind.
+    pub fn is_single(self, kind: PathKind) -> bool
+        ensures { λ r. ⌜ r ≡ isSingle self kind ⌝ }
+    {
+        match kind {
+            PathKind::Inductive => self.unknown == 0 && self.coinductive == 0 && self.forced == 0,
+            PathKind::Unknown => self.inductive == 0 && self.coinductive == 0 && self.forced == 0,
+            PathKind::Coinductive => self.inductive == 0 && self.unknown == 0 && self.forced == 0,
+            PathKind::ForcedAmbiguity => self.inductive == 0 && self.unknown == 0 && self.coinductive == 0,
+        }
+    }
 }
