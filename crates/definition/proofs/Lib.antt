@@ -1,2 +1,3 @@
-pub mod Numbers
+pub mod Counters
 pub mod Extensions
+pub mod Numbers

@@ -1,6 +1,8 @@
 // Usages of cycle heads.
 use crate::paths::PathKind;
 ghost use mathlib.Core.Path.{_≡_};
+ghost use mathlib.Core.Bool.{_&&_};
+ghost use lib.Dec.{eqb};
 ghost use Rattle.definition.specs.Usages.{addCounter, subtractCounter, counterCovers, atMostOne, noUsages, oneUsage, addUsages, addUsage, addUsagesFromNested, ignoreUsages, usagesCover, isEmpty, isSingle};
 
 // How often a cycle head was used, by the kind of the cycle.
@@ -18,11 +20,13 @@ const LIMIT: u64 = 4294967296;
 fn add(a: u64, b: u64) -> u64
     ensures { λ r. ⌜ r ≡ addCounter a b ⌝ }
 {
-    if a < LIMIT && b < LIMIT - a {
-        a + b
-    } else {
-        LIMIT
+    if LIMIT <= a {
+        return LIMIT;
     }
+    if LIMIT - a <= b {
+        return LIMIT;
+    }
+    a + b
 }
 
 // The difference of two counters, 0 where b is larger; a counter at the limit keeps
@@ -46,6 +50,22 @@ fn covers(a: u64, b: u64) -> bool
         return true;
     }
     b <= a
+}
+
+fn both(a: bool, b: bool) -> bool
+    ensures { λ r. ⌜ r ≡ (a && b) ⌝ }
+{
+    if a {
+        return b;
+    }
+    false
+}
+
+// Whether three counters are 0.
+fn no_usage(a: u64, b: u64, c: u64) -> bool
+    ensures { λ r. ⌜ r ≡ (eqb a 0 && eqb b 0 && eqb c 0) ⌝ }
+{
+    a | b | c == 0
 }
 
 fn at_most_one(n: u64) -> u64
@@ -125,16 +145,19 @@ impl HeadUsages {
     pub fn covers(self, other: HeadUsages) -> bool
         ensures { λ r. ⌜ r ≡ usagesCover self other ⌝ }
     {
-        covers(self.inductive, other.inductive)
-            && covers(self.unknown, other.unknown)
-            && covers(self.coinductive, other.coinductive)
-            && covers(self.forced, other.forced)
+        let forced = covers(self.forced, other.forced);
+        let coinductive = both(covers(self.coinductive, other.coinductive), forced);
+        let unknown = both(covers(self.unknown, other.unknown), coinductive);
+        both(covers(self.inductive, other.inductive), unknown)
     }
 
     pub fn is_empty(self) -> bool
         ensures { λ r. ⌜ r ≡ isEmpty self ⌝ }
     {
-        self.inductive == 0 && self.unknown == 0 && self.coinductive == 0 && self.forced == 0
+        both(
+            no_usage(self.inductive, self.unknown, self.coinductive),
+            self.forced == 0,
+        )
     }
 
     // Whether every usage is of one kind.
@@ -142,10 +165,10 @@ impl HeadUsages {
         ensures { λ r. ⌜ r ≡ isSingle self kind ⌝ }
     {
         match kind {
-            PathKind::Inductive => self.unknown == 0 && self.coinductive == 0 && self.forced == 0,
-            PathKind::Unknown => self.inductive == 0 && self.coinductive == 0 && self.forced == 0,
-            PathKind::Coinductive => self.inductive == 0 && self.unknown == 0 && self.forced == 0,
-            PathKind::ForcedAmbiguity => self.inductive == 0 && self.unknown == 0 && self.coinductive == 0,
+            PathKind::Inductive => no_usage(self.unknown, self.coinductive, self.forced),
+            PathKind::Unknown => no_usage(self.inductive, self.coinductive, self.forced),
+            PathKind::Coinductive => no_usage(self.inductive, self.unknown, self.forced),
+            PathKind::ForcedAmbiguity => no_usage(self.inductive, self.unknown, self.coinductive),
         }
     }
 }

@@ -1,19 +1,25 @@
+use mathlib.Core.Path.{_≡_, _∙_}
+use native.Mathlib.Omega.{arith}
+use Prim.Native.Nat.{_-_}
+use Rattle.definition.specs.Usages.{counterLimit}
+use Rattle.definition.proofs.Counters.{subtract-full, subtract-less}
 use Rattle.definition.proofs.usages.subtract.Statement.{statement}
 use Rattle.definition.proofs.usages.subtract.Tie as tie
-use Rattle.definition.proofs.usages.subtract.Reads as reads
-use Rattle.definition.proofs.usages.subtract.Lts as lts
 
--- src/usages.rt:34:9
 returns : tie.Need-returns
-returns c = ?
+unfolding counterLimit
+returns c = subtract-full (c .before .args .a) (c .before .args .b) (c .if1 .taken)
 
--- src/usages.rt:37:9
 returns-2 : tie.Need-returns-2
-returns-2 c = ?
+unfolding counterLimit
+returns-2 c =
+    let a = c .before .before .args in
+    let none : 0 ≡ a .a - a .b = omega arith in
+    none ∙ subtract-less (a .a) (a .b) (c .before .if1 .left)
 
--- src/usages.rt:30:1
 returns-3 : tie.Need-returns-3
-returns-3 c = ?
+unfolding counterLimit
+returns-3 c = let a = c .before .before .args in subtract-less (a .a) (a .b) (c .before .if1 .left)
 
 pub subtract-spec : {M : Type 1} → statement M
 subtract-spec = tie.close (tie.spec returns returns-2 returns-3)

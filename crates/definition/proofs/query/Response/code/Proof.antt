@@ -1,43 +1,51 @@
+use mathlib.Core.Path.{_∙_}
+use Prim.Native.Nat.{_<_}
+use native.Mathlib.Omega.{arith}
+use lib.Dec.{lit<}
+use Rattle.definition.specs.Answers.{refusalNumber}
+use Rattle.definition.specs.declared.query.Refusal.{Refusal}
+use Rattle.definition.specs.declared.query.Refusal.the-variants.{BookLength, BookLine, BookHeader, BookBody, UnknownGoal, DepthAboveTop, CacheLength, CacheForm, WorkLength, ProvisionalCacheFull, CacheConflict, Unreachable}
 use borrow.Author.Needs.{needs}
 use Rattle.definition.proofs.query.Response.code.Statement.{statement}
 use Rattle.definition.proofs.query.Response.code.Tie as tie
-use Rattle.definition.proofs.query.Response.code.Reads as reads
-use Rattle.definition.proofs.query.Response.code.Lts as lts
-use Rattle.definition.proofs.answers.Answer.number.Reads as answers-Answer-number-reads
-use Rattle.definition.proofs.query.Refusal.number.Reads as query-Refusal-number-reads
-use Rattle.definition.proofs.query.wide.Reads as wide-reads
 
--- src/query.rt:64:32
+small : (r : Refusal) → refusalNumber r < 256
+small BookLength = lit< tt
+small BookLine = lit< tt
+small BookHeader = lit< tt
+small BookBody = lit< tt
+small UnknownGoal = lit< tt
+small DepthAboveTop = lit< tt
+small CacheLength = lit< tt
+small CacheForm = lit< tt
+small WorkLength = lit< tt
+small ProvisionalCacheFull = lit< tt
+small CacheConflict = lit< tt
+small Unreachable = lit< tt
+
 enum-known-self : tie.Need-enum-known-self
 enum-known-self c = search needs
 
--- src/query.rt:64:48
 number-requires : tie.Need-number-requires
 number-requires c κs = search needs
 
--- src/query.rt:64:43
 wide-requires : tie.Need-wide-requires
 wide-requires c κs = search needs
 
--- src/query.rt:65:31
 enum-known-self-2 : tie.Need-enum-known-self-2
 enum-known-self-2 c = search needs
 
--- src/query.rt:65:49
 number-requires-2 : tie.Need-number-requires-2
 number-requires-2 c κs = search needs
 
--- src/query.rt:65:43
 mul-result : tie.Need-mul-result
-mul-result c = ?
+mul-result c = omega (arith, c .number2 .ensures, small (c .before .before .self2 .given .0 .0))
 
--- src/query.rt:60:5
 returns : tie.Need-returns
-returns c = ?
+returns c = rw (c .before .before .before .self .given .1) (omega (arith, c .wide .ensures, c .before .number .ensures))
 
--- src/query.rt:60:5
 returns-2 : tie.Need-returns-2
-returns-2 c = ?
+returns-2 c = rw (c .before .before .self2 .given .1) (omega (arith, c .number2 .ensures))
 
 pub code-spec : {M : Type 1} → statement M
 code-spec =

@@ -1,70 +1,56 @@
 use borrow.Author.Needs.{needs}
 use Rattle.definition.proofs.usages.HeadUsages.is_single.Statement.{statement}
 use Rattle.definition.proofs.usages.HeadUsages.is_single.Tie as tie
-use Rattle.definition.proofs.usages.HeadUsages.is_single.Reads as reads
-use Rattle.definition.proofs.usages.HeadUsages.is_single.Lts as lts
 
--- src/usages.rt:145:36
 enum-told : tie.Need-enum-told
 enum-told c = search needs
 
--- src/usages.rt:146:34
+no-usage-requires : tie.Need-no-usage-requires
+no-usage-requires c κs = search needs
+
 enum-told-2 : tie.Need-enum-told-2
 enum-told-2 c = search needs
 
--- src/usages.rt:147:38
+no-usage-requires-2 : tie.Need-no-usage-requires-2
+no-usage-requires-2 c κs = search needs
+
 enum-told-3 : tie.Need-enum-told-3
 enum-told-3 c = search needs
 
--- src/usages.rt:148:42
+no-usage-requires-3 : tie.Need-no-usage-requires-3
+no-usage-requires-3 c κs = search needs
+
 enum-told-4 : tie.Need-enum-told-4
 enum-told-4 c = search needs
 
--- src/usages.rt:141:5
+no-usage-requires-4 : tie.Need-no-usage-requires-4
+no-usage-requires-4 c κs = search needs
+
 returns : tie.Need-returns
-returns c = ?
+returns c = rw (c .before .enum-told .given .1) (c .no-usage .ensures)
 
--- src/usages.rt:141:5
 returns-2 : tie.Need-returns-2
-returns-2 c = ?
+returns-2 c = rw (c .before .enum-told2 .given .1) (c .no-usage2 .ensures)
 
--- src/usages.rt:141:5
 returns-3 : tie.Need-returns-3
-returns-3 c = ?
+returns-3 c = rw (c .before .enum-told3 .given .1) (c .no-usage3 .ensures)
 
--- src/usages.rt:141:5
 returns-4 : tie.Need-returns-4
-returns-4 c = ?
-
--- src/usages.rt:141:5
-returns-5 : tie.Need-returns-5
-returns-5 c = ?
-
--- src/usages.rt:141:5
-returns-6 : tie.Need-returns-6
-returns-6 c = ?
-
--- src/usages.rt:141:5
-returns-7 : tie.Need-returns-7
-returns-7 c = ?
-
--- src/usages.rt:141:5
-returns-8 : tie.Need-returns-8
-returns-8 c = ?
+returns-4 c = rw (c .before .enum-told4 .given .1) (c .no-usage4 .ensures)
 
 pub is-single-spec : {M : Type 1} → statement M
 is-single-spec =
     tie.close
     (tie.spec
     enum-told
+    no-usage-requires
     enum-told-2
+    no-usage-requires-2
     enum-told-3
+    no-usage-requires-3
     enum-told-4
+    no-usage-requires-4
     returns
     returns-2
     returns-3
-    returns-4
-    returns-5
-    returns-6
-    returns-7
-    returns-8)
+    returns-4)
