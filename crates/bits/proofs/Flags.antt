@@ -12,7 +12,7 @@ use lib.Dec.{lit<, eqb}
 use lib.Arith.{digits-mod, digits-div}
 use lib.Pow.{shr-shr, pow-lt, mod-pow-add}
 use lib.Bits.{bitAnd, bitOr, and-step, or-step, or-zero-r, and-mask}
-use Rattle.bits.specs.Masks.{flag, flags, both, minus}
+use Rattle.bits.specs.Masks.{flag, flags, pairwise, andNot}
 
 -- a mask of k flags has k of them
 pub length-flags : (k a : ℕ) → length (flags k a) ≡ k
@@ -34,8 +34,8 @@ digit k d n small e = ap₂ (λ (x y : ℕ). flag x ∷ flags k y) (ap (λ (x : 
 -- ---- an operation that goes by digits
 module _ (op f : ℕ → ℕ → ℕ) (g : Bool → Bool → Bool) (by : (a b : ℕ) → op a b ≡ op (a / 2) (b / 2) * 2 + f (a % 2) (b % 2))
     (small : (d e : ℕ) → d < 2 → e < 2 → f d e < 2) (is : (d e : ℕ) → d < 2 → e < 2 → flag (f d e) ≡ g (flag d) (flag e)) where
-  flags-op : (k a b : ℕ) → flags k (op a b) ≡ both g (flags k a) (flags k b)
-  unfolding flags both
+  flags-op : (k a b : ℕ) → flags k (op a b) ≡ pairwise g (flags k a) (flags k b)
+  unfolding flags pairwise
   flags-op zero a b = refl
   flags-op (suc k) a b =
       let da = mod-lt a {m = 2} (lit< tt) in
@@ -49,12 +49,12 @@ two P p q zero h = p
 two P p q (suc zero) h = q
 two P p q (suc (suc d)) h = absurd (omega arith)
 
-pub flags-or : (k a b : ℕ) → flags k (bitOr a b) ≡ both _||_ (flags k a) (flags k b)
+pub flags-or : (k a b : ℕ) → flags k (bitOr a b) ≡ pairwise _||_ (flags k a) (flags k b)
 flags-or =
     flags-op bitOr max _||_ or-step (λ d e p q. omega arith)
     (λ d e p q. two (λ (d : ℕ). flag (max d e) ≡ (flag d || flag e)) (two (λ (e : ℕ). flag (max 0 e) ≡ flag e) refl refl e q) (two (λ (e : ℕ). flag (max 1 e) ≡ true) refl refl e q) d p)
 
-pub flags-and : (k a b : ℕ) → flags k (bitAnd a b) ≡ both _&&_ (flags k a) (flags k b)
+pub flags-and : (k a b : ℕ) → flags k (bitAnd a b) ≡ pairwise _&&_ (flags k a) (flags k b)
 flags-and =
     flags-op bitAnd min _&&_ and-step (λ d e p q. omega arith)
     (λ d e p q. two (λ (d : ℕ). flag (min d e) ≡ (flag d && flag e)) (two (λ (e : ℕ). flag (min 0 e) ≡ false) refl refl e q) (two (λ (e : ℕ). flag (min 1 e) ≡ flag e) refl refl e q) d p)
@@ -70,8 +70,8 @@ flags-not (suc k) b h =
     digit k (1 - b % 2) (2 ^ k - 1 - b / 2) (omega arith) (ap (λ (p : ℕ). p - 1 - b) (pow-suc 2 k) ∙ e)
     ∙ ap₂ (λ (x : Bool) (l : List Bool). x ∷ l) (two (λ (d : ℕ). flag (1 - d) ≡ not (flag d)) refl refl (b % 2) d) (flags-not k (b / 2) (omega arith))
 
-and-not : (xs ys : List Bool) → both _&&_ xs (map not ys) ≡ both minus xs ys
-unfolding both
+and-not : (xs ys : List Bool) → pairwise _&&_ xs (map not ys) ≡ pairwise andNot xs ys
+unfolding pairwise
 and-not [] ys = refl
 and-not (x ∷ xs) [] = refl
 and-not (true ∷ xs) (true ∷ ys) = ap (λ (l : List Bool). false ∷ l) (and-not xs ys)
@@ -80,20 +80,20 @@ and-not (false ∷ xs) (true ∷ ys) = ap (λ (l : List Bool). false ∷ l) (and
 and-not (false ∷ xs) (false ∷ ys) = ap (λ (l : List Bool). false ∷ l) (and-not xs ys)
 
 -- the machine's `a & !b`
-pub flags-minus : (k a b : ℕ) → b < 2 ^ k → flags k (bitAnd a (2 ^ k - 1 - b)) ≡ both minus (flags k a) (flags k b)
-flags-minus k a b h = flags-and k a (2 ^ k - 1 - b) ∙ ap (both _&&_ (flags k a)) (flags-not k b h) ∙ and-not (flags k a) (flags k b)
+pub flags-andNot : (k a b : ℕ) → b < 2 ^ k → flags k (bitAnd a (2 ^ k - 1 - b)) ≡ pairwise andNot (flags k a) (flags k b)
+flags-andNot k a b h = flags-and k a (2 ^ k - 1 - b) ∙ ap (pairwise _&&_ (flags k a)) (flags-not k b h) ∙ and-not (flags k a) (flags k b)
 
 -- ---- one bit
 power : (k i : ℕ) → flags (suc k) (2 ^ suc i) ≡ false ∷ flags k (2 ^ i)
 power k i = digit k 0 (2 ^ i) (lit< tt) (pow-suc 2 i ∙ omega arith)
 
-or-none : (k a : ℕ) → both _||_ (flags k a) (flags k 0) ≡ flags k a
+or-none : (k a : ℕ) → pairwise _||_ (flags k a) (flags k 0) ≡ flags k a
 or-none k a = sym (flags-or k a 0) ∙ ap (flags k) (or-zero-r a)
 
-minus-none : (k a : ℕ) → both minus (flags k a) (flags k 0) ≡ flags k a
-unfolding flags both
-minus-none zero a = refl
-minus-none (suc k) a = ap (λ (l : List Bool). flag (a % 2) ∷ l) (minus-none k (a / 2))
+andNot-none : (k a : ℕ) → pairwise andNot (flags k a) (flags k 0) ≡ flags k a
+unfolding flags pairwise
+andNot-none zero a = refl
+andNot-none (suc k) a = ap (λ (l : List Bool). flag (a % 2) ∷ l) (andNot-none k (a / 2))
 
 or-true : (x : Bool) → (x || true) ≡ true
 or-true true = refl
@@ -104,22 +104,22 @@ or-false true = refl
 or-false false = refl
 
 -- the flag of 2 ^ i joined to others
-or-one : (k i a : ℕ) → i < k → both _||_ (flags k a) (flags k (2 ^ i)) ≡ set (flags k a) i true
-unfolding flags both
+or-one : (k i a : ℕ) → i < k → pairwise _||_ (flags k a) (flags k (2 ^ i)) ≡ set (flags k a) i true
+unfolding flags pairwise
 or-one zero i a h = absurd (omega arith)
 or-one (suc k) zero a h = ap₂ (λ (x : Bool) (l : List Bool). x ∷ l) (or-true (flag (a % 2))) (or-none k (a / 2))
 or-one (suc k) (suc i) a h =
-    ap (both _||_ (flag (a % 2) ∷ flags k (a / 2))) (power k i)
+    ap (pairwise _||_ (flag (a % 2) ∷ flags k (a / 2))) (power k i)
     ∙ ap₂ (λ (x : Bool) (l : List Bool). x ∷ l) (or-false (flag (a % 2))) (or-one k i (a / 2) (omega arith))
 
 -- and taken from them
-minus-one : (k i a : ℕ) → i < k → both minus (flags k a) (flags k (2 ^ i)) ≡ set (flags k a) i false
-unfolding flags both
-minus-one zero i a h = absurd (omega arith)
-minus-one (suc k) zero a h = ap (λ (l : List Bool). false ∷ l) (minus-none k (a / 2))
-minus-one (suc k) (suc i) a h =
-    ap (both minus (flag (a % 2) ∷ flags k (a / 2))) (power k i)
-    ∙ ap (λ (l : List Bool). flag (a % 2) ∷ l) (minus-one k i (a / 2) (omega arith))
+andNot-one : (k i a : ℕ) → i < k → pairwise andNot (flags k a) (flags k (2 ^ i)) ≡ set (flags k a) i false
+unfolding flags pairwise
+andNot-one zero i a h = absurd (omega arith)
+andNot-one (suc k) zero a h = ap (λ (l : List Bool). false ∷ l) (andNot-none k (a / 2))
+andNot-one (suc k) (suc i) a h =
+    ap (pairwise andNot (flag (a % 2) ∷ flags k (a / 2))) (power k i)
+    ∙ ap (λ (l : List Bool). flag (a % 2) ∷ l) (andNot-one k i (a / 2) (omega arith))
 
 pub one-shifted : (k i : ℕ) → i < k → 1 * 2 ^ i % 2 ^ k ≡ 2 ^ i
 one-shifted k i h = rw one-mul (mod-eq-of-lt (pow-lt h))
@@ -130,7 +130,7 @@ flags-with k i a h = ap (λ (n : ℕ). flags k (bitOr a n)) (one-shifted k i h) 
 
 -- `m & !(1 << i)`
 pub flags-without : (k i a : ℕ) → i < k → flags k (bitAnd a (2 ^ k - 1 - 1 * 2 ^ i % 2 ^ k)) ≡ set (flags k a) i false
-flags-without k i a h = ap (λ (n : ℕ). flags k (bitAnd a (2 ^ k - 1 - n))) (one-shifted k i h) ∙ flags-minus k a (2 ^ i) (pow-lt h) ∙ minus-one k i a h
+flags-without k i a h = ap (λ (n : ℕ). flags k (bitAnd a (2 ^ k - 1 - n))) (one-shifted k i h) ∙ flags-andNot k a (2 ^ i) (pow-lt h) ∙ andNot-one k i a h
 
 flag-at : (k i a : ℕ) → i < k → flag (a / 2 ^ i % 2) ≡ getD (flags k a) i false
 unfolding flags

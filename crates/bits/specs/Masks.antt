@@ -14,14 +14,14 @@ flags zero n = []
 flags (suc k) n = flag (n % 2) ∷ flags k (n / 2)
 
 -- two lists of flags, place by place
-unfoldable pub both : (Bool → Bool → Bool) → List Bool → List Bool → List Bool
-both f [] ys = []
-both f (x ∷ xs) [] = []
-both f (x ∷ xs) (y ∷ ys) = f x y ∷ both f xs ys
+unfoldable pub pairwise : (Bool → Bool → Bool) → List Bool → List Bool → List Bool
+pairwise f [] ys = []
+pairwise f (x ∷ xs) [] = []
+pairwise f (x ∷ xs) (y ∷ ys) = f x y ∷ pairwise f xs ys
 
-abbrev pub minus : Bool → Bool → Bool
-minus x true = false
-minus x false = x
+abbrev pub andNot : Bool → Bool → Bool
+andNot x true = false
+andNot x false = x
 
 abbrev pub nextPlace : Option ℕ → Option ℕ
 nextPlace none = none
