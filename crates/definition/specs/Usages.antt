@@ -12,7 +12,7 @@ unfoldable pub counterLimit : ℕ
 counterLimit = 4294967296
 
 abbrev pub addCounter : ℕ → ℕ → ℕ
-addCounter a b = min (a + b) counterLimit
+addCounter a b = elim (leb counterLimit a) [ true ↦ a | false ↦ min (a + b) counterLimit ]
 
 abbrev pub subtractCounter : ℕ → ℕ → ℕ
 subtractCounter a b = elim (leb counterLimit a) [ true ↦ a | false ↦ a - b ]
