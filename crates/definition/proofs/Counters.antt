@@ -1,13 +1,13 @@
 -- The counters of `HeadUsages`.
 use mathlib.Core.Path.{_≡_, sym, ap, ap₂, _∙_}
 use mathlib.Core.Bool.{Bool, true, false, _&&_, _||_}
-use Prim.Native.Nat.{ℕ, _-_, _≤_, _<_}
+use Prim.Native.Nat.{ℕ, _+_, _-_, _≤_, _<_, min}
 use native.Mathlib.Omega.{arith}
 use native.Mathlib.Decide.{ℕ-discrete}
 use borrow.Author.Tests.{le-leb, lt-leb, eq-eqb, ne-eqb}
 use lib.Bits.{bitAnd, bitOr, and-le-l, and-le-r, or-add-and}
 use lib.Dec.{eqb, leb}
-use Rattle.definition.specs.Usages.{counterLimit, subtractCounter, counterCovers}
+use Rattle.definition.specs.Usages.{counterLimit, addCounter, subtractCounter, counterCovers}
 
 -- a join is 0 where both numbers are
 none-of : (a b : ℕ) → eqb (bitOr a b) 0 ≡ (eqb a 0 && eqb b 0)
@@ -25,6 +25,12 @@ none-of-three a b c = none-of (bitOr a b) c ∙ ap (λ (t : Bool). t && eqb c 0)
 
 -- a counter that has come to the limit, and one that has not
 module _ (a b : ℕ) where
+  pub add-full : counterLimit ≤ a → a ≡ addCounter a b
+  add-full h = rw (le-leb counterLimit a h, addCounter)
+
+  pub add-less : a < counterLimit → min (a + b) counterLimit ≡ addCounter a b
+  add-less h = rw (lt-leb counterLimit a h, addCounter)
+
   pub subtract-full : counterLimit ≤ a → a ≡ subtractCounter a b
   subtract-full h = rw (le-leb counterLimit a h, subtractCounter)
 

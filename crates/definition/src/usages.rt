@@ -16,12 +16,12 @@ pub struct HeadUsages {
 // A counter that comes to the limit stays there.
 const LIMIT: u64 = 4294967296;
 
-// The sum of two counters, or the limit.
+// The sum of two counters, or the limit; a counter at the limit keeps its value.
 fn add(a: u64, b: u64) -> u64
     ensures { λ r. ⌜ r ≡ addCounter a b ⌝ }
 {
     if LIMIT <= a {
-        return LIMIT;
+        return a;
     }
     if LIMIT - a <= b {
         return LIMIT;
