@@ -1,10 +1,11 @@
 -- Usages, heads and blocks of them in bytes. A block is a mask of 64 bits and a record for each index; where the mask's bit is
 -- clear nothing is kept, and the record's bytes mean nothing.
-use Prim.Native.Nat.{ℕ, _+_, _*_}
+use mathlib.Core.Path.{_≡_}
+use Prim.Native.Nat.{ℕ, _+_, _*_, _≤_}
 use mathlib.Core.Bool.{Bool, true, false}
 use mathlib.Core.Option.{Option, none, some}
-use mathlib.Core.List.{List}
-use lib.ListN.{getD}
+use mathlib.Core.List.{List, [], _∷_}
+use lib.ListN.{getD, length}
 use Rattle.definition.specs.declared.usages.HeadUsages.{HeadUsages}
 use Rattle.definition.specs.declared.heads.CycleHead.{CycleHead}
 use Rattle.definition.specs.Usages.{noUsages}
@@ -57,3 +58,18 @@ usagesIn bs i = elim (flagAt bs i) [ true ↦ usagesOf (region (8 + i * usagesSi
 
 unfoldable pub candidateOf : ℕ → List ℕ → List HeadUsages
 candidateOf goals bs = listUp (usagesIn bs) goals
+
+-- ---- what a block's bytes must be
+pub record HeadsBlock (goals : ℕ) (bs : List ℕ) : Type 0 where
+  pub few : goals ≤ 64
+  pub long : length bs ≡ headsSize goals
+
+pub record UsagesBlock (goals : ℕ) (bs : List ℕ) : Type 0 where
+  pub few : goals ≤ 64
+  pub long : length bs ≡ blockSize goals
+
+-- the indices that have a head
+abbrev pub present : CycleHeads → List Bool
+present [] = []
+present (none ∷ hs) = false ∷ present hs
+present (some h ∷ hs) = true ∷ present hs
