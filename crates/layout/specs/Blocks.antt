@@ -39,12 +39,16 @@ headOf bs = record { paths = getD bs 0 0; usages = usagesOf (region 1 usagesSize
 unfoldable pub flagAt : List ℕ → ℕ → Bool
 flagAt bs i = getD (flags 64 (numberOf (region 0 8 bs))) i false
 
+-- ---- a block: what a record reads as where its bit is set, `absent` where not
+unfoldable pub keptAt : {A : Type 0} → (List ℕ → A) → A → ℕ → List ℕ → ℕ → A
+keptAt dec absent size bs i = elim (flagAt bs i) [ true ↦ dec (region (8 + i * size) size bs) | false ↦ absent ]
+
 -- ---- a block of heads
 abbrev pub headsSize : ℕ → ℕ
 headsSize goals = 8 + goals * headSize
 
-unfoldable pub headAt : List ℕ → ℕ → Option CycleHead
-headAt bs i = elim (flagAt bs i) [ true ↦ some (headOf (region (8 + i * headSize) headSize bs)) | false ↦ none ]
+abbrev pub headAt : List ℕ → ℕ → Option CycleHead
+headAt bs i = keptAt (λ r. some (headOf r)) none headSize bs i
 
 unfoldable pub headsOf : ℕ → List ℕ → CycleHeads
 headsOf goals bs = listUp (headAt bs) goals
@@ -53,8 +57,8 @@ headsOf goals bs = listUp (headAt bs) goals
 abbrev pub blockSize : ℕ → ℕ
 blockSize goals = 8 + goals * usagesSize
 
-unfoldable pub usagesIn : List ℕ → ℕ → HeadUsages
-usagesIn bs i = elim (flagAt bs i) [ true ↦ usagesOf (region (8 + i * usagesSize) usagesSize bs) | false ↦ noUsages ]
+abbrev pub usagesIn : List ℕ → ℕ → HeadUsages
+usagesIn bs i = keptAt usagesOf noUsages usagesSize bs i
 
 unfoldable pub candidateOf : ℕ → List ℕ → List HeadUsages
 candidateOf goals bs = listUp (usagesIn bs) goals

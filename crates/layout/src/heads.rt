@@ -7,7 +7,7 @@ ghost use mathlib.Core.Bool.{false};
 ghost use mathlib.Core.List.{_++_};
 ghost use mathlib.Core.Option.{some};
 ghost use Prim.Native.Nat.{ℕ, _+_, _-_, _*_, _<_, _≤_};
-ghost use lib.ListN.{length, set, replicate};
+ghost use lib.ListN.{length, getD, set, replicate};
 ghost use Rattle.bits.specs.Masks.{flags};
 ghost use Rattle.buffer.specs.Regions.{region};
 ghost use Rattle.definition.specs.Heads.{noHeads, headsEmpty, highestIndex, usagesAt, pathsAt, removeHead, insertHead};
@@ -58,8 +58,10 @@ pub fn remove(b: &mut [u8], goals: usize, i: usize)
     buffer::write_u64(b, 0, bits::without(m, i));
 }
 
-fn has(b: &[u8], goals: usize, i: usize) -> bool
+// Does index i have a head?
+pub fn has(b: &[u8], goals: usize, i: usize) -> bool
     requires { ⌜ HeadsBlock goals (now b) × (i < goals) ⌝ }
+    ensures { λ r. ⌜ r ≡ getD (present (headsOf goals (now (b .entry)))) i false ⌝ }
 {
     bits::has(buffer::read_u64(b, 0), i)
 }

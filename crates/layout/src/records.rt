@@ -33,7 +33,7 @@ pub fn read_head(b: &[u8]) -> CycleHead
 {
     CycleHead {
         paths: b[0],
-        usages: read_usages(&b[1..]),
+        usages: read_usages(&b[1..33]),
     }
 }
 
@@ -42,6 +42,6 @@ pub fn write_head(b: &mut [u8], h: CycleHead)
     ensures { λ _. ⌜ headOf (now (b .exit)) ≡ h ⌝ }
 {
     let usages = h.usages;
+    write_usages(&mut b[1..33], usages);
     b[0] = h.paths;
-    write_usages(&mut b[1..], usages);
 }
