@@ -1,4 +1,9 @@
 // Paths between goals.
+ghost use mathlib.Core.Path.{_≡_};
+ghost use lib.Bits.{bitOr};
+ghost use Rattle.definition.specs.Paths.{kindNumber, kindOf, sameKind, extend, emptyPath, flagOf, weakerFlags, containsPath, extendWith, extendWithEach, containedIn, extendWithPaths};
+ghost use mathlib.Core.List.{List, _∷_};
+ghost use Rattle.definition.specs.declared.paths.PathKind.{PathKind};
 
 // The kind of a path, in the order of `extend`.
 pub enum PathKind {
@@ -12,4 +17,144 @@ pub enum PathKind {
 // coinductive 8, forced ambiguity 16.
 pub struct PathsToNested {
     pub bits: u8,
+}
+
+impl PathKind {
+    // The number that a call line has for the kind.
+    pub fn number(self) -> u8
+        ensures { λ r. ⌜ r ≡ kindNumber self ⌝ }
+    {
+        match self {
+            PathKind::Inductive => 0,
+            PathKind::Unknown => 1,
+            PathKind::Coinductive => 2,
+            PathKind::ForcedAmbiguity => 3,
+        }
+    }
+
+    // The kind of a number; every number above 3 is read as 3.
+    pub fn from_number(n: u8) -> PathKind
+        ensures { λ r. ⌜ r ≡ kindOf n ⌝ }
+    {
+        match n {
+            0 => PathKind::Inductive,
+            1 => PathKind::Unknown,
+            2 => PathKind::Coinductive,
+            3..=255 => PathKind::ForcedAmbiguity,
+        }
+    }
+
+    pub fn same(self, other: PathKind) -> bool
+        ensures { λ r. ⌜ r ≡ sameKind self other ⌝ }
+    {
+        self.number() == other.number()
+    }
+
+    // The kind of a path of this kind that goes on with a path of kind `rest`.
+    pub fn extend(self, rest: PathKind) -> PathKind
+        ensures { λ r. ⌜ r ≡ extend self rest ⌝ }
+    {
+        if self.number() <= rest.number() {
+            rest
+        } else {
+            self
+        }
+    }
+
+    // The kind's flag in a set of paths.
+    fn flag(self) -> u8
+        ensures { λ r. ⌜ r ≡ flagOf self ⌝ }
+    {
+        match self {
+            PathKind::Inductive => 2,
+            PathKind::Unknown => 4,
+            PathKind::Coinductive => 8,
+            PathKind::ForcedAmbiguity => 16,
+        }
+    }
+
+    // The flags below the kind's own.
+    fn weaker_flags(self) -> u8
+        ensures { λ r. ⌜ r ≡ weakerFlags self ⌝ }
+    {
+        match self {
+            PathKind::Inductive => 1,
+            PathKind::Unknown => 3,
+            PathKind::Coinductive => 7,
+            PathKind::ForcedAmbiguity => 15,
+        }
+    }
+}
+
+impl PathsToNested {
+    // No path.
+    pub fn none() -> PathsToNested
+        ensures { λ r. ⌜ r .bits ≡ 0 ⌝ }
+    {
+        PathsToNested { bits: 0 }
+    }
+
+    // The set of the empty path.
+    pub fn empty_path() -> PathsToNested
+        ensures { λ r. ⌜ r .bits ≡ emptyPath ⌝ }
+    {
+        PathsToNested { bits: 1 }
+    }
+
+    pub fn from_kind(kind: PathKind) -> PathsToNested
+        ensures { λ r. ⌜ r .bits ≡ flagOf kind ⌝ }
+    {
+        PathsToNested { bits: kind.flag() }
+    }
+
+    pub fn contains(self, kind: PathKind) -> bool
+        ensures { λ r. ⌜ r ≡ containsPath (self .bits) kind ⌝ }
+    {
+        let flag = kind.flag();
+        self.bits & flag == flag
+    }
+
+    pub fn union(self, other: PathsToNested) -> PathsToNested
+        ensures { λ r. ⌜ r .bits ≡ bitOr (self .bits) (other .bits) ⌝ }
+    {
+        PathsToNested {
+            bits: self.bits | other.bits,
+        }
+    }
+
+    // The paths, each gone on with by a path of a kind.
+    pub fn extend_with(self, kind: PathKind) -> PathsToNested
+        ensures { λ r. ⌜ r .bits ≡ extendWith (self .bits) kind ⌝ }
+    {
+        let weaker = kind.weaker_flags();
+        if self.bits & weaker == 0 {
+            return self;
+        }
+        PathsToNested {
+            bits: (self.bits & !weaker) | kind.flag(),
+        }
+    }
+
+    // The paths that `extend_with` makes, where the kind is in `kinds`, else none.
+    fn extend_if(self, kinds: PathsToNested, kind: PathKind) -> PathsToNested
+        ensures { λ r. ⌜ ((ks : List PathKind) → bitOr (r .bits) (extendWithEach (self .bits) (containedIn (kinds .bits) ks)) ≡ extendWithEach (self .bits) (containedIn (kinds .bits) (kind ∷ ks))) ⌝ }
+    {
+        if kinds.contains(kind) {
+            return self.extend_with(kind);
+        }
+        PathsToNested::none()
+    }
+
+    // The paths, each gone on with by each path of `rest` but the empty one.
+    pub fn extend_with_paths(self, rest: PathsToNested) -> PathsToNested
+        ensures { λ r. ⌜ r .bits ≡ extendWithPaths (self .bits) (rest .bits) ⌝ }
+    {
+        let inductive = self.extend_if(rest, PathKind::Inductive);
+        let unknown = self.extend_if(rest, PathKind::Unknown);
+        let coinductive = self.extend_if(rest, PathKind::Coinductive);
+        let forced = self.extend_if(rest, PathKind::ForcedAmbiguity);
+        PathsToNested {
+            bits: inductive.bits | (unknown.bits | (coinductive.bits | forced.bits)),
+        }
+    }
 }

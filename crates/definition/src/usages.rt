@@ -1,4 +1,9 @@
 // Usages of cycle heads.
+use crate::paths::PathKind;
+ghost use mathlib.Core.Path.{_≡_};
+ghost use mathlib.Core.Bool.{_&&_};
+ghost use lib.Dec.{eqb};
+ghost use Rattle.definition.specs.Usages.{addCounter, subtractCounter, counterCovers, atMostOne, noUsages, oneUsage, addUsages, addUsage, addUsagesFromNested, ignoreUsages, usagesCover, isEmpty, isSingle};
 
 // How often a cycle head was used, by the kind of the cycle.
 pub struct HeadUsages {
@@ -6,4 +11,164 @@ pub struct HeadUsages {
     pub unknown: u64,
     pub coinductive: u64,
     pub forced: u64,
+}
+
+// A counter that comes to the limit stays there.
+const LIMIT: u64 = 4294967296;
+
+// The sum of two counters, or the limit; a counter at the limit keeps its value.
+fn add(a: u64, b: u64) -> u64
+    ensures { λ r. ⌜ r ≡ addCounter a b ⌝ }
+{
+    if LIMIT <= a {
+        return a;
+    }
+    if LIMIT - a <= b {
+        return LIMIT;
+    }
+    a + b
+}
+
+// The difference of two counters, 0 where b is larger; a counter at the limit keeps
+// its value.
+fn subtract(a: u64, b: u64) -> u64
+    ensures { λ r. ⌜ r ≡ subtractCounter a b ⌝ }
+{
+    if LIMIT <= a {
+        return a;
+    }
+    if a < b {
+        return 0;
+    }
+    a - b
+}
+
+fn covers(a: u64, b: u64) -> bool
+    ensures { λ r. ⌜ r ≡ counterCovers a b ⌝ }
+{
+    if LIMIT <= a {
+        return true;
+    }
+    b <= a
+}
+
+fn both(a: bool, b: bool) -> bool
+    ensures { λ r. ⌜ r ≡ (a && b) ⌝ }
+{
+    if a {
+        return b;
+    }
+    false
+}
+
+// Whether three counters are 0.
+fn no_usage(a: u64, b: u64, c: u64) -> bool
+    ensures { λ r. ⌜ r ≡ (eqb a 0 && eqb b 0 && eqb c 0) ⌝ }
+{
+    a | b | c == 0
+}
+
+fn at_most_one(n: u64) -> u64
+    ensures { λ r. ⌜ r ≡ atMostOne n ⌝ }
+{
+    if n == 0 { 0 } else { 1 }
+}
+
+impl HeadUsages {
+    pub fn none() -> HeadUsages
+        ensures { λ r. ⌜ r ≡ noUsages ⌝ }
+    {
+        HeadUsages {
+            inductive: 0,
+            unknown: 0,
+            coinductive: 0,
+            forced: 0,
+        }
+    }
+
+    // One usage of a kind.
+    pub fn one(kind: PathKind) -> HeadUsages
+        ensures { λ r. ⌜ r ≡ oneUsage kind ⌝ }
+    {
+        let mut usages = HeadUsages::none();
+        match kind {
+            PathKind::Inductive => usages.inductive = 1,
+            PathKind::Unknown => usages.unknown = 1,
+            PathKind::Coinductive => usages.coinductive = 1,
+            PathKind::ForcedAmbiguity => usages.forced = 1,
+        }
+        usages
+    }
+
+    // One usage more, of a kind.
+    pub fn add_usage(self, kind: PathKind) -> HeadUsages
+        ensures { λ r. ⌜ r ≡ addUsage self kind ⌝ }
+    {
+        self.add_usages(HeadUsages::one(kind))
+    }
+
+    pub fn add_usages(self, other: HeadUsages) -> HeadUsages
+        ensures { λ r. ⌜ r ≡ addUsages self other ⌝ }
+    {
+        HeadUsages {
+            inductive: add(self.inductive, other.inductive),
+            unknown: add(self.unknown, other.unknown),
+            coinductive: add(self.coinductive, other.coinductive),
+            forced: add(self.forced, other.forced),
+        }
+    }
+
+    // The usages of a nested goal: whether it used the head counts, not how often.
+    pub fn add_usages_from_nested(self, nested: HeadUsages) -> HeadUsages
+        ensures { λ r. ⌜ r ≡ addUsagesFromNested self nested ⌝ }
+    {
+        self.add_usages(HeadUsages {
+            inductive: at_most_one(nested.inductive),
+            unknown: at_most_one(nested.unknown),
+            coinductive: at_most_one(nested.coinductive),
+            forced: at_most_one(nested.forced),
+        })
+    }
+
+    pub fn ignore_usages(self, other: HeadUsages) -> HeadUsages
+        ensures { λ r. ⌜ r ≡ ignoreUsages self other ⌝ }
+    {
+        HeadUsages {
+            inductive: subtract(self.inductive, other.inductive),
+            unknown: subtract(self.unknown, other.unknown),
+            coinductive: subtract(self.coinductive, other.coinductive),
+            forced: subtract(self.forced, other.forced),
+        }
+    }
+
+    // Whether `ignore_usages` takes no more away than there is.
+    pub fn covers(self, other: HeadUsages) -> bool
+        ensures { λ r. ⌜ r ≡ usagesCover self other ⌝ }
+    {
+        let forced = covers(self.forced, other.forced);
+        let coinductive = both(covers(self.coinductive, other.coinductive), forced);
+        let unknown = both(covers(self.unknown, other.unknown), coinductive);
+        both(covers(self.inductive, other.inductive), unknown)
+    }
+
+    pub fn is_empty(self) -> bool
+        ensures { λ r. ⌜ r ≡ isEmpty self ⌝ }
+    {
+        both(
+            no_usage(self.inductive, self.unknown, self.coinductive),
+            self.forced == 0,
+        )
+    }
+
+    // Whether every usage is of one kind.
+    pub fn is_single(self, kind: PathKind) -> bool
+        ensures { λ r. ⌜ r ≡ isSingle self kind ⌝ }
+    {
+        match kind {
+            PathKind::Inductive => no_usage(self.unknown, self.coinductive, self.forced),
+            PathKind::Unknown => no_usage(self.inductive, self.coinductive, self.forced),
+            PathKind::Coinductive => no_usage(self.inductive, self.unknown, self.forced),
+            PathKind::ForcedAmbiguity => no_usage(self.inductive, self.unknown, self.coinductive),
+        }
+    }
 }

@@ -1,0 +1,5 @@
+pub mod Loops
+pub mod Numbers
+pub mod Regions
+pub mod Sized
+pub mod Tables

@@ -1,0 +1,24 @@
+-- Facts on small numbers.
+use mathlib.Core.Path.{_≡_, refl, sym, ap₂, _∙_}
+use mathlib.Core.Bool.{true, false}
+use Prim.Native.Nat.{ℕ, zero, suc, _≤_, _<_}
+use lib.Dec.{leb}
+use borrow.Author.Tests.{le-leb, lt-leb}
+
+-- what holds from 3 on holds of a number that is not 0, 1 or 2
+pub from-three : (P : ℕ → Type 0) → ((n : ℕ) → P (suc (suc (suc n)))) → (n : ℕ) → (n ≡ 0 → ⊥) → (n ≡ 1 → ⊥) → (n ≡ 2 → ⊥) → P n
+from-three P h zero not0 not1 not2 = absurd (not0 refl)
+from-three P h (suc zero) not0 not1 not2 = absurd (not1 refl)
+from-three P h (suc (suc zero)) not0 not1 not2 = absurd (not2 refl)
+from-three P h (suc (suc (suc n))) not0 not1 not2 = h n
+
+-- the later of two things by their numbers m and n
+module _ {A : Type 0} (number : A → ℕ) (a b : A) (m n : ℕ) (is-m : m ≡ number a) (is-n : n ≡ number b) where
+  same-test : leb (number a) (number b) ≡ leb m n
+  same-test = ap₂ leb (sym is-m) (sym is-n)
+
+  pub later-second : m ≤ n → b ≡ elim (leb (number a) (number b)) [ true ↦ b | false ↦ a ]
+  later-second h = rw (same-test ∙ le-leb m n h)
+
+  pub later-first : n < m → a ≡ elim (leb (number a) (number b)) [ true ↦ b | false ↦ a ]
+  later-first h = rw (same-test ∙ lt-leb m n h)

@@ -1,0 +1,33 @@
+use mathlib.Core.Path.{_≡_, refl, sym, ap, ap₂, _∙_}
+use mathlib.Core.List.{List, _++_}
+use mathlib.Core.Bool.{Bool, true, false}
+use Prim.Native.Nat.{ℕ, _+_, _*_, _-_, _^_, _<_, _≤_}
+use lib.ListN.{take, replicate}
+use Rattle.bits.specs.Masks.{flags}
+use Rattle.layout.proofs.Present.{present-mask}
+use borrow.Author.Needs.{needs}
+use Rattle.layout.proofs.heads.mask.Statement.{statement}
+use Rattle.layout.proofs.heads.mask.Tie as tie
+use Rattle.layout.proofs.heads.mask.Reads as reads
+use Rattle.layout.proofs.heads.mask.Lts as lts
+use Rattle.bits.proofs.below.Reads as below-reads
+use Rattle.buffer.proofs.read_u64.Reads as read-u64-reads
+
+-- src/heads.rt:21:17
+read-u64-requires : tie.Need-read-u64-requires
+read-u64-requires c κs = search needs
+
+-- src/heads.rt:21:5
+below-requires : tie.Need-below-requires
+below-requires c κs = search needs
+
+-- src/heads.rt:17:1
+returns : tie.Need-returns
+returns c =
+    let s = c .before .before .before in
+    c .below .ensures
+    ∙ ap (λ (m : ℕ). take (s .args .goals) (flags 64 m) ++ replicate (64 - s .args .goals) false) (c .before .read-u64 .ensures)
+    ∙ ap (λ (l : List Bool). l ++ replicate (64 - s .args .goals) false) (present-mask (s .args .goals) (s .args .b .now) (s .pre .few))
+
+pub mask-spec : {M : Type 1} → statement M
+mask-spec = tie.close (tie.spec read-u64-requires below-requires returns)

@@ -1,0 +1,4 @@
+pub mod Blocks
+pub mod Frame
+pub mod Entry
+pub mod Work

@@ -1,0 +1,41 @@
+// A block of usages: those of a candidate, or merged ones.
+use crate::records;
+use definition::usages::HeadUsages;
+ghost use mathlib.Core.Path.{_≡_};
+ghost use Prim.Native.Nat.{ℕ, _<_, _≤_};
+ghost use lib.ListN.{length, getD, set};
+ghost use Rattle.definition.specs.Usages.{noUsages};
+ghost use Rattle.definition.specs.Candidates.{noCandidateUsages};
+ghost use Rattle.layout.specs.Blocks.{UsagesBlock, candidateOf};
+
+pub fn clear(b: &mut [u8], goals: usize)
+    requires { ⌜ UsagesBlock goals (now b) ⌝ }
+    ensures { λ _. ⌜ candidateOf goals (now (b .exit)) ≡ noCandidateUsages goals ⌝ }
+{
+    buffer::write_u64(b, 0, 0);
+}
+
+// The usages of index i.
+pub fn usages(b: &[u8], goals: usize, i: usize) -> HeadUsages
+    requires { ⌜ UsagesBlock goals (now b) × (i < goals) ⌝ }
+    ensures { λ r. ⌜ r ≡ getD (candidateOf goals (now (b .entry))) i noUsages ⌝ }
+{
+    if bits::has(buffer::read_u64(b, 0), i) {
+        let a = 8 + i * 32;
+        let e = a + 32;
+        return records::read_usages(&b[a..e]);
+    }
+    HeadUsages::none()
+}
+
+// The usages of index i become u.
+pub fn put(b: &mut [u8], goals: usize, i: usize, u: HeadUsages)
+    requires { ⌜ UsagesBlock goals (now b) × (i < goals) ⌝ }
+    ensures { λ _. ⌜ candidateOf goals (now (b .exit)) ≡ set (candidateOf goals (now (b .entry))) i u ⌝ }
+{
+    let a = 8 + i * 32;
+    let e = a + 32;
+    records::write_usages(&mut b[a..e], u);
+    let m = buffer::read_u64(b, 0);
+    buffer::write_u64(b, 0, bits::with(m, i));
+}

@@ -1,0 +1,119 @@
+// A block of cycle heads.
+use crate::records;
+use definition::heads::CycleHead;
+use definition::usages::HeadUsages;
+ghost use mathlib.Core.Path.{_≡_};
+ghost use mathlib.Core.Bool.{false};
+ghost use mathlib.Core.List.{_++_};
+ghost use mathlib.Core.Option.{some};
+ghost use Prim.Native.Nat.{ℕ, _+_, _-_, _*_, _<_, _≤_};
+ghost use lib.ListN.{length, getD, set, replicate};
+ghost use Rattle.bits.specs.Masks.{flags};
+ghost use Rattle.buffer.specs.Regions.{region};
+ghost use Rattle.definition.specs.Heads.{noHeads, headsEmpty, highestIndex, usagesAt, pathsAt, removeHead, insertHead};
+ghost use Rattle.layout.specs.Blocks.{HeadsBlock, headOf, headsOf, present};
+
+// The indices that have a head.
+pub fn mask(b: &[u8], goals: usize) -> u64
+    requires { ⌜ HeadsBlock goals (now b) ⌝ }
+    ensures { λ r. ⌜ flags 64 r ≡ present (headsOf goals (now (b .entry))) ++ replicate (64 - goals) false ⌝ }
+{
+    bits::below(buffer::read_u64(b, 0), goals)
+}
+
+pub fn clear(b: &mut [u8], goals: usize)
+    requires { ⌜ HeadsBlock goals (now b) ⌝ }
+    ensures { λ _. ⌜ headsOf goals (now (b .exit)) ≡ noHeads goals ⌝ }
+{
+    buffer::write_u64(b, 0, 0);
+}
+
+// The record of index i; it means something where there is a head.
+pub fn record(b: &[u8], goals: usize, i: usize) -> CycleHead
+    requires { ⌜ HeadsBlock goals (now b) × (i < goals) ⌝ }
+    ensures { λ r. ⌜ r ≡ headOf (region (8 + i * 33) 33 (now (b .entry))) ⌝ }
+{
+    let a = 8 + i * 33;
+    let e = a + 33;
+    records::read_head(&b[a..e])
+}
+
+// The head of index i becomes h.
+pub fn put(b: &mut [u8], goals: usize, i: usize, h: CycleHead)
+    requires { ⌜ HeadsBlock goals (now b) × (i < goals) ⌝ }
+    ensures { λ _. ⌜ headsOf goals (now (b .exit)) ≡ set (headsOf goals (now (b .entry))) i (some h) ⌝ }
+{
+    let a = 8 + i * 33;
+    let e = a + 33;
+    records::write_head(&mut b[a..e], h);
+    let m = buffer::read_u64(b, 0);
+    buffer::write_u64(b, 0, bits::with(m, i));
+}
+
+pub fn remove(b: &mut [u8], goals: usize, i: usize)
+    requires { ⌜ HeadsBlock goals (now b) × (i < goals) ⌝ }
+    ensures { λ _. ⌜ headsOf goals (now (b .exit)) ≡ removeHead (headsOf goals (now (b .entry))) i ⌝ }
+{
+    let m = buffer::read_u64(b, 0);
+    buffer::write_u64(b, 0, bits::without(m, i));
+}
+
+// Does index i have a head?
+pub fn has(b: &[u8], goals: usize, i: usize) -> bool
+    requires { ⌜ HeadsBlock goals (now b) × (i < goals) ⌝ }
+    ensures { λ r. ⌜ r ≡ getD (present (headsOf goals (now (b .entry)))) i false ⌝ }
+{
+    bits::has(buffer::read_u64(b, 0), i)
+}
+
+// CycleHeads::insert
+pub fn insert(b: &mut [u8], goals: usize, i: usize, paths: u8, usages: HeadUsages)
+    requires { ⌜ HeadsBlock goals (now b) × (i < goals) ⌝ }
+    ensures { λ _. ⌜ headsOf goals (now (b .exit)) ≡ insertHead (headsOf goals (now (b .entry))) i paths usages ⌝ }
+{
+    if has(b, goals, i) {
+        let h = record(b, goals, i);
+        put(b, goals, i, h.joined(paths, usages));
+        return;
+    }
+    put(b, goals, i, CycleHead { paths, usages });
+}
+
+// How the head of index i is used; not at all where there is none.
+pub fn usages(b: &[u8], goals: usize, i: usize) -> HeadUsages
+    requires { ⌜ HeadsBlock goals (now b) × (i < goals) ⌝ }
+    ensures { λ r. ⌜ r ≡ usagesAt (headsOf goals (now (b .entry))) i ⌝ }
+{
+    if has(b, goals, i) {
+        let h = record(b, goals, i);
+        return h.usages;
+    }
+    HeadUsages::none()
+}
+
+// The paths to the head of index i; none where there is none.
+pub fn paths(b: &[u8], goals: usize, i: usize) -> u8
+    requires { ⌜ HeadsBlock goals (now b) × (i < goals) ⌝ }
+    ensures { λ r. ⌜ r ≡ pathsAt (headsOf goals (now (b .entry))) i ⌝ }
+{
+    if has(b, goals, i) {
+        let h = record(b, goals, i);
+        return h.paths;
+    }
+    0
+}
+
+// The highest index that has a head, 0 where none has.
+pub fn highest(b: &[u8], goals: usize) -> usize
+    requires { ⌜ HeadsBlock goals (now b) ⌝ }
+    ensures { λ r. ⌜ r ≡ highestIndex (headsOf goals (now (b .entry))) ⌝ }
+{
+    bits::highest(mask(b, goals))
+}
+
+pub fn is_empty(b: &[u8], goals: usize) -> bool
+    requires { ⌜ HeadsBlock goals (now b) ⌝ }
+    ensures { λ r. ⌜ r ≡ headsEmpty (headsOf goals (now (b .entry))) ⌝ }
+{
+    mask(b, goals) == 0
+}
