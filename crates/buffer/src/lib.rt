@@ -1,6 +1,6 @@
 // Bytes in a borrowed buffer.
 ghost use mathlib.Core.Path.{_≡_};
-ghost use Prim.Native.Nat.{_+_, _%_, _<_, _≤_};
+ghost use Prim.Native.Nat.{_+_, _*_, _%_, _<_, _≤_};
 ghost use lib.ListN.{length, getD, set, replicate};
 ghost use Rattle.buffer.specs.Numbers.{numberOf, bytesOf};
 ghost use Rattle.buffer.specs.Regions.{region, overwrite, allZero};
@@ -36,12 +36,20 @@ fn low(x: u64) -> u8
     (x % 256) as u8
 }
 
+// Two bytes as a number.
+fn load_pair(b: &[u8], i: usize) -> u64
+    requires { ⌜ i + 1 < length (now b) ⌝ }
+    ensures { λ r. ⌜ (r ≡ getD (now (b .entry)) i 0 + 256 * getD (now (b .entry)) (i + 1) 0) × (r < 65536) ⌝ }
+{
+    wide(b[i]) + 256 * wide(b[i + 1])
+}
+
 fn load(b: &[u8]) -> u64
     requires { ⌜ length (now b) ≡ 8 ⌝ }
     ensures { λ r. ⌜ r ≡ numberOf (now (b .entry)) ⌝ }
 {
-    let high = wide(b[4]) + 256 * (wide(b[5]) + 256 * (wide(b[6]) + 256 * wide(b[7])));
-    wide(b[0]) + 256 * (wide(b[1]) + 256 * (wide(b[2]) + 256 * (wide(b[3]) + 256 * high)))
+    let high = load_pair(b, 4) + 65536 * load_pair(b, 6);
+    load_pair(b, 0) + 65536 * (load_pair(b, 2) + 65536 * high)
 }
 
 fn store(b: &mut [u8], n: u64)
