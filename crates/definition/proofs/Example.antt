@@ -1,11 +1,11 @@
--- Books written as lines of numbers, queries on them, and what a table of examples proves.
+-- Books written as lines of numbers, queries on them, and what examples prove.
 use Prim.Native.Nat.{ℕ, zero, suc, _+_, _*_, _/_, _%_, _<_}
 use native.Mathlib.Nat.{not-suc-le-zero, le-of-suc-le-suc}
 use mathlib.Core.Path.{_≡_, refl}
 use mathlib.Core.Bool.{Bool, true, false, _&&_}
 use mathlib.Core.List.{List, [], _∷_, _++_}
 use lib.Dec.{eqb, leb, T, eqb→eq}
-use lib.ListN.{length, replicate, getD}
+use lib.ListN.{length, replicate, getD, take}
 use Rattle.definition.specs.Answers.{responseAnswer, responseRefusal}
 use Rattle.definition.specs.Query.{Reply, query, workLength}
 
@@ -25,6 +25,41 @@ line a b c d e = field a ++ (field b ++ (field c ++ (field d ++ (field e ++ (10 
 abbrev pub book : List (List ℕ) → List ℕ
 book [] = []
 book (l ∷ ls) = l ++ book ls
+
+-- n bytes as one number, the first byte lowest
+abbrev pub bytes : ℕ → ℕ → List ℕ
+bytes zero x = []
+bytes (suc n) x = x % 256 ∷ bytes n (x / 256)
+
+-- ---- queries in a row on one book, and the original's replies
+
+-- the workspace is given full of 7; `workSeen` of its bytes are compared afterwards, and must be `workByte`
+pub record Expected : Type 0 where
+  pub goal : ℕ
+  pub depth : ℕ
+  pub workLength : ℕ
+  pub answer : ℕ
+  pub refusal : ℕ
+  pub workByte : ℕ
+  pub workSeen : ℕ
+  pub cache : List ℕ
+
+abbrev pub same : List ℕ → List ℕ → Bool
+same [] [] = true
+same [] (y ∷ ys) = false
+same (x ∷ xs) [] = false
+same (x ∷ xs) (y ∷ ys) = eqb x y && same xs ys
+
+abbrev pub replied : Reply → Expected → Bool
+replied r e =
+    eqb (responseAnswer (r .response)) (e .answer) && eqb (responseRefusal (r .response)) (e .refusal)
+    && same (r .cache) (e .cache) && same (take (e .workSeen) (r .work)) (replicate (e .workSeen) (e .workByte))
+
+-- each query has the cache that the one before left
+abbrev pub agrees : List ℕ → List ℕ → List Expected → Bool
+agrees bs cache [] = true
+agrees bs cache (e ∷ es) =
+    replied (query bs cache (replicate (e .workLength) 7) (e .goal) (e .depth)) e && agrees bs (e .cache) es
 
 -- ---- a query on a cache of zeros: what it must come to
 pub record Example : Type 0 where
