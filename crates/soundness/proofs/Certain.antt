@@ -1,11 +1,12 @@
 -- The certain answers of goals, as operators, and the two sets: what a finished evaluation may rest on.
 use mathlib.Core.Bool.{Bool, false, not, true}
 use mathlib.Core.Path.{_≡_}
+use lib.Dec.{T}
 use lib.ListN.{length}
 use Rattle.definition.specs.Part.{Book, Part}
 use Rattle.soundness.specs.Sets.{Goals, _⊆_, greatest, holds, least, round}
 use Rattle.soundness.proofs.Logic.{contra, nobody, not-mono, outside, swap, twice}
-use Rattle.soundness.proofs.Fixpoints.{greatest-is, greatest-reading, least-is, least-reading, round-beyond, round-mono}
+use Rattle.soundness.proofs.Fixpoints.{greatest-is, greatest-reading, holds-mono, least-is, least-reading, round-beyond, round-mono}
 use Rattle.soundness.proofs.Support.{H, H-nobody, Operator}
 
 -- the part is a certain Yes, where the goals of p are; a certain No, where those of q are
@@ -14,6 +15,12 @@ yesHolds p x = holds false p x
 
 abbrev pub noHolds : Goals → Part → Bool
 noHolds q x = not (holds true (outside q) x)
+
+pub yes-holds-mono : (p q : Goals) → p ⊆ q → (x : Part) → T (yesHolds p x) → T (yesHolds q x)
+yes-holds-mono p q h x = holds-mono false false p q (λ t. t) h x
+
+pub no-holds-mono : (p q : Goals) → p ⊆ q → (x : Part) → T (noHolds p x) → T (noHolds q x)
+no-holds-mono p q h x = not-mono (holds true (outside q) x) (holds true (outside p) x) (holds-mono true true (outside q) (outside p) (λ t. t) (contra p q h) x)
 
 -- the same of a goal's own part
 abbrev pub yesRound : Book → Goals → Goals
@@ -47,7 +54,7 @@ module _ (b : Book) (whole : length (b .parts) ≡ b .header .goals) where
   -- the hard sides: what is supported on no assumption
   pub yes-in-greatest : (reading : Bool) → H YesOf nobody ⊆ greatest b reading
   unfolding YesOf
-  yes-in-greatest false = greatest-is b whole false .hasEvery (H YesOf nobody) (H-nobody YesOf)
+  yes-in-greatest false g t = greatest-is b whole false .hasEvery (H YesOf nobody) (H-nobody YesOf) g t
   yes-in-greatest true g t = greatest-reading b whole g (greatest-is b whole false .hasEvery (H YesOf nobody) (H-nobody YesOf) g t)
 
   no-outside-true : H NoOf nobody ⊆ outside (least b true)
@@ -58,7 +65,7 @@ module _ (b : Book) (whole : length (b .parts) ≡ b .header .goals) where
       (λ k. swap (H NoOf nobody k) (round b true (outside (H NoOf nobody)) k) (H-nobody NoOf k)) g)
 
   pub no-outside-least : (reading : Bool) → H NoOf nobody ⊆ outside (least b reading)
-  no-outside-least true = no-outside-true
+  no-outside-least true g t = no-outside-true g t
   no-outside-least false g t = contra (least b false) (least b true) (least-reading b whole) g (no-outside-true g t)
 
   -- the easy sides

@@ -3,3 +3,13 @@ pub mod Chain
 pub mod Fixpoints
 pub mod Support
 pub mod Certain
+pub mod World
+pub mod Counters
+pub mod Assumed
+pub mod Inv
+pub mod Steps
+pub mod HeadLaws
+pub mod Update
+pub mod Candidates
+pub mod Answers
+pub mod Parts

@@ -83,5 +83,18 @@ swap false b f t = tt
 pub twice : (p : Goals) → p ⊆ outside (outside p)
 twice p g = swap (not (p g)) (p g) (λ t. t)
 
+-- a conjunction fails by either side, a disjunction by both
+pub not-and-left : (a b : Bool) → T (not a) → T (not (a && b))
+not-and-left true b t = absurd t
+not-and-left false b t = tt
+
+pub not-and-right : (a b : Bool) → T (not b) → T (not (a && b))
+not-and-right true b t = t
+not-and-right false b t = tt
+
+pub not-or : (a b : Bool) → T (not a) → T (not b) → T (not (a || b))
+not-or true b s t = absurd s
+not-or false b s t = t
+
 -- for `search`: what is in one of two sets is in their union
 pub ruleset inside = (or-left, or-right)
