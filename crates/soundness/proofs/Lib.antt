@@ -13,3 +13,8 @@ pub mod Update
 pub mod Candidates
 pub mod Answers
 pub mod Parts
+pub mod Settle
+pub mod Rebase
+pub mod Runs
+pub mod Lookups
+pub mod Slots

@@ -23,7 +23,7 @@ use Rattle.soundness.specs.Sets.{Goals, _⊆_, everyHolds, holds, someHo
 use Rattle.soundness.proofs.Logic.{both, not-and-left, not-and-right, not-or, of-true, or-left, or-right, outside, twice}
 use Rattle.soundness.proofs.Support.{step}
 use Rattle.soundness.proofs.Certain.{no-holds-mono, noHolds, yes-holds-mono, yesHolds}
-use Rattle.soundness.proofs.World.{AllCalls, CallOk, Calls, Right, World}
+use Rattle.soundness.proofs.World.{AllCalls, CallOk, Calls, Right, RightOf, World}
 use Rattle.soundness.proofs.Counters.{Reads, counter, nothing, plus}
 use Rattle.soundness.proofs.Assumed.{A, A-mono, Base, Within}
 use Rattle.soundness.proofs.Inv.{After, Inv, Step}
@@ -38,6 +38,10 @@ Claims W xs goal d a = T (W .claim a (A (W .start) xs d) goal)
 -- an answer is right of a part, on what reads assume
 abbrev pub RightAt : World → List Base → Part → Reads → Answer → Type 0
 RightAt W xs p d = Right (W .claim Yes (A (W .start) xs d)) (W .claim No (A (W .start) xs d)) p
+
+-- and of a goal's own part
+abbrev pub RightGoal : World → List Base → ℕ → Reads → Answer → Type 0
+RightGoal W xs goal d = RightOf (W .book) (W .claim Yes (A (W .start) xs d)) (W .claim No (A (W .start) xs d)) goal
 
 abbrev pub EvalOk : World → List Base → Evaluator → Type 0
 EvalOk W xs evaluate =
