@@ -33,7 +33,7 @@ pub no-round-mono : (b : Book) (p q : Goals) → p ⊆ q → noRound b p ⊆ noR
 no-round-mono b p q h = contra (round b true (outside q)) (round b true (outside p)) (round-mono b true true (outside q) (outside p) (λ t. t) (contra p q h))
 
 module _ (b : Book) (whole : length (b .parts) ≡ b .header .goals) where
-  pub YesOf : Operator
+  unfoldable pub YesOf : Operator
   YesOf =
       record {
         act = yesRound b;
@@ -42,7 +42,7 @@ module _ (b : Book) (whole : length (b .parts) ≡ b .header .goals) where
         still = round-beyond b whole false;
       }
 
-  pub NoOf : Operator
+  unfoldable pub NoOf : Operator
   NoOf =
       record {
         act = noRound b;

@@ -81,7 +81,6 @@ module _ (b : Book) (whole : length (b .parts) ≡ b .header .goals) (u : Bool) 
       inside-all : round b u (allGoals b) ⊆ allGoals b
       inside-all g t = lt→ltb g (b .header .goals) (round-inside (allGoals b) g t)
 
-
       beyond-all : (g : ℕ) → b .header .goals ≤ g → T (allGoals b g) → T (round b u (allGoals b) g)
       beyond-all g l t = absurd (omega (arith, ltb→lt g (b .header .goals) t))
 

@@ -2,7 +2,7 @@
 use mathlib.Core.List.{List, [], _∷_}
 use mathlib.Core.Logic.{_≢_, inl, inr}
 use mathlib.Core.Option.{Option, none, some}
-use mathlib.Core.Path.{_≡_}
+use mathlib.Core.Path.{_∙_, _≡_, ap, refl, sym}
 use Prim.Native.Nat.{_+_, _<_, _≤_, min, ℕ}
 use native.Mathlib.Omega.{arith}
 use lib.Dec.{T}
@@ -16,7 +16,7 @@ use Rattle.definition.specs.Usages.{counterLimit, noUsages}
 use Rattle.definition.specs.declared.answers.Answer.{Answer}
 use Rattle.definition.specs.declared.paths.PathKind.{PathKind}
 use Rattle.definition.specs.declared.usages.HeadUsages.{HeadUsages}
-use Rattle.soundness.specs.Always.{Apart, CacheInOrder, EntryInOrder, Every, Expected, FramesInOrder, HasHead, IsHead, Known}
+use Rattle.soundness.specs.Always.{Apart, CacheInOrder, EntryInOrder, Every, Expected, FramesInOrder, HasHead, IsHead, Known, goalsOf}
 use Rattle.soundness.proofs.Logic.{nobody}
 use Rattle.soundness.proofs.World.{World}
 use Rattle.soundness.proofs.Counters.{Reads, counter}
@@ -34,6 +34,13 @@ known-bound (f ∷ fs) i (inr (inr l)) = omega (arith, known-bound fs i l)
 abbrev pub goalsIn : List Base → List ℕ
 goalsIn [] = []
 goalsIn (x ∷ xs) = x .goal ∷ goalsIn xs
+
+goals-bases : (s : Stack) → goalsIn (basesOf s) ≡ goalsOf s
+goals-bases [] = refl
+goals-bases (f ∷ fs) = ap (λ (l : List ℕ). f .input ∷ l) (goals-bases fs)
+
+pub goals-here : (s : Stack) (xs : List Base) → basesOf s ≡ xs → goalsIn xs ≡ goalsOf s
+goals-here s xs e = ap goalsIn (sym e) ∙ goals-bases s
 
 -- ---- the parts of the invariant
 

@@ -18,3 +18,9 @@ pub mod Rebase
 pub mod Runs
 pub mod Lookups
 pub mod Slots
+pub mod Pigeons
+pub mod Evaluate
+pub mod Reading
+pub mod Books
+pub mod Queries
+pub mod Theorems

@@ -5,7 +5,7 @@ use mathlib.Core.Logic.{_≢_}
 use mathlib.Core.Path.{_≡_}
 use Prim.Native.Nat.{_<_, ℕ}
 use lib.Dec.{T}
-use lib.ListN.{length}
+use lib.ListN.{length, set}
 use Rattle.definition.specs.Answers.{initialProvisionalResult, isAmbiguous}
 use Rattle.definition.specs.Part.{Book, Call, End, Node, Part, Parts, Then, UndecidedLine}
 use Rattle.definition.specs.Paths.{extend}
@@ -52,8 +52,6 @@ pub record BookOk (allowed : PathKind → Bool) (b : Book) : Type 0 where
 
 pub record World : Type 0 where
   pub book : Book
-  -- the sets for the two readings of undecided lines
-  pub set : Bool → Goals
   -- the hard answer of each goal: the one from which a cycle starts, and that may be assumed
   pub start : ℕ → Answer
   -- the kinds of the book's steps
@@ -74,6 +72,8 @@ pub record World : Type 0 where
   pub head : (A : Goals) (g : ℕ) → RightOf book (claim Yes (union A (single g))) (claim No (union A (single g))) g (start g) → T (claim (start g) A g)
   -- an answer that rests on a head is moved over to what the head rests on
   pub rebase : (a : Answer) (A B : Goals) (g : ℕ) → T (claim (start g) A g) → claim a (union B (single g)) ⊆ claim a (union A B)
-  -- on no assumption
-  pub yes-right : (reading : Bool) → claim Yes nobody ⊆ set reading
-  pub no-right : (reading : Bool) → claim No nobody ⊆ outside (set reading)
+
+-- what is claimed on no assumption is right of a set, under both readings of undecided lines
+pub record Judges (W : World) (set : Bool → Goals) : Type 0 where
+  pub yes-right : (reading : Bool) → W .claim Yes nobody ⊆ set reading
+  pub no-right : (reading : Bool) → W .claim No nobody ⊆ outside (set reading)

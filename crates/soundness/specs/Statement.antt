@@ -38,10 +38,13 @@ AllRight set bytes cache [] = Unit {0}
 AllRight set bytes cache (q ∷ qs) =
     RightReply set (q .goal) (replyTo bytes cache q) × AllRight set bytes (replyTo bytes cache q .cache) qs
 
+abbrev pub EveryLine : (Line → Type 0) → List Line → Type 0
+EveryLine P [] = Unit {0}
+EveryLine P (l ∷ ls) = P l × EveryLine P ls
+
 -- a step is a call line. Every line of the book counts, reached or not; the root's own step is no line
 abbrev pub NoStep : PathKind → List Line → Type 0
-NoStep kind [] = Unit {0}
-NoStep kind (l ∷ ls) = (l .code ≡ 2 → l .second ≢ kindNumber kind) × NoStep kind ls
+NoStep kind = EveryLine (λ l. l .code ≡ 2 → l .second ≢ kindNumber kind)
 
 -- in an accepted book without steps of one kind, from a cache of n zeros, every Yes and every No is right of `set`
 abbrev pub RightWithout : PathKind → (Book → Bool → Goals) → Type 0
