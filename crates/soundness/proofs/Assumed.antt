@@ -14,6 +14,7 @@ use Rattle.definition.specs.declared.paths.PathKind.{PathKind}
 use Rattle.definition.specs.declared.paths.PathKind.the-variants.{Coinductive, ForcedAmbiguity, Inductive, Unknown}
 use Rattle.soundness.specs.Sets.{Goals, _⊆_}
 use Rattle.soundness.proofs.Logic.{and-left, and-right, both, nobody, or-cases, or-left, or-right, single, union}
+use Rattle.soundness.proofs.World.{World}
 use Rattle.soundness.proofs.Counters.{Reads}
 
 -- what of a frame stays while it is on the stack (but for a rerun's provisional result)
@@ -74,44 +75,44 @@ assumes-none start (some w) u h t = unused u h (and-right (sameAnswer w start) (
 assumes-none start none u h t = omega (arith, ltb→lt 0 (u (initialKind start)) t, h (initialKind start))
 
 -- the goals assumed by reads d of the heads on the stack
-abbrev pub own : (ℕ → Answer) → Base → (PathKind → ℕ) → Goals
-own start x u g = eqb g (x .goal) && assumes (start (x .goal)) (x .provisional) u
+abbrev pub own : World → Base → (PathKind → ℕ) → Goals
+own W x u g = eqb g (x .goal) && assumes (W .start (x .goal)) (x .provisional) u
 
-abbrev pub A : (ℕ → Answer) → List Base → Reads → Goals
-A start [] d = nobody
-A start (x ∷ xs) d = union (own start x (d (length xs))) (A start xs d)
+abbrev pub A : World → List Base → Reads → Goals
+A W [] d = nobody
+A W (x ∷ xs) d = union (own W x (d (length xs))) (A W xs d)
 
 -- the reads of d are reads of e
 abbrev pub Within : ℕ → Reads → Reads → Type 0
 Within n d e = (i : ℕ) (k : PathKind) → i < n → 0 < d i k → 0 < e i k
 
-pub own-mono : (start : ℕ → Answer) (x : Base) (u v : PathKind → ℕ) → ((k : PathKind) → 0 < u k → 0 < v k) → own start x u ⊆ own start x v
-own-mono start x u v h g t =
-    both (eqb g (x .goal)) (assumes (start (x .goal)) (x .provisional) v) (and-left (eqb g (x .goal)) (assumes (start (x .goal)) (x .provisional) u) t)
-    (assumes-mono (start (x .goal)) (x .provisional) u v h (and-right (eqb g (x .goal)) (assumes (start (x .goal)) (x .provisional) u) t))
+pub own-mono : (W : World) (x : Base) (u v : PathKind → ℕ) → ((k : PathKind) → 0 < u k → 0 < v k) → own W x u ⊆ own W x v
+own-mono W x u v h g t =
+    both (eqb g (x .goal)) (assumes (W .start (x .goal)) (x .provisional) v) (and-left (eqb g (x .goal)) (assumes (W .start (x .goal)) (x .provisional) u) t)
+    (assumes-mono (W .start (x .goal)) (x .provisional) u v h (and-right (eqb g (x .goal)) (assumes (W .start (x .goal)) (x .provisional) u) t))
 
-pub A-mono : (start : ℕ → Answer) (xs : List Base) (d e : Reads) → Within (length xs) d e → A start xs d ⊆ A start xs e
-A-mono start [] d e h g t = t
-A-mono start (x ∷ xs) d e h g t =
-    or-mono (own start x (d (length xs)) g) (A start xs d g) (own start x (e (length xs)) g) (A start xs e g)
-    (own-mono start x (d (length xs)) (e (length xs)) (λ k. h (length xs) k (omega arith)) g)
-    (A-mono start xs d e (λ i k l. h i k (omega arith)) g) t
+pub A-mono : (W : World) (xs : List Base) (d e : Reads) → Within (length xs) d e → A W xs d ⊆ A W xs e
+A-mono W [] d e h g t = t
+A-mono W (x ∷ xs) d e h g t =
+    or-mono (own W x (d (length xs)) g) (A W xs d g) (own W x (e (length xs)) g) (A W xs e g)
+    (own-mono W x (d (length xs)) (e (length xs)) (λ k. h (length xs) k (omega arith)) g)
+    (A-mono W xs d e (λ i k l. h i k (omega arith)) g) t
 
-pub A-under : (start : ℕ → Answer) (x : Base) (xs : List Base) (d : Reads) → A start xs d ⊆ A start (x ∷ xs) d
-A-under start x xs d g t = or-right (own start x (d (length xs)) g) (A start xs d g) t
+pub A-under : (W : World) (x : Base) (xs : List Base) (d : Reads) → A W xs d ⊆ A W (x ∷ xs) d
+A-under W x xs d g t = or-right (own W x (d (length xs)) g) (A W xs d g) t
 
-pub A-over : (start : ℕ → Answer) (x : Base) (xs : List Base) (d : Reads) → A start (x ∷ xs) d ⊆ union (A start xs d) (single (x .goal))
-A-over start x xs d g =
-    or-cases (own start x (d (length xs)) g) (A start xs d g)
-    (λ t. or-right (A start xs d g) (eqb g (x .goal)) (and-left (eqb g (x .goal)) (assumes (start (x .goal)) (x .provisional) (d (length xs))) t))
-    (λ t. or-left (A start xs d g) (eqb g (x .goal)) t)
+pub A-over : (W : World) (x : Base) (xs : List Base) (d : Reads) → A W (x ∷ xs) d ⊆ union (A W xs d) (single (x .goal))
+A-over W x xs d g =
+    or-cases (own W x (d (length xs)) g) (A W xs d g)
+    (λ t. or-right (A W xs d g) (eqb g (x .goal)) (and-left (eqb g (x .goal)) (assumes (W .start (x .goal)) (x .provisional) (d (length xs))) t))
+    (λ t. or-left (A W xs d g) (eqb g (x .goal)) t)
 
-pub A-skip : (start : ℕ → Answer) (x : Base) (xs : List Base) (d : Reads) → (T (assumes (start (x .goal)) (x .provisional) (d (length xs))) → ⊥) → A start (x ∷ xs) d ⊆ A start xs d
-A-skip start x xs d h g =
-    or-cases (own start x (d (length xs)) g) (A start xs d g)
-    (λ t. absurd (h (and-right (eqb g (x .goal)) (assumes (start (x .goal)) (x .provisional) (d (length xs))) t)))
+pub A-skip : (W : World) (x : Base) (xs : List Base) (d : Reads) → (T (assumes (W .start (x .goal)) (x .provisional) (d (length xs))) → ⊥) → A W (x ∷ xs) d ⊆ A W xs d
+A-skip W x xs d h g =
+    or-cases (own W x (d (length xs)) g) (A W xs d g)
+    (λ t. absurd (h (and-right (eqb g (x .goal)) (assumes (W .start (x .goal)) (x .provisional) (d (length xs))) t)))
     (λ t. t)
 
-pub A-none : (start : ℕ → Answer) (xs : List Base) (d : Reads) → ((i : ℕ) (k : PathKind) → d i k ≡ 0) → A start xs d ⊆ nobody
-A-none start [] d h g t = t
-A-none start (x ∷ xs) d h g t = A-none start xs d h g (A-skip start x xs d (assumes-none (start (x .goal)) (x .provisional) (d (length xs)) (h (length xs))) g t)
+pub A-none : (W : World) (xs : List Base) (d : Reads) → ((i : ℕ) (k : PathKind) → d i k ≡ 0) → A W xs d ⊆ nobody
+A-none W [] d h g t = t
+A-none W (x ∷ xs) d h g t = A-none W xs d h g (A-skip W x xs d (assumes-none (W .start (x .goal)) (x .provisional) (d (length xs)) (h (length xs))) g t)

@@ -35,7 +35,7 @@ use Rattle.soundness.proofs.HeadLaws.{absent-nil, absent-noHeads, highe
 use Rattle.soundness.proofs.Update.{childReads, update-gains, update-inv, update-known}
 use Rattle.soundness.proofs.Candidates.{overflow-step}
 use Rattle.soundness.proofs.Parts.{Claims, EvalOk, RightAt, RightGoal, part-ok}
-use Rattle.soundness.proofs.Runs.{ComputeOk, Finished, TaskAfter, task-ok}
+use Rattle.soundness.proofs.Runs.{ComputesGoal, Finished, TaskAfter, task-ok}
 use Rattle.soundness.proofs.Lookups.{Found, below, cycle-or, depth-ok, find-at, global-found, provisional-found}
 use Rattle.soundness.proofs.Slots.{Kept, insert-ok}
 use Rattle.soundness.proofs.Pigeons.{full-stack}
@@ -74,7 +74,7 @@ module _ (W : World) (xs : List Base) (bases : BasesOk W xs) (g₀ : Graph) (v :
   small′ = omega (arith, length-bases (g₀ .stack), ap length (v .here))
 
   -- ---- after the frame was popped
-  module _ (g : Graph) (r : EvaluationResult) (w : Finished W xs (g₀ .stack) goal available (v .here) small′ (v .frames) g r) where
+  module _ (g : Graph) (r : EvaluationResult) (w : Finished W xs (g₀ .stack) goal available g r) where
     abbrev s′ : Stack
     s′ = updateParentGoal (g .stack) step (r .heads) (r .encounteredOverflow) (Ordinary (r .nestedGoals)) (available - r .requiredDepth)
 
@@ -102,14 +102,14 @@ module _ (W : World) (xs : List Base) (bases : BasesOk W xs) (g₀ : Graph) (v :
         (λ i. Known (g₀ .stack) i ⊎ HasHead (r .heads) i) g (w .inv) small″ live
 
     claimed : Claims W xs goal (childReads (r .heads)) (r .result)
-    claimed = W .mono (r .result) (A (W .start) xs (readsOf (r .heads))) (A (W .start) xs (childReads (r .heads)))
-        (A-mono (W .start) xs (readsOf (r .heads)) (childReads (r .heads)) (λ i k l h. omega arith)) goal (w .claims)
+    claimed = W .mono (r .result) (A W xs (readsOf (r .heads))) (A W xs (childReads (r .heads)))
+        (A-mono W xs (readsOf (r .heads)) (childReads (r .heads)) (λ i k l h. omega arith)) goal (w .claims)
 
     -- into the notebook
     outright : headsEmpty (r .heads) ≡ true → T (W .claim (r .result) nobody goal)
     outright e =
-        W .mono (r .result) (A (W .start) xs (readsOf (r .heads))) nobody
-        (A-none (W .start) xs (readsOf (r .heads)) (λ i k. zeros i (present-or (r .heads) i _ refl) k)) goal (w .claims)
+        W .mono (r .result) (A W xs (readsOf (r .heads))) nobody
+        (A-none W xs (readsOf (r .heads)) (λ i k. zeros i (present-or (r .heads) i _ refl) k)) goal (w .claims)
       where
         zeros : (i : ℕ) → HasHead (r .heads) i ⊎ ((k : PathKind) → readsOf (r .heads) i k ≡ 0) → (k : PathKind) → readsOf (r .heads) i k ≡ 0
         zeros i (inl p) = absurd (no-highest (r .heads) (empty-none (optHighestIndex (r .heads)) e) i p)
@@ -147,7 +147,7 @@ module _ (W : World) (xs : List Base) (bases : BasesOk W xs) (g₀ : Graph) (v :
     kept true false e = entered (leb (2 * W .book .header .goals) (length (g .provisionalCache))) e
     kept false false e = (childReads (r .heads), record { gain = gain; inv = told }, claimed)
 
-  after-task : (t : TaskOutcome) → TaskAfter W xs (g₀ .stack) goal available (v .here) small′ (v .frames) t → After W xs g₀ (Claims W xs goal) (afterTask (W .book .header) goal step available t)
+  after-task : (t : TaskOutcome) → TaskAfter W xs (g₀ .stack) goal available t → After W xs g₀ (Claims W xs goal) (afterTask (W .book .header) goal step available t)
   after-task (Evaluated g r) w = kept g r w (W .book .header .provisional) (headsEmpty (r .heads)) refl
   after-task (TaskStopped r) w = w
 
@@ -162,7 +162,7 @@ module _ (W : World) (xs : List Base) (bases : BasesOk W xs) (g₀ : Graph) (v :
   under-new : (e : Entry) → EntryOk W xs (Known (g₀ .stack)) e → EntryOk W (baseOf new ∷ xs) (Known (new ∷ g₀ .stack)) e
   under-new e u =
       record {
-        claims = W .mono (e .result) (A (W .start) xs (readsOf (e .heads))) (A (W .start) (baseOf new ∷ xs) (readsOf (e .heads))) (A-under (W .start) (baseOf new) xs (readsOf (e .heads))) (e .input) (u .claims);
+        claims = W .mono (e .result) (A W xs (readsOf (e .heads))) (A W (baseOf new ∷ xs) (readsOf (e .heads))) (A-under W (baseOf new) xs (readsOf (e .heads))) (e .input) (u .claims);
         order = record { heads = u .order .heads; known = λ i p. inr (inr (u .order .known i p)); notEmpty = u .order .notEmpty };
       }
 
@@ -187,11 +187,13 @@ module _ (W : World) (xs : List Base) (bases : BasesOk W xs) (g₀ : Graph) (v :
         cache = v .cache;
       }
 
-  module _ (compute : ℕ → Graph → Outcome) (ok : ComputeOk W xs (g₀ .stack) goal available (v .here) small′ (v .frames) (compute goal)) where
+  module _ (compute : ℕ → Graph → Outcome) (ok : ComputesGoal W xs compute) where
+    pub frame-ok : Apart goal (goalsOf (g₀ .stack)) → (left : ℕ) → TaskAfter W xs (g₀ .stack) goal available (evaluateGoalInTask (compute goal) left false (withStack g₀ (new ∷ g₀ .stack)))
+    frame-ok apart left =
+        task-ok W xs (g₀ .stack) goal available (v .here) small′ (v .frames) compute ok left false (baseOf new) new (withStack g₀ (new ∷ g₀ .stack)) refl refl (new-bases apart) refl new-inv
+
     pushed-ok : Apart goal (goalsOf (g₀ .stack)) → After W xs g₀ (Claims W xs goal) (evaluateNewFrame (W .book .header) compute g₀ goal step available)
-    pushed-ok apart =
-        after-task (evaluateGoalInTask (compute goal) (pred (W .book .header .limit)) false (withStack g₀ (new ∷ g₀ .stack)))
-        (task-ok W xs (g₀ .stack) goal available (v .here) small′ (v .frames) (compute goal) ok (pred (W .book .header .limit)) false (baseOf new) new (withStack g₀ (new ∷ g₀ .stack)) refl refl (new-bases apart) refl new-inv)
+    pushed-ok apart = after-task (evaluateGoalInTask (compute goal) (pred (W .book .header .limit)) false (withStack g₀ (new ∷ g₀ .stack))) (frame-ok apart (pred (W .book .header .limit)))
 
     or-ok : (o : Option Outcome) (next : Outcome) → Found W xs g₀ v small goal o → After W xs g₀ (Claims W xs goal) next → After W xs g₀ (Claims W xs goal) (unlessFound o next)
     or-ok none next f k = k
@@ -225,17 +227,12 @@ top-goal : (h : Header) (s : Stack) (x : Base) (xs : List Base) → basesOf s �
 top-goal h [] x xs e v = let z : _≡_ {A = ℕ} 0 1 = cc in absurd (omega arith)
 top-goal h (f ∷ fs) x xs e v = let z : baseOf f ≡ x = cc in subst (λ (y : Base). y .goal < h .goals) z (v .0 .goal)
 
--- what `computeGoal` promises, over the slots xs
-abbrev pub ComputesGoal : World → List Base → (ℕ → Graph → Outcome) → Type 0
-ComputesGoal W xs compute =
-    (x : Base) → BasesOk W (x ∷ xs) → (g : Graph) → Inv W (x ∷ xs) (Known (g .stack)) g → After W (x ∷ xs) g (RightGoal W (x ∷ xs) (x .goal)) (compute (x .goal) g)
-
 module _ (W : World) (xs : List Base) (evaluate : Evaluator) (ok : EvalOk W xs evaluate) (g : Graph) (v : Inv W xs (Known (g .stack)) g) (goal : ℕ) (inside : goal < W .book .header .goals) where
   own-part : (p : Part) → partAt (W .book .parts) goal ≡ some p → (d : Reads) (a : Answer) → RightAt W xs p d a → RightGoal W xs goal d a
   own-part p e d a r =
       record {
-        whenYes = λ z. subst (λ (o : Option Part). T (elim o [ none ↦ false | some x ↦ holds false (W .claim Yes (A (W .start) xs d)) x ])) (sym e) (r .whenYes z);
-        whenNo = λ z. subst (λ (o : Option Part). T (not (elim o [ none ↦ false | some x ↦ holds true (outside (W .claim No (A (W .start) xs d))) x ]))) (sym e) (r .whenNo z);
+        whenYes = λ z. subst (λ (o : Option Part). T (elim o [ none ↦ false | some x ↦ holds false (W .claim Yes (A W xs d)) x ])) (sym e) (r .whenYes z);
+        whenNo = λ z. subst (λ (o : Option Part). T (not (elim o [ none ↦ false | some x ↦ holds true (outside (W .claim No (A W xs d))) x ]))) (sym e) (r .whenNo z);
       }
 
   compute-by : (o : Option Part) → partAt (W .book .parts) goal ≡ o
@@ -245,7 +242,7 @@ module _ (W : World) (xs : List Base) (evaluate : Evaluator) (ok : EvalOk W xs e
       after-map W xs g (RightAt W xs p) (RightGoal W xs goal) (own-part p e) (evalPart evaluate (W .book .header .goals) p g)
       (part-ok W xs evaluate ok p (part-is (Calls (CallOk (W .allowed) (W .book .header .goals))) (W .book .parts) (W .read .calls) goal p e) g v)
 
-compute-ok : (W : World) (xs : List Base) (evaluate : Evaluator) → ((x : Base) → BasesOk W (x ∷ xs) → EvalOk W (x ∷ xs) evaluate) → ComputesGoal W xs (computeGoal evaluate (W .book))
+pub compute-ok : (W : World) (xs : List Base) (evaluate : Evaluator) → ((x : Base) → BasesOk W (x ∷ xs) → EvalOk W (x ∷ xs) evaluate) → ComputesGoal W xs (computeGoal evaluate (W .book))
 compute-ok W xs evaluate ok x s g v =
     compute-by W (x ∷ xs) evaluate (ok x s) g v (x .goal) (top-goal (W .book .header) (g .stack) x xs (v .here) (v .frames)) (partAt (W .book .parts) (x .goal)) refl
 
@@ -268,11 +265,10 @@ module _ (W : World) (xs : List Base) (bases : BasesOk W xs) (small : length xs 
   from-depth : (g : Graph) (v : Inv W xs (Known (g .stack)) g) (goal : ℕ) → goal < W .book .header .goals → (step : PathKind) (lower : Bool) → (0 < length xs → T (W .allowed step))
       → (o : Option ℕ) → allowedDepthForNested (W .book .header) (g .rootDepth) (g .stack) lower ≡ o
       → After W xs g (Claims W xs goal) (elim o [ none ↦ Done (withStack g (handleOverflow (g .stack))) Overflow | some available ↦ evaluateAtDepth (W .book .header) compute g goal step available ])
-  from-depth g v goal l step lower call none e = (nothing, overflow-step W xs g v, W .ambiguous Overflow tt (A (W .start) xs nothing) goal)
+  from-depth g v goal l step lower call none e = (nothing, overflow-step W xs g v, W .ambiguous Overflow tt (A W xs nothing) goal)
   from-depth g v goal l step lower call (some available) e =
       at-depth W xs bases g v (omega (arith, length-bases (g .stack), ap length (v .here))) goal l step available
-      (depth-ok (W .book .header) (g .rootDepth) (g .stack) (v .root) (v .frames) lower available e) call compute
-      (λ x i j s h w. rw (← i) (ok x s h w))
+      (depth-ok (W .book .header) (g .rootDepth) (g .stack) (v .root) (v .frames) lower available e) call compute ok
 
   with-ok : EvalOk W xs (evaluateGoalWith (W .book .header) compute)
   with-ok g goal step lower v l call = from-depth g v goal l step lower call (allowedDepthForNested (W .book .header) (g .rootDepth) (g .stack) lower) refl

@@ -56,7 +56,7 @@ BasesOk W (x ∷ xs) = BaseOk W xs x × BasesOk W xs
 
 pub record EntryOk (W : World) (xs : List Base) (L : ℕ → Type 0) (e : Entry) : Type 0 where
   pub order : EntryInOrder (W .book .header) L e
-  pub claims : T (W .claim (e .result) (A (W .start) xs (readsOf (e .heads))) (e .input))
+  pub claims : T (W .claim (e .result) (A W xs (readsOf (e .heads))) (e .input))
 
 pub record CacheOk (W : World) (cache : List ℕ) : Type 0 where
   pub order : CacheInOrder (W .book .header) cache

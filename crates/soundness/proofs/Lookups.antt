@@ -3,7 +3,7 @@ use mathlib.Core.Bool.{Bool, _&&_, false, true}
 use mathlib.Core.List.{List, [], _∷_}
 use mathlib.Core.Logic.{_≢_}
 use mathlib.Core.Option.{Option, none, some}
-use mathlib.Core.Path.{_≡_, ap, refl}
+use mathlib.Core.Path.{_≡_, ap, refl, subst₂, sym}
 use Prim.Native.Nat.{_+_, _-_, _/_, _<_, _≤_, suc, zero, ℕ}
 use native.Mathlib.Nat.{div-le-self}
 use native.Mathlib.Omega.{arith}
@@ -78,8 +78,8 @@ module _ (W : World) (xs : List Base) (g : Graph) (v : Inv W xs (Known (g .stack
   entry-used step available goal (some e) (ok, z) = (
     childReads (e .heads),
     update-step W step (e .heads) (e .encounteredOverflow) ProvisionalCacheHit available xs g v small,
-    rw z at (W .mono (e .result) (A (W .start) xs (readsOf (e .heads))) (A (W .start) xs (childReads (e .heads)))
-        (A-mono (W .start) xs (readsOf (e .heads)) (childReads (e .heads)) (child-within (length xs) (e .heads))) (e .input) (ok .claims)),
+    rw z at (W .mono (e .result) (A W xs (readsOf (e .heads))) (A W xs (childReads (e .heads)))
+        (A-mono W xs (readsOf (e .heads)) (childReads (e .heads)) (child-within (length xs) (e .heads))) (e .input) (ok .claims)),
   )
 
   when-on : (goal : ℕ) (step : PathKind) (available : ℕ) (on : Bool)
@@ -112,7 +112,7 @@ module _ (W : World) (xs : List Base) (g : Graph) (v : Inv W xs (Known (g .stack
   data-used goal step available (some d) k = (
     childReads (noHeads (W .book .header .goals)),
     update-step W step (noHeads (W .book .header .goals)) (d .encounteredOverflow) (Ordinary (d .nestedGoals)) (available - d .requiredDepth) xs g v small,
-    W .mono (d .result) nobody (A (W .start) xs (childReads (noHeads (W .book .header .goals)))) (λ j t. absurd t) goal k,
+    W .mono (d .result) nobody (A W xs (childReads (noHeads (W .book .header .goals)))) (λ j t. absurd t) goal k,
   )
 
   pub global-found : (goal : ℕ) → goal < W .book .header .goals → (step : PathKind) (available : ℕ) → available ≤ W .book .header .top → Found goal (lookupGlobalCache (W .book .header) g goal step available)
@@ -148,11 +148,11 @@ pub find-at : (goal : ℕ) (s : Stack) → FindPost goal s (stackFind s goal)
 find-at goal [] = tt
 find-at goal (f ∷ fs) = find-one goal f fs (find-at goal fs) _ refl
 
-at-assumes : (start : ℕ → Answer) (d : Reads) {goal : ℕ} {s : Stack} {i : ℕ} {p : Option Answer} → FoundAt goal s i p → T (assumes (start goal) p (d i)) → T (A start (basesOf s) d goal)
-at-assumes start d {goal = goal} (on-top {f = f} {fs = fs} e) t =
-    or-left (own start (baseOf f) (d (length (basesOf fs))) goal) (A start (basesOf fs) d goal)
-    (both (eqb goal (f .input)) (assumes (start (f .input)) (f .provisionalResult) (d (length (basesOf fs)))) (rw e (eqb-refl goal)) (rw (length-bases fs, e) t))
-at-assumes start d (below {f = f} {fs = fs} h) t = A-under start (baseOf f) (basesOf fs) d _ (at-assumes start d h t)
+at-assumes : (W : World) (d : Reads) {goal : ℕ} {s : Stack} {i : ℕ} {p : Option Answer} → FoundAt goal s i p → T (assumes (W .start goal) p (d i)) → T (A W (basesOf s) d goal)
+at-assumes W d {goal = goal} (on-top {f = f} {fs = fs} e) t =
+    or-left (own W (baseOf f) (d (length (basesOf fs))) goal) (A W (basesOf fs) d goal)
+    (both (eqb goal (f .input)) (assumes (W .start (f .input)) (f .provisionalResult) (d (length (basesOf fs)))) (rw e (eqb-refl goal)) (subst₂ (λ (n x : ℕ). T (assumes (W .start x) (f .provisionalResult) (d n))) (sym (length-bases fs)) (sym e) t))
+at-assumes W d (below {f = f} {fs = fs} h) t = A-under W (baseOf f) (basesOf fs) d _ (at-assumes W d h t)
 
 at-result : (W : World) {goal : ℕ} {s : Stack} {i : ℕ} {p : Option Answer} → FoundAt goal s i p → BasesOk W (basesOf s) → (a : Answer) → p ≡ some a → a ≢ W .start goal → T (W .claim a nobody goal)
 at-result W (on-top e) v a h n = rw e at (v .0 .result a h (rw e n))
@@ -206,22 +206,22 @@ module _ (W : World) (xs : List Base) (bases : BasesOk W xs) (g : Graph) (v : In
   abbrev path : ℕ → PathKind
   path i = cyclePathKind (g .stack) step i
 
-  on-stack : (i : ℕ) (d : Reads) (o : Option Answer) → FoundAt goal (g .stack) i o → T (assumes (W .start goal) o (d i)) → T (W .claim (W .start goal) (A (W .start) xs d) goal)
-  on-stack i d o t s = W .assumed (A (W .start) xs d) goal (rw (v .here) at (at-assumes (W .start) d t s))
+  on-stack : (i : ℕ) (d : Reads) (o : Option Answer) → FoundAt goal (g .stack) i o → T (assumes (W .start goal) o (d i)) → T (W .claim (W .start goal) (A W xs d) goal)
+  on-stack i d o t s = W .assumed (A W xs d) goal (rw (v .here) at (at-assumes W d t s))
 
-  cycle-claims : (i : ℕ) (d : Reads) (o : Option Answer) → FoundAt goal (g .stack) i o → 0 < d i (path i) → T (W .claim (cycleResult o (path i)) (A (W .start) xs d) goal)
+  cycle-claims : (i : ℕ) (d : Reads) (o : Option Answer) → FoundAt goal (g .stack) i o → 0 < d i (path i) → T (W .claim (cycleResult o (path i)) (A W xs d) goal)
   cycle-claims i d (some a) t h = go (decide a (W .start goal))
     where
-      go : Dec (a ≡ W .start goal) → T (W .claim a (A (W .start) xs d) goal)
+      go : Dec (a ≡ W .start goal) → T (W .claim a (A W xs d) goal)
       go (yes e) = rw e (on-stack i d (some a) t (both (sameAnswer a (W .start goal)) (used (d i)) (≡→same a (W .start goal) e) (used-by (d i) (path i) h)))
-      go (no n) = W .mono a nobody (A (W .start) xs d) (λ k s. absurd s) goal (at-result W t (rw (v .here) bases) a refl n)
+      go (no n) = W .mono a nobody (A W xs d) (λ k s. absurd s) goal (at-result W t (rw (v .here) bases) a refl n)
   cycle-claims i d none t h = go (decide (initialProvisionalResult (path i)) (W .start goal))
     where
-      go : Dec (initialProvisionalResult (path i) ≡ W .start goal) → T (W .claim (initialProvisionalResult (path i)) (A (W .start) xs d) goal)
+      go : Dec (initialProvisionalResult (path i) ≡ W .start goal) → T (W .claim (initialProvisionalResult (path i)) (A W xs d) goal)
       go (yes e) = rw e (on-stack i d none t (lt→ltb 0 (d i (initialKind (W .start goal))) (rw (← e, kind-initial (path i)) h)))
       go (no n) =
           W .initial (path i) goal
-          (path-allowed W (g .stack) step i (at-bound t) (rw (v .here) bases) (call (omega (arith, at-bound t, length-bases (g .stack), ap length (v .here))))) n (A (W .start) xs d)
+          (path-allowed W (g .stack) step i (at-bound t) (rw (v .here) bases) (call (omega (arith, at-bound t, length-bases (g .stack), ap length (v .here))))) n (A W xs d)
 
   pub cycle-or : (next : Outcome) → (Apart goal (goalsOf (g .stack)) → After W xs g (Claims W xs goal) next) → (o : Option OnStack) → FindPost goal (g .stack) o
       → After W xs g (Claims W xs goal) (unlessFound (elim o [ none ↦ none | some head ↦ some (closeCycle (W .book .header) g goal step available head) ]) next)

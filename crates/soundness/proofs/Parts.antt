@@ -33,15 +33,15 @@ use Rattle.soundness.proofs.Answers.{both-no, both-yes, differ, neither
 
 -- an answer may be given of a goal, on what reads assume
 abbrev pub Claims : World → List Base → ℕ → Reads → Answer → Type 0
-Claims W xs goal d a = T (W .claim a (A (W .start) xs d) goal)
+Claims W xs goal d a = T (W .claim a (A W xs d) goal)
 
 -- an answer is right of a part, on what reads assume
 abbrev pub RightAt : World → List Base → Part → Reads → Answer → Type 0
-RightAt W xs p d = Right (W .claim Yes (A (W .start) xs d)) (W .claim No (A (W .start) xs d)) p
+RightAt W xs p d = Right (W .claim Yes (A W xs d)) (W .claim No (A W xs d)) p
 
 -- and of a goal's own part
 abbrev pub RightGoal : World → List Base → ℕ → Reads → Answer → Type 0
-RightGoal W xs goal d = RightOf (W .book) (W .claim Yes (A (W .start) xs d)) (W .claim No (A (W .start) xs d)) goal
+RightGoal W xs goal d = RightOf (W .book) (W .claim Yes (A W xs d)) (W .claim No (A W xs d)) goal
 
 abbrev pub EvalOk : World → List Base → Evaluator → Type 0
 EvalOk W xs evaluate =
@@ -50,13 +50,13 @@ EvalOk W xs evaluate =
 
 module _ (W : World) (xs : List Base) where
   abbrev Y : Reads → Goals
-  Y d = W .claim Yes (A (W .start) xs d)
+  Y d = W .claim Yes (A W xs d)
 
   abbrev N : Reads → Goals
-  N d = W .claim No (A (W .start) xs d)
+  N d = W .claim No (A W xs d)
 
-  claim-mono : (a : Answer) (d e : Reads) → Within (length xs) d e → W .claim a (A (W .start) xs d) ⊆ W .claim a (A (W .start) xs e)
-  claim-mono a d e h = W .mono a (A (W .start) xs d) (A (W .start) xs e) (A-mono (W .start) xs d e h)
+  claim-mono : (a : Answer) (d e : Reads) → Within (length xs) d e → W .claim a (A W xs d) ⊆ W .claim a (A W xs e)
+  claim-mono a d e h = W .mono a (A W xs d) (A W xs e) (A-mono W xs d e h)
 
   yes-mono : (p : Part) (d e : Reads) → Within (length xs) d e → T (yesHolds (Y d) p) → T (yesHolds (Y e) p)
   yes-mono p d e h = yes-holds-mono (Y d) (Y e) (claim-mono Yes d e h) p

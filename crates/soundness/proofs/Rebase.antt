@@ -43,10 +43,10 @@ module _ (W : World) (x : Base) (xs : List Base) (f : Frame) (fs : Stack) (len :
   rest i h (inr (inr l)) = inl l
 
   -- an entry that does not use the frame
-  unused-claims : (a : Answer) (d : Reads) (goal : ℕ) → ((k : PathKind) → d (length fs) k ≡ 0) → T (W .claim a (A (W .start) (x ∷ xs) d) goal) → T (W .claim a (A (W .start) xs d) goal)
+  unused-claims : (a : Answer) (d : Reads) (goal : ℕ) → ((k : PathKind) → d (length fs) k ≡ 0) → T (W .claim a (A W (x ∷ xs) d) goal) → T (W .claim a (A W xs d) goal)
   unused-claims a d goal h t =
-      W .mono a (A (W .start) (x ∷ xs) d) (A (W .start) xs d)
-      (A-skip (W .start) x xs d (assumes-none (W .start (x .goal)) (x .provisional) (d (length xs)) (rw len at h))) goal t
+      W .mono a (A W (x ∷ xs) d) (A W xs d)
+      (A-skip W x xs d (assumes-none (W .start (x .goal)) (x .provisional) (d (length xs)) (rw len at h))) goal t
 
   -- an entry that does not name the frame
   unnamed : (e : Entry) → Before e → (HasHead (e .heads) (length fs) → ⊥) → EntryOk W xs Rest e
@@ -81,7 +81,7 @@ module _ (W : World) (x : Base) (xs : List Base) (f : Frame) (fs : Stack) (len :
 
   -- ---- rebased
   module _ (reason : RebaseReason) (u : HeadUsages) (a : Answer) (why : Why (x .provisional) u a reason)
-      (small : length xs ≤ W .book .header .goals) (claimed : T (W .claim a (A (W .start) xs (readsOf (f .heads))) (x .goal))) where
+      (small : length xs ≤ W .book .header .goals) (claimed : T (W .claim a (A W xs (readsOf (f .heads))) (x .goal))) where
     moved-heads : (CycleHead → Option CycleHead → CycleHead) → Entry → CycleHeads
     moved-heads φ e = forEachHead φ (removeHead (e .heads) (length fs)) (f .heads)
 
@@ -120,41 +120,41 @@ module _ (W : World) (x : Base) (xs : List Base) (f : Frame) (fs : Stack) (len :
 
     -- the claim of an entry, moved
     claims-old : (φ : CycleHead → Option CycleHead → CycleHead) → Grows φ → (e : Entry) → Before e
-        → (T (assumes (W .start (x .goal)) (x .provisional) (readsOf (e .heads) (length fs))) → ⊥) → T (W .claim (e .result) (A (W .start) xs (Moved φ e)) (e .input))
+        → (T (assumes (W .start (x .goal)) (x .provisional) (readsOf (e .heads) (length fs))) → ⊥) → T (W .claim (e .result) (A W xs (Moved φ e)) (e .input))
     claims-old φ j e v h =
-        W .mono (e .result) (A (W .start) (x ∷ xs) (readsOf (e .heads))) (A (W .start) xs (Moved φ e))
-        (λ g t. A-mono (W .start) xs (readsOf (e .heads)) (Moved φ e) (moved-old φ j e v) g (A-skip (W .start) x xs (readsOf (e .heads)) (rw len at h) g t))
+        W .mono (e .result) (A W (x ∷ xs) (readsOf (e .heads))) (A W xs (Moved φ e))
+        (λ g t. A-mono W xs (readsOf (e .heads)) (Moved φ e) (moved-old φ j e v) g (A-skip W x xs (readsOf (e .heads)) (rw len at h) g t))
         (e .input) (v .claims)
 
     through-grows : (ep : ℕ) → Grows (headThrough ep)
     through-grows ep = join-grows (λ c. extendWithPaths ep (c .paths)) (λ c. c .usages)
 
-    claims-through : (ep : ℕ) (e : Entry) → Before e → a ≡ W .start (x .goal) → T (W .claim (e .result) (A (W .start) xs (Moved (headThrough ep) e)) (e .input))
+    claims-through : (ep : ℕ) (e : Entry) → Before e → a ≡ W .start (x .goal) → T (W .claim (e .result) (A W xs (Moved (headThrough ep) e)) (e .input))
     claims-through ep e v z =
-        W .mono (e .result) (union (A (W .start) xs (readsOf (f .heads))) (A (W .start) xs (readsOf (e .heads)))) (A (W .start) xs (Moved (headThrough ep) e))
-        (union-elim (A (W .start) xs (readsOf (f .heads))) (A (W .start) xs (readsOf (e .heads))) (A (W .start) xs (Moved (headThrough ep) e))
-        (A-mono (W .start) xs (readsOf (f .heads)) (Moved (headThrough ep) e) (moved-new ep e v))
-        (A-mono (W .start) xs (readsOf (e .heads)) (Moved (headThrough ep) e) (moved-old (headThrough ep) (through-grows ep) e v)))
+        W .mono (e .result) (union (A W xs (readsOf (f .heads))) (A W xs (readsOf (e .heads)))) (A W xs (Moved (headThrough ep) e))
+        (union-elim (A W xs (readsOf (f .heads))) (A W xs (readsOf (e .heads))) (A W xs (Moved (headThrough ep) e))
+        (A-mono W xs (readsOf (f .heads)) (Moved (headThrough ep) e) (moved-new ep e v))
+        (A-mono W xs (readsOf (e .heads)) (Moved (headThrough ep) e) (moved-old (headThrough ep) (through-grows ep) e v)))
         (e .input)
-        (W .rebase (e .result) (A (W .start) xs (readsOf (f .heads))) (A (W .start) xs (readsOf (e .heads))) (x .goal) (rw z at claimed) (e .input)
-        (W .mono (e .result) (A (W .start) (x ∷ xs) (readsOf (e .heads))) (union (A (W .start) xs (readsOf (e .heads))) (single (x .goal)))
-        (A-over (W .start) x xs (readsOf (e .heads))) (e .input) (v .claims)))
+        (W .rebase (e .result) (A W xs (readsOf (f .heads))) (A W xs (readsOf (e .heads))) (x .goal) (rw z at claimed) (e .input)
+        (W .mono (e .result) (A W (x ∷ xs) (readsOf (e .heads))) (union (A W xs (readsOf (e .heads))) (single (x .goal)))
+        (A-over W x xs (readsOf (e .heads))) (e .input) (v .claims)))
 
     claims-kept : (ep : ℕ) (e : Entry) → Before e → T (reasonKeeps reason (e .result) (usagesAt (e .heads) (length fs)))
-        → (t : Bool) → assumes (W .start (x .goal)) (x .provisional) (readsOf (e .heads) (length fs)) ≡ t → T (W .claim (e .result) (A (W .start) xs (Moved (headThrough ep) e)) (e .input))
+        → (t : Bool) → assumes (W .start (x .goal)) (x .provisional) (readsOf (e .heads) (length fs)) ≡ t → T (W .claim (e .result) (A W xs (Moved (headThrough ep) e)) (e .input))
     claims-kept ep e v k false h = claims-old (headThrough ep) (through-grows ep) e v (λ t. rw h at t)
     claims-kept ep e v k true h = go (kept-why (W .start (x .goal)) why (usagesAt (e .heads) (length fs)) (e .result) k (of-true _ h))
       where
-        go : (a ≡ W .start (x .goal)) ⊎ T (isAmbiguous (e .result)) → T (W .claim (e .result) (A (W .start) xs (Moved (headThrough ep) e)) (e .input))
+        go : (a ≡ W .start (x .goal)) ⊎ T (isAmbiguous (e .result)) → T (W .claim (e .result) (A W xs (Moved (headThrough ep) e)) (e .input))
         go (inl z) = claims-through ep e v z
-        go (inr m) = W .ambiguous (e .result) m (A (W .start) xs (Moved (headThrough ep) e)) (e .input)
+        go (inr m) = W .ambiguous (e .result) m (A W xs (Moved (headThrough ep) e)) (e .input)
 
     abbrev Maybe : Option Entry → Type 0
     Maybe none = Unit {0}
     Maybe (some e) = EntryOk W xs Rest e
 
     -- an entry with new heads
-    under-ok : (e : Entry) (hs : CycleHeads) → T (W .claim (e .result) (A (W .start) xs (readsOf hs)) (e .input)) → length hs ≡ W .book .header .goals → ((i : ℕ) → HasHead hs i → Rest i)
+    under-ok : (e : Entry) (hs : CycleHeads) → T (W .claim (e .result) (A W xs (readsOf hs)) (e .input)) → length hs ≡ W .book .header .goals → ((i : ℕ) → HasHead hs i → Rest i)
         → (o : Option ℕ) → optHighestIndex hs ≡ o → Maybe (underNewHead fs f e hs)
     under-ok e hs c l r none h = rw (h, underNewHead) tt
     under-ok e hs c l r (some new) h = rw (h, underNewHead) (record { claims = c; order = record { heads = l; known = r; notEmpty = (new, highest-present hs new h) } })
@@ -191,7 +191,7 @@ module _ (W : World) (x : Base) (xs : List Base) (f : Frame) (fs : Stack) (len :
         → EntryOk W (x′ ∷ xs) (Known (f′ ∷ fs)) e
     rerun-ok e v s t h k z =
         record {
-          claims = W .mono (e .result) (A (W .start) xs (readsOf (e .heads))) (A (W .start) (x′ ∷ xs) (readsOf (e .heads))) (A-under (W .start) x′ xs (readsOf (e .heads))) (e .input)
+          claims = W .mono (e .result) (A W xs (readsOf (e .heads))) (A W (x′ ∷ xs) (readsOf (e .heads))) (A-under W x′ xs (readsOf (e .heads))) (e .input)
               (unused-claims (e .result) (readsOf (e .heads)) (e .input) (zeros s t h k z) (v .claims));
           order = record { heads = v .order .heads; known = λ i p. stay i (v .order .known i p); notEmpty = v .order .notEmpty };
         }

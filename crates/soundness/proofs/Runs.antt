@@ -31,23 +31,31 @@ use Rattle.soundness.proofs.Parts.{RightGoal}
 use Rattle.soundness.proofs.Settle.{Turn, Why, again, ends, mixed, settled, turn, without}
 use Rattle.soundness.proofs.Rebase.{Rest, finished, rebased-ok, survivors-ok}
 
+-- what is known when the frame on fs is popped for good
+pub record Finished (W : World) (xs : List Base) (fs : Stack) (goal available : ℕ) (g : Graph) (r : EvaluationResult) : Type 0 where
+  pub stack : g .stack ≡ fs
+  pub claims : T (W .claim (r .result) (A W xs (readsOf (r .heads))) goal)
+  pub heads : length (r .heads) ≡ W .book .header .goals
+  pub below : (i : ℕ) → HasHead (r .heads) i → i < length fs
+  pub nested : length (r .nestedGoals) ≡ W .book .header .goals
+  pub required : r .requiredDepth ≤ available
+  pub inv : Inv W xs (λ i. Known fs i ⊎ HasHead (r .heads) i) g
+
+abbrev pub TaskAfter : World → List Base → Stack → ℕ → ℕ → TaskOutcome → Type 0
+TaskAfter W xs fs goal available (Evaluated g r) = Finished W xs fs goal available g r
+TaskAfter W xs fs goal available (TaskStopped r) = Expected r
+
+-- what `computeGoal` promises, on the stack of xs
+abbrev pub ComputesGoal : World → List Base → (ℕ → Graph → Outcome) → Type 0
+ComputesGoal W xs compute =
+    (x : Base) → BasesOk W (x ∷ xs) → (g : Graph) → Inv W (x ∷ xs) (Known (g .stack)) g → After W (x ∷ xs) g (RightGoal W (x ∷ xs) (x .goal)) (compute (x .goal) g)
+
 module _ (W : World) (xs : List Base) (fs : Stack) (goal available : ℕ) (here : basesOf fs ≡ xs) (small : length xs ≤ W .book .header .goals) (framesOk : FramesInOrder (W .book .header) fs) where
   len : length fs ≡ length xs
   len = sym (length-bases fs) ∙ ap length here
 
-  -- what is known when a frame is popped for good
-  pub record Finished (g : Graph) (r : EvaluationResult) : Type 0 where
-    pub stack : g .stack ≡ fs
-    pub claims : T (W .claim (r .result) (A (W .start) xs (readsOf (r .heads))) goal)
-    pub heads : length (r .heads) ≡ W .book .header .goals
-    pub below : (i : ℕ) → HasHead (r .heads) i → i < length fs
-    pub nested : length (r .nestedGoals) ≡ W .book .header .goals
-    pub required : r .requiredDepth ≤ available
-    pub inv : Inv W xs (λ i. Known fs i ⊎ HasHead (r .heads) i) g
-
-  abbrev pub TaskAfter : TaskOutcome → Type 0
-  TaskAfter (Evaluated g r) = Finished g r
-  TaskAfter (TaskStopped r) = Expected r
+  abbrev Task : TaskOutcome → Type 0
+  Task = TaskAfter W xs fs goal available
 
   -- what is known when a run is over: f was popped, its answer is a, and a rests on reads that f has counted
   record Ran (x : Base) (f : Frame) (g : Graph) (a : Answer) : Type 0 where
@@ -65,8 +73,8 @@ module _ (W : World) (xs : List Base) (fs : Stack) (goal available : ℕ) (here 
     right : RightGoal W (x ∷ xs) (x .goal) reads a
 
   finish : (x : Base) (f : Frame) (g : Graph) (a : Answer) → Ran x f g a → (o : Bool) (r : Answer) (es : List Entry)
-      → T (W .claim r (A (W .start) xs (readsOf (f .heads))) (x .goal)) → Every (EntryOk W xs (Rest W x xs f fs len)) es
-      → Finished (record { rootDepth = g .rootDepth; stack = fs; provisionalCache = es; globalCache = g .globalCache }) (finalize f o r)
+      → T (W .claim r (A W xs (readsOf (f .heads))) (x .goal)) → Every (EntryOk W xs (Rest W x xs f fs len)) es
+      → Finished W xs fs goal available (record { rootDepth = g .rootDepth; stack = fs; provisionalCache = es; globalCache = g .globalCache }) (finalize f o r)
   finish x f g a v o r es c w =
       record {
         stack = refl;
@@ -78,7 +86,7 @@ module _ (W : World) (xs : List Base) (fs : Stack) (goal available : ℕ) (here 
         inv = record { here = here; root = v .root; frames = framesOk; entries = w; cache = v .cache };
       }
 
-  not-a-head : (x : Base) (f : Frame) (g : Graph) (a : Answer) (o : Bool) → Ran x f g a → f .usages ≡ none → Finished (withStack g fs) (finalize f o a)
+  not-a-head : (x : Base) (f : Frame) (g : Graph) (a : Answer) (o : Bool) → Ran x f g a → f .usages ≡ none → Finished W xs fs goal available (withStack g fs) (finalize f o a)
   not-a-head x f g a o v e =
       finish x f g a v o a (g .provisionalCache)
       (without W x xs (v .reads) (readsOf (f .heads)) noUsages a (v .under) (rw e at (v .top)) (v .right)
@@ -86,16 +94,16 @@ module _ (W : World) (xs : List Base) (fs : Stack) (goal available : ℕ) (here 
       (every-map _ _ (finished W x xs f fs len e) (g .provisionalCache) (v .entries))
 
   rebase : (x : Base) (f : Frame) (g : Graph) (a : Answer) (o : Bool) → Ran x f g a → (u : HeadUsages) (reason : RebaseReason) (r : Answer) → Why (x .provisional) u r reason
-      → T (W .claim r (A (W .start) xs (readsOf (f .heads))) (x .goal)) → TaskAfter (rebased (withStack g fs) f reason o r)
+      → T (W .claim r (A W xs (readsOf (f .heads))) (x .goal)) → Task (rebased (withStack g fs) f reason o r)
   rebase x f g a o v u reason r w c =
       finish x f g a v o r _ c (rebased-ok W x xs f fs len reason u r w small c (g .provisionalCache) (v .entries))
 
   RerunOk : (Bool → Graph → Frame → Answer → TaskOutcome) → Type 0
-  RerunOk more = (o : Bool) (x : Base) (f : Frame) (g : Graph) (a : Answer) → Ran x f g a → TaskAfter (more o (withStack g fs) f a)
+  RerunOk more = (o : Bool) (x : Base) (f : Frame) (g : Graph) (a : Answer) → Ran x f g a → Task (more o (withStack g fs) f a)
 
   module _ (more : Bool → Graph → Frame → Answer → TaskOutcome) (ok : RerunOk more) where
     turn-ok : (x : Base) (f : Frame) (g : Graph) (a : Answer) (o : Bool) → Ran x f g a → (u : HeadUsages) → f .usages ≡ some u → (n : Next) → Turn (f .provisionalResult) u a n → nextOf f a ≡ n
-        → TaskAfter (endIteration more o (withStack g fs) f a)
+        → Task (endIteration more o (withStack g fs) f a)
     unfolding RerunOk
     turn-ok x f g a o v u h (Rebase reason) (ends w) e =
         let z : f .provisionalResult ≡ x .provisional = ap (λ (y : Base). y .provisional) (v .same) in
@@ -104,7 +112,7 @@ module _ (W : World) (xs : List Base) (fs : Stack) (goal available : ℕ) (here 
         (rebase x f g a o v u reason a w′ (settled W x xs (v .reads) (readsOf (f .heads)) u a (v .under) (rw h at (v .top)) (v .right) w′))
     turn-ok x f g a o v u h Rerun again e = rw (e, endIteration) (ok o x f g a v)
 
-    next-ok : (x : Base) (f : Frame) (g : Graph) (a : Answer) (o : Bool) → Ran x f g a → (u : Option HeadUsages) → f .usages ≡ u → TaskAfter (endIteration more o (withStack g fs) f a)
+    next-ok : (x : Base) (f : Frame) (g : Graph) (a : Answer) (o : Bool) → Ran x f g a → (u : Option HeadUsages) → f .usages ≡ u → Task (endIteration more o (withStack g fs) f a)
     next-ok x f g a o v none e =
         let z : nextOf f a ≡ Finish = ap (λ (w : Option HeadUsages). elim w [ none ↦ Finish | some u ↦ nextOfHead (f .provisionalResult) u a ]) e in
         rw (z, endIteration) (not-a-head x f g a o v e)
@@ -112,7 +120,7 @@ module _ (W : World) (xs : List Base) (fs : Stack) (goal available : ℕ) (here 
 
     popped-ok : (x : Base) (f₀ : Frame) {s : Stack} {d : Reads} (g : Graph) (a : Answer) (o : Bool) → x .goal ≡ goal → x .depth ≡ available → BasesOk W (x ∷ xs) → Gain (f₀ ∷ fs) s d
         → basesOf s ≡ x ∷ xs → FramesInOrder (W .book .header) s → g .rootDepth ≤ W .book .header .top → Every (EntryOk W (x ∷ xs) (Known s)) (g .provisionalCache) → CacheOk W (g .globalCache)
-        → RightGoal W (x ∷ xs) (x .goal) d a → TaskAfter (popped more o g s a)
+        → RightGoal W (x ∷ xs) (x .goal) d a → Task (popped more o g s a)
     popped-ok x f₀ g a o i j v (top-gains {f′ = f} {d = d} t) h fr rt es nb r =
         next-ok x f g a _
         (record {
@@ -132,21 +140,16 @@ module _ (W : World) (xs : List Base) (fs : Stack) (goal available : ℕ) (here 
         (f .usages) refl
 
     run-ok : (x : Base) (f₀ : Frame) (g₀ : Graph) (o : Bool) → x .goal ≡ goal → x .depth ≡ available → BasesOk W (x ∷ xs) → g₀ .stack ≡ f₀ ∷ fs → (out : Outcome)
-        → After W (x ∷ xs) g₀ (RightGoal W (x ∷ xs) (x .goal)) out → TaskAfter (iteration more o out)
+        → After W (x ∷ xs) g₀ (RightGoal W (x ∷ xs) (x .goal)) out → Task (iteration more o out)
     run-ok x f₀ g₀ o i j v st (Done g a) (d, s, r) =
         popped-ok x f₀ g a o i j v (rw st at (s .gain)) (s .inv .here) (s .inv .frames) (s .inv .root) (s .inv .entries) (s .inv .cache) r
     run-ok x f₀ g₀ o i j v st (Stopped r) t = t
 
   limit-ok : RerunOk stepLimitReached
   unfolding RerunOk
-  limit-ok o x f g a v = rebase x f g a o v noUsages (Ambiguity Overflow) Overflow (mixed tt) (W .ambiguous Overflow tt (A (W .start) xs (readsOf (f .heads))) (x .goal))
+  limit-ok o x f g a v = rebase x f g a o v noUsages (Ambiguity Overflow) Overflow (mixed tt) (W .ambiguous Overflow tt (A W xs (readsOf (f .heads))) (x .goal))
 
   -- ---- the loop
-  abbrev pub ComputeOk : (Graph → Outcome) → Type 0
-  ComputeOk compute =
-      (x : Base) → x .goal ≡ goal → x .depth ≡ available → BasesOk W (x ∷ xs) → (g : Graph) → Inv W (x ∷ xs) (Known (g .stack)) g
-      → After W (x ∷ xs) g (RightGoal W (x ∷ xs) (x .goal)) (compute g)
-
   abbrev rerun-base : Base → Answer → Base
   rerun-base x a = record { goal = x .goal; step = x .step; depth = x .depth; provisional = some a }
 
@@ -155,7 +158,7 @@ module _ (W : World) (xs : List Base) (fs : Stack) (goal available : ℕ) (here 
     record {
       result = λ b e n.
           let z : a ≡ b = cc in
-          rw z at (W .free a (x .goal) (λ y. n (sym z ∙ y)) (A (W .start) (x ∷ xs) (v .reads)) nobody (W .pop a (A (W .start) (x ∷ xs) (v .reads)) (x .goal) (v .right)));
+          rw z at (W .free a (x .goal) (λ y. n (sym z ∙ y)) (A W (x ∷ xs) (v .reads)) nobody (W .pop a (A W (x ∷ xs) (v .reads)) (x .goal) (v .right)));
       byCall = v .bases .0 .byCall;
       apart = v .bases .0 .apart;
     },
@@ -179,11 +182,11 @@ module _ (W : World) (xs : List Base) (fs : Stack) (goal available : ℕ) (here 
         cache = v .cache;
       }
 
-  pub task-ok : (compute : Graph → Outcome) → ComputeOk compute → (left : ℕ) (o : Bool) (x : Base) (f : Frame) (g : Graph) → x .goal ≡ goal → x .depth ≡ available → BasesOk W (x ∷ xs) → g .stack ≡ f ∷ fs
-      → Inv W (x ∷ xs) (Known (g .stack)) g → TaskAfter (evaluateGoalInTask compute left o g)
+  pub task-ok : (compute : ℕ → Graph → Outcome) → ComputesGoal W xs compute → (left : ℕ) (o : Bool) (x : Base) (f : Frame) (g : Graph) → x .goal ≡ goal → x .depth ≡ available → BasesOk W (x ∷ xs) → g .stack ≡ f ∷ fs
+      → Inv W (x ∷ xs) (Known (g .stack)) g → Task (evaluateGoalInTask (compute goal) left o g)
   unfolding RerunOk
-  task-ok compute ok zero o x f g i j v st inv = run-ok stepLimitReached limit-ok x f g o i j v st (compute g) (ok x i j v g inv)
+  task-ok compute ok zero o x f g i j v st inv = run-ok stepLimitReached limit-ok x f g o i j v st (compute goal g) (rw (← i) (ok x v g inv))
   task-ok compute ok (suc left) o x f g i j v st inv =
-      run-ok (λ o g f a. evaluateGoalInTask compute left o (pushRerun g f a))
+      run-ok (λ o g f a. evaluateGoalInTask (compute goal) left o (pushRerun g f a))
       (λ o′ x′ f′ g′ a w. task-ok compute ok left o′ (rerun-base x′ a) (rerunFrame f′ a) (pushRerun (withStack g′ fs) f′ a) (w .isGoal) (w .isDepth) (rerun-bases x′ f′ g′ a w) refl (rerun-inv x′ f′ g′ a w))
-      x f g o i j v st (compute g) (ok x i j v g inv)
+      x f g o i j v st (compute goal g) (rw (← i) (ok x v g inv))

@@ -110,23 +110,23 @@ module _ (W : World) (x : Base) (xs : List Base) (d R : Reads) (u : HeadUsages) 
     (under : Within (length xs) d R) (top : (k : PathKind) → 0 < d (length xs) k → 0 < counter u k)
     (r : RightGoal W (x ∷ xs) (x .goal) d a) where
   abbrev AR : Goals
-  AR = A (W .start) xs R
+  AR = A W xs R
 
   -- nothing is assumed of the goal itself
   pub without : (T (assumes (W .start (x .goal)) (x .provisional) (counter u)) → ⊥) → T (W .claim a AR (x .goal))
   without h =
       W .pop a AR (x .goal)
-      (right-within W (A (W .start) (x ∷ xs) d) AR (x .goal) a
-      (λ g t. A-mono (W .start) xs d R under g (A-skip (W .start) x xs d (λ s. h (assumes-mono (W .start (x .goal)) (x .provisional) (d (length xs)) (counter u) top s)) g t)) r)
+      (right-within W (A W (x ∷ xs) d) AR (x .goal) a
+      (λ g t. A-mono W xs d R under g (A-skip W x xs d (λ s. h (assumes-mono (W .start (x .goal)) (x .provisional) (d (length xs)) (counter u) top s)) g t)) r)
 
   -- the goal's own answer is what was assumed
   pub with-itself : a ≡ W .start (x .goal) → T (W .claim a AR (x .goal))
   with-itself e =
       rw e
       (W .head AR (x .goal)
-      (right-within W (A (W .start) (x ∷ xs) d) (union AR (single (x .goal))) (x .goal) (W .start (x .goal))
-      (λ g t. union-elim (A (W .start) xs d) (single (x .goal)) (union AR (single (x .goal)))
-      (λ k s. or-left (AR k) (single (x .goal) k) (A-mono (W .start) xs d R under k s)) (λ k s. or-right (AR k) (single (x .goal) k) s) g (A-over (W .start) x xs d g t))
+      (right-within W (A W (x ∷ xs) d) (union AR (single (x .goal))) (x .goal) (W .start (x .goal))
+      (λ g t. union-elim (A W xs d) (single (x .goal)) (union AR (single (x .goal)))
+      (λ k s. or-left (AR k) (single (x .goal) k) (A-mono W xs d R under k s)) (λ k s. or-right (AR k) (single (x .goal) k) s) g (A-over W x xs d g t))
       (rw e at r)))
 
   pub settled : {reason : RebaseReason} → Why (x .provisional) u a reason → T (W .claim a AR (x .goal))
