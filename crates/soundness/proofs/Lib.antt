@@ -23,4 +23,5 @@ pub mod Evaluate
 pub mod Reading
 pub mod Books
 pub mod Queries
+pub mod EveryBook
 pub mod Theorems

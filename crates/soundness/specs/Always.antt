@@ -1,21 +1,28 @@
 -- What holds in books of every kind: of the state before and after each goal is evaluated, and of what an evaluation comes to.
 use mathlib.Core.Path.{_≡_}
+use mathlib.Core.Bool.{Bool, false}
+use Rattle.definition.specs.declared.paths.PathKind.{PathKind}
+use Rattle.definition.specs.declared.query.Response.the-variants.{Refused}
+use Rattle.definition.specs.Nested.{NestedGoals}
+use Rattle.definition.specs.Part.{Book}
+use Rattle.definition.specs.Evaluate.{computeGoal, newFrame, evaluateGoal}
+use Rattle.definition.specs.Query.{checks, firstFailed, newGraph, evaluateRoot, query}
 use mathlib.Core.Logic.{_≢_, _⊎_}
 use mathlib.Core.Option.{Option, none, some}
 use mathlib.Core.List.{List, [], _∷_}
-use Prim.Native.Nat.{ℕ, _+_, _≤_, _<_}
+use Prim.Native.Nat.{ℕ, suc, _+_, _≤_, _<_}
 use lib.Dec.{T}
 use lib.ListN.{length, getD}
 use Rattle.definition.specs.declared.usages.HeadUsages.{HeadUsages}
 use Rattle.definition.specs.declared.heads.CycleHead.{CycleHead}
 use Rattle.definition.specs.declared.book.Header.{Header}
 use Rattle.definition.specs.declared.query.Refusal.{Refusal}
-use Rattle.definition.specs.declared.query.Refusal.the-variants.{ProvisionalCacheFull, CacheConflict}
+use Rattle.definition.specs.declared.query.Refusal.the-variants.{ProvisionalCacheFull, CacheConflict, Unreachable}
 use Rattle.definition.specs.Heads.{CycleHeads}
-use Rattle.definition.specs.Stack.{Frame, Stack}
-use Rattle.definition.specs.Graph.{Graph, Entry, Outcome, Done, Stopped, EvaluationResult}
-use Rattle.definition.specs.Task.{TaskOutcome, Evaluated, TaskStopped}
-use Rattle.definition.specs.GlobalCache.{slotAt, slotHeld, slotDepth, overflowSlot}
+use Rattle.definition.specs.Stack.{Frame, Stack, stackFind}
+use Rattle.definition.specs.Graph.{Graph, Entry, withStack, Outcome, Done, Stopped, EvaluationResult}
+use Rattle.definition.specs.Task.{TaskOutcome, Evaluated, TaskStopped, evaluateGoalInTask}
+use Rattle.definition.specs.GlobalCache.{CacheData, slotAt, slotHeld, slotDepth, overflowSlot, cacheGet}
 use Rattle.definition.specs.CacheForm.{cacheLength}
 
 -- ---- the goals on the stack, from its top down
@@ -81,9 +88,13 @@ pub record InOrder (h : Header) (g : Graph) : Type 0 where
   pub entries : Every (EntryInOrder h (Known (g .stack))) (g .provisionalCache)
   pub cache : CacheInOrder h (g .globalCache)
 
+-- each head of an entry lies on a stack of n frames
+abbrev pub HeadsOn : ℕ → Entry → Type 0
+HeadsOn n e = ((i : ℕ) × HasHead (e .heads) i) × ((i : ℕ) → HasHead (e .heads) i → i < n)
+
 -- ---- what an evaluation comes to
 
--- of all refusals only these two
+-- of all refusals only these two: the others of the table come before an evaluation, and no branch that is called unreachable is reached
 abbrev pub Expected : Refusal → Type 0
 Expected r = (r ≡ ProvisionalCacheFull) ⊎ (r ≡ CacheConflict)
 
@@ -92,10 +103,10 @@ abbrev pub Keeps : Header → Graph → Outcome → Type 0
 Keeps h g (Done g′ a) = InOrder h g′ × (goalsOf (g′ .stack) ≡ goalsOf (g .stack))
 Keeps h g (Stopped r) = Expected r
 
--- the frame on fs is finished and popped: the entries' heads and its own lie on the stack that is left
+-- the frame on fs, of that available depth, is finished and popped: its heads lie at or below the parent's index
 pub record FinishedFrame (fs : Stack) (available : ℕ) (g : Graph) (r : EvaluationResult) : Type 0 where
   pub stack : g .stack ≡ fs
-  pub entries : Every (λ e. ((i : ℕ) × HasHead (e .heads) i) × ((i : ℕ) → HasHead (e .heads) i → i < length fs)) (g .provisionalCache)
+  pub entries : Every (HeadsOn (length fs)) (g .provisionalCache)
   pub heads : (i : ℕ) → HasHead (r .heads) i → i < length fs
   pub required : r .requiredDepth ≤ available
 
@@ -103,7 +114,35 @@ abbrev pub FinishesFrame : Stack → ℕ → TaskOutcome → Type 0
 FinishesFrame fs available (Evaluated g r) = FinishedFrame fs available g r
 FinishesFrame fs available (TaskStopped r) = Expected r
 
--- the root: with an answer no frame and no entry is left
+-- with the root's answer no frame and no entry is left
 abbrev pub Ends : Outcome → Type 0
 Ends (Done g a) = (g .stack ≡ []) × (g .provisionalCache ≡ [])
 Ends (Stopped r) = Expected r
+
+-- ---- the claims, for a book that is accepted
+pub record Always (b : Book) : Type 0 where
+  -- the root of a query is in order
+  pub starts : (cache work : List ℕ) (goal depth : ℕ) → firstFailed (checks b cache work goal depth) ≡ none → InOrder (b .header) (newGraph depth cache)
+  -- each goal that is evaluated keeps the order. So no subtraction of ignored usages fails, and nothing is computed where every goal is on the stack
+  pub keeps : (off : ℕ) (g : Graph) (goal : ℕ) (step : PathKind) (lower : Bool) → InOrder (b .header) g → length (g .stack) + off ≡ b .header .goals
+      → goal < b .header .goals → Keeps (b .header) g (evaluateGoal b off g goal step lower)
+  -- and so does each frame that is pushed for it
+  pub finishes : (off left : ℕ) (g : Graph) (goal : ℕ) (step : PathKind) (available : ℕ) → InOrder (b .header) g → length (g .stack) + suc off ≡ b .header .goals
+      → goal < b .header .goals → available ≤ b .header .top → stackFind (g .stack) goal ≡ none
+      → FinishesFrame (g .stack) available
+      (evaluateGoalInTask (computeGoal (evaluateGoal b off) b goal) left false (withStack g (newFrame (b .header) goal step available ∷ g .stack)))
+  pub ends : (cache work : List ℕ) (goal depth : ℕ) → firstFailed (checks b cache work goal depth) ≡ none → Ends (evaluateRoot b cache goal depth)
+
+-- ---- what follows of a state in order
+pub record Follows (h : Header) (g : Graph) : Type 0 where
+  pub entries : Every (HeadsOn (length (g .stack))) (g .provisionalCache)
+  pub noEntry : g .stack ≡ [] → g .provisionalCache ≡ []
+  -- where every goal is on the stack, a goal is found there, so that no frame is pushed
+  pub found : (goal : ℕ) → goal < h .goals → length (g .stack) ≡ h .goals → stackFind (g .stack) goal ≢ none
+  -- the depth that a cache hit requires
+  pub hit : (goal available : ℕ) (applicable : NestedGoals → Bool) (d : CacheData) → goal < h .goals → available ≤ h .top
+      → cacheGet h (g .globalCache) goal available applicable ≡ some d → d .requiredDepth ≤ available
+
+-- ---- no query, of any bytes, comes to an unreachable branch
+abbrev pub NeverUnreachable : Type 0
+NeverUnreachable = (bytes cache work : List ℕ) (goal depth : ℕ) → query bytes cache work goal depth .response ≢ Refused Unreachable
