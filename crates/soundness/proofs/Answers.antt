@@ -45,7 +45,8 @@ decide a b = go (sameAnswer a b) refl
 combine-by : (a b : Answer) (t : Bool) → leb (answerNumber a) (answerNumber b) ≡ t
     → (answerNumber a ≤ answerNumber (combine a b)) × (answerNumber b ≤ answerNumber (combine a b))
 combine-by a b true e = rw (e, combine) (leb→le (answerNumber a) (answerNumber b) (of-true (leb (answerNumber a) (answerNumber b)) e), omega arith)
-combine-by a b false e = rw (e, combine) (omega arith, omega (arith, nleb→lt (answerNumber a) (answerNumber b) (of-false (leb (answerNumber a) (answerNumber b)) e)))
+combine-by a b false e =
+    rw (e, combine) (omega arith, omega (arith, nleb→lt (answerNumber a) (answerNumber b) (of-false (leb (answerNumber a) (answerNumber b)) e)))
 
 combine-is : (P : Answer → Type 0) (a b : Answer) (t : Bool) → leb (answerNumber a) (answerNumber b) ≡ t → P a → P b → P (combine a b)
 combine-is P a b true e p q = rw (e, combine) q

@@ -51,7 +51,8 @@ test-mono a b h t = lt→ltb 0 b (h (ltb→lt 0 a t))
 or-mono : (a b a′ b′ : Bool) → (T a → T a′) → (T b → T b′) → T (a || b) → T (a′ || b′)
 or-mono a b a′ b′ f g = or-cases a b (λ t. or-left a′ b′ (f t)) (λ t. or-right a′ b′ (g t))
 
-total-mono : (a b c d a′ b′ c′ d′ : ℕ) → (0 < a → 0 < a′) → (0 < b → 0 < b′) → (0 < c → 0 < c′) → (0 < d → 0 < d′) → 0 < a + b + c + d → 0 < a′ + b′ + c′ + d′
+total-mono : (a b c d a′ b′ c′ d′ : ℕ) → (0 < a → 0 < a′) → (0 < b → 0 < b′) → (0 < c → 0 < c′) → (0 < d → 0 < d′) → 0 < a + b + c + d
+    → 0 < a′ + b′ + c′ + d′
 total-mono zero zero zero zero a′ b′ c′ d′ ha hb hc hd t = absurd (omega arith)
 total-mono zero zero zero (suc d) a′ b′ c′ d′ ha hb hc hd t = omega (arith, hd (omega arith))
 total-mono zero zero (suc c) d a′ b′ c′ d′ ha hb hc hd t = omega (arith, hc (omega arith))
@@ -65,7 +66,8 @@ used-mono u v h t =
 pub unused : (u : PathKind → ℕ) → ((k : PathKind) → u k ≡ 0) → T (used u) → ⊥
 unused u h t = omega (arith, ltb→lt 0 (total u) t, h Inductive, h Unknown, h Coinductive, h ForcedAmbiguity)
 
-pub assumes-mono : (start : Answer) (o : Option Answer) (u v : PathKind → ℕ) → ((k : PathKind) → 0 < u k → 0 < v k) → T (assumes start o u) → T (assumes start o v)
+pub assumes-mono : (start : Answer) (o : Option Answer) (u v : PathKind → ℕ) → ((k : PathKind) → 0 < u k → 0 < v k) → T (assumes start o u)
+    → T (assumes start o v)
 assumes-mono start (some w) u v h t =
     both (sameAnswer w start) (used v) (and-left (sameAnswer w start) (used u) t) (used-mono u v h (and-right (sameAnswer w start) (used u) t))
 assumes-mono start none u v h t = test-mono _ _ (h (initialKind start)) t
@@ -88,7 +90,8 @@ Within n d e = (i : ℕ) (k : PathKind) → i < n → 0 < d i k → 0 < e i k
 
 pub own-mono : (W : World) (x : Base) (u v : PathKind → ℕ) → ((k : PathKind) → 0 < u k → 0 < v k) → own W x u ⊆ own W x v
 own-mono W x u v h g t =
-    both (eqb g (x .goal)) (assumes (W .start (x .goal)) (x .provisional) v) (and-left (eqb g (x .goal)) (assumes (W .start (x .goal)) (x .provisional) u) t)
+    both (eqb g (x .goal)) (assumes (W .start (x .goal)) (x .provisional) v)
+    (and-left (eqb g (x .goal)) (assumes (W .start (x .goal)) (x .provisional) u) t)
     (assumes-mono (W .start (x .goal)) (x .provisional) u v h (and-right (eqb g (x .goal)) (assumes (W .start (x .goal)) (x .provisional) u) t))
 
 pub A-mono : (W : World) (xs : List Base) (d e : Reads) → Within (length xs) d e → A W xs d ⊆ A W xs e
@@ -107,7 +110,8 @@ A-over W x xs d g =
     (λ t. or-right (A W xs d g) (eqb g (x .goal)) (and-left (eqb g (x .goal)) (assumes (W .start (x .goal)) (x .provisional) (d (length xs))) t))
     (λ t. or-left (A W xs d g) (eqb g (x .goal)) t)
 
-pub A-skip : (W : World) (x : Base) (xs : List Base) (d : Reads) → (T (assumes (W .start (x .goal)) (x .provisional) (d (length xs))) → ⊥) → A W (x ∷ xs) d ⊆ A W xs d
+pub A-skip : (W : World) (x : Base) (xs : List Base) (d : Reads) → (T (assumes (W .start (x .goal)) (x .provisional) (d (length xs))) → ⊥)
+    → A W (x ∷ xs) d ⊆ A W xs d
 A-skip W x xs d h g =
     or-cases (own W x (d (length xs)) g) (A W xs d g)
     (λ t. absurd (h (and-right (eqb g (x .goal)) (assumes (W .start (x .goal)) (x .provisional) (d (length xs))) t)))
@@ -115,4 +119,5 @@ A-skip W x xs d h g =
 
 pub A-none : (W : World) (xs : List Base) (d : Reads) → ((i : ℕ) (k : PathKind) → d i k ≡ 0) → A W xs d ⊆ nobody
 A-none W [] d h g t = t
-A-none W (x ∷ xs) d h g t = A-none W xs d h g (A-skip W x xs d (assumes-none (W .start (x .goal)) (x .provisional) (d (length xs)) (h (length xs))) g t)
+A-none W (x ∷ xs) d h g t =
+    A-none W xs d h g (A-skip W x xs d (assumes-none (W .start (x .goal)) (x .provisional) (d (length xs)) (h (length xs))) g t)

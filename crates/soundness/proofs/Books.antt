@@ -27,7 +27,8 @@ claims y n Undecided A = everybody
 claims y n Overflow A = everybody
 
 -- what holds of Yes and of No holds of every answer
-each : (P : Goals → Goals → Type 0) (y n : Goals → Goals) (A B : Goals) → P (y A) (y B) → P (n A) (n B) → P everybody everybody → (a : Answer) → P (claims y n a A) (claims y n a B)
+each : (P : Goals → Goals → Type 0) (y n : Goals → Goals) (A B : Goals) → P (y A) (y B) → P (n A) (n B) → P everybody everybody → (a : Answer)
+    → P (claims y n a A) (claims y n a B)
 each P y n A B hy hn he No = hn
 each P y n A B hy hn he Yes = hy
 each P y n A B hy hn he Undecided = he
@@ -39,7 +40,8 @@ claims-ambiguous y n Yes t A g = absurd t
 claims-ambiguous y n Undecided t A g = tt
 claims-ambiguous y n Overflow t A g = tt
 
-popped : (b : Book) (y n : Goals → Goals) (A : Goals) → yesRound b (y A) ⊆ y A → noRound b (n A) ⊆ n A → (a : Answer) (g : ℕ) → RightOf b (y A) (n A) g a → T (claims y n a A g)
+popped : (b : Book) (y n : Goals → Goals) (A : Goals) → yesRound b (y A) ⊆ y A → noRound b (n A) ⊆ n A → (a : Answer) (g : ℕ)
+    → RightOf b (y A) (n A) g a → T (claims y n a A g)
 popped b y n A hy hn No g r = hn g (r .whenNo refl)
 popped b y n A hy hn Yes g r = hy g (r .whenYes refl)
 popped b y n A hy hn Undecided g r = tt
@@ -49,7 +51,8 @@ popped b y n A hy hn Overflow g r = tt
 moved : (Φ : Operator) (A B : Goals) (g : ℕ) → T (H Φ A g) → H Φ (union B (single g)) ⊆ H Φ (union A B)
 moved Φ A B g t =
     H-bind Φ (union B (single g)) (union A B)
-    (union-elim B (single g) (H Φ (union A B)) (search (inside, H-assumed Φ)) (is-single (H Φ (union A B)) g (H-mono Φ A (union A B) (search inside) g t)))
+    (union-elim B (single g) (H Φ (union A B)) (search (inside, H-assumed Φ))
+    (is-single (H Φ (union A B)) g (H-mono Φ A (union A B) (search inside) g t)))
 
 itself : (Φ : Operator) (A : Goals) (g : ℕ) → T (Φ .act (H Φ (union A (single g))) g) → T (H Φ A g)
 itself Φ A g t = cut Φ A g t g (H-act Φ (union A (single g)) g t)

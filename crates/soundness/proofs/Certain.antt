@@ -20,7 +20,8 @@ pub yes-holds-mono : (p q : Goals) → p ⊆ q → (x : Part) → T (yesHolds p 
 yes-holds-mono p q h x = holds-mono false false p q (λ t. t) h x
 
 pub no-holds-mono : (p q : Goals) → p ⊆ q → (x : Part) → T (noHolds p x) → T (noHolds q x)
-no-holds-mono p q h x = not-mono (holds true (outside q) x) (holds true (outside p) x) (holds-mono true true (outside q) (outside p) (λ t. t) (contra p q h) x)
+no-holds-mono p q h x =
+    not-mono (holds true (outside q) x) (holds true (outside p) x) (holds-mono true true (outside q) (outside p) (λ t. t) (contra p q h) x)
 
 -- the same of a goal's own part
 abbrev pub yesRound : Book → Goals → Goals
@@ -30,7 +31,8 @@ abbrev pub noRound : Book → Goals → Goals
 noRound b q = outside (round b true (outside q))
 
 pub no-round-mono : (b : Book) (p q : Goals) → p ⊆ q → noRound b p ⊆ noRound b q
-no-round-mono b p q h = contra (round b true (outside q)) (round b true (outside p)) (round-mono b true true (outside q) (outside p) (λ t. t) (contra p q h))
+no-round-mono b p q h =
+    contra (round b true (outside q)) (round b true (outside p)) (round-mono b true true (outside q) (outside p) (λ t. t) (contra p q h))
 
 module _ (b : Book) (whole : length (b .parts) ≡ b .header .goals) where
   unfoldable pub YesOf : Operator
@@ -75,4 +77,5 @@ module _ (b : Book) (whole : length (b .parts) ≡ b .header .goals) where
   pub no-outside-greatest : noRound b (outside (greatest b true)) ⊆ outside (greatest b true)
   no-outside-greatest =
       contra (greatest b true) (round b true (outside (outside (greatest b true))))
-      (λ g t. round-mono b true true (greatest b true) (outside (outside (greatest b true))) (λ s. s) (twice (greatest b true)) g (greatest-is b whole true .selfSupporting g t))
+      (λ g t. round-mono b true true (greatest b true) (outside (outside (greatest b true))) (λ s. s) (twice (greatest b true)) g
+      (greatest-is b whole true .selfSupporting g t))

@@ -80,7 +80,8 @@ pub covers-kinds : (u v : HeadUsages) → ((k : PathKind) → counter u k < coun
 covers-kinds u v h =
     both (counterCovers (u .inductive) (v .inductive)) _ (covers-by _ _ _ refl (h Inductive))
     (both (counterCovers (u .unknown) (v .unknown)) _ (covers-by _ _ _ refl (h Unknown))
-    (both (counterCovers (u .coinductive) (v .coinductive)) (counterCovers (u .forced) (v .forced)) (covers-by _ _ _ refl (h Coinductive)) (covers-by _ _ _ refl (h ForcedAmbiguity))))
+    (both (counterCovers (u .coinductive) (v .coinductive)) (counterCovers (u .forced) (v .forced)) (covers-by _ _ _ refl (h Coinductive))
+    (covers-by _ _ _ refl (h ForcedAmbiguity))))
 
 -- what was never used
 pub empty-counter : (u : HeadUsages) (k : PathKind) → T (isEmpty u) → counter u k ≡ 0

@@ -27,12 +27,12 @@ use Rattle.definition.specs.declared.query.Refusal.the-variants.{Unreachable}
 use Rattle.definition.specs.declared.query.Response.the-variants.{Refused}
 use Rattle.soundness.specs.Always.{Always, Apart, Distinct, Ends, EntryInOrder, Every, Expected, FinishesFrame, Follows, HasHead, HeadsOn, InOrder, Keeps, Known, NeverUnreachable, goalsOf}
 use Rattle.soundness.specs.Statement.{EveryLine}
-use Rattle.soundness.proofs.Logic.{and-left, and-right, of-true}
+use Rattle.soundness.proofs.Logic.{and-left, and-right, clash, of-true}
 use Rattle.soundness.proofs.Support.{step}
 use Rattle.soundness.proofs.World.{BookOk, World}
 use Rattle.soundness.proofs.Counters.{Reads}
 use Rattle.soundness.proofs.Assumed.{A, Base, basesOf, length-bases}
-use Rattle.soundness.proofs.Inv.{After, BasesOk, EntryOk, Inv, goals-here, goalsIn, known-bound}
+use Rattle.soundness.proofs.Inv.{After, BasesOk, EntryOk, State, goals-here, goalsIn, known-bound}
 use Rattle.soundness.proofs.Parts.{Claims}
 use Rattle.soundness.proofs.Settle.{ends}
 use Rattle.soundness.proofs.Runs.{TaskAfter}
@@ -61,7 +61,7 @@ module _ (b : Book) (ok : BookOk anyKind b) where
   entries-ok xs L [] v = tt
   entries-ok xs L (e ∷ es) v = (record { order = v .0; claims = tt }, entries-ok xs L es (v .1))
 
-  inv-of : (g : Graph) → InOrder (b .header) g → Inv W (basesOf (g .stack)) (Known (g .stack)) g
+  inv-of : (g : Graph) → InOrder (b .header) g → State W (basesOf (g .stack)) g
   unfolding any-book
   inv-of g v =
       record {
@@ -78,7 +78,7 @@ module _ (b : Book) (ok : BookOk anyKind b) where
   order-of xs L [] v = tt
   order-of xs L (e ∷ es) v = (v .0 .order, order-of xs L es (v .1))
 
-  in-order : (xs : List Base) (g : Graph) → Inv W xs (Known (g .stack)) g → Distinct (goalsIn xs) → InOrder (b .header) g
+  in-order : (xs : List Base) (g : Graph) → State W xs g → Distinct (goalsIn xs) → InOrder (b .header) g
   unfolding any-book
   in-order xs g v d =
       record {
@@ -92,26 +92,31 @@ module _ (b : Book) (ok : BookOk anyKind b) where
   distinct-bases : (s : Stack) → Distinct (goalsOf s) → Distinct (goalsIn (basesOf s))
   distinct-bases s d = subst (λ (l : List ℕ). Distinct l) (sym (goals-here s (basesOf s) refl)) d
 
-  after-keeps : (g : Graph) → InOrder (b .header) g → (P : Reads → Answer → Type 0) (o : Outcome) → After W (basesOf (g .stack)) g P o → Keeps (b .header) g o
+  after-keeps : (g : Graph) → InOrder (b .header) g → (P : Reads → Answer → Type 0) (o : Outcome) → After W (basesOf (g .stack)) g P o
+      → Keeps (b .header) g o
   after-keeps g v P (Done g′ a) (d, s, p) = (
     in-order (basesOf (g .stack)) g′ (s .inv) (distinct-bases (g .stack) (v .distinct)),
     sym (goals-here (g′ .stack) (basesOf (g .stack)) (s .inv .here)) ∙ goals-here (g .stack) (basesOf (g .stack)) refl,
   )
   after-keeps g v P (Stopped r) t = t
 
-  keeps-order : (off : ℕ) (g : Graph) (goal : ℕ) (step : PathKind) (lower : Bool) → InOrder (b .header) g → length (g .stack) + off ≡ b .header .goals → goal < b .header .goals
+  keeps-order : (off : ℕ) (g : Graph) (goal : ℕ) (step : PathKind) (lower : Bool) → InOrder (b .header) g
+      → length (g .stack) + off ≡ b .header .goals → goal < b .header .goals
       → Keeps (b .header) g (evaluateGoal b off g goal step lower)
   unfolding any-book
   keeps-order off g goal step lower v e l =
       after-keeps g v (Claims W (basesOf (g .stack)) goal) (evaluateGoal b off g goal step lower)
-      (evaluate-ok W off (basesOf (g .stack)) (bases-ok (g .stack) (v .distinct)) (omega (arith, length-bases (g .stack))) g goal step lower (inv-of g v) l (λ z. tt))
+      (evaluate-ok W off (basesOf (g .stack)) (bases-ok (g .stack) (v .distinct)) (omega (arith, length-bases (g .stack))) g goal step lower
+      (inv-of g v) l (λ z. tt))
 
   -- ---- a frame
-  entries-on : (n : ℕ) (xs : List Base) (L : ℕ → Type 0) → ((i : ℕ) → L i → i < n) → (es : List Entry) → Every (EntryOk W xs L) es → Every (HeadsOn n) es
+  entries-on : (n : ℕ) (xs : List Base) (L : ℕ → Type 0) → ((i : ℕ) → L i → i < n) → (es : List Entry) → Every (EntryOk W xs L) es
+      → Every (HeadsOn n) es
   entries-on n xs L h [] v = tt
   entries-on n xs L h (e ∷ es) v = ((v .0 .order .notEmpty, λ i p. h i (v .0 .order .known i p)), entries-on n xs L h es (v .1))
 
-  finished-frame : (xs : List Base) (fs : Stack) (goal available : ℕ) (t : TaskOutcome) → TaskAfter W xs fs goal available t → FinishesFrame fs available t
+  finished-frame : (xs : List Base) (fs : Stack) (goal available : ℕ) (t : TaskOutcome) → TaskAfter W xs fs goal available t
+      → FinishesFrame fs available t
   finished-frame xs fs goal available (Evaluated g r) v =
       record {
         stack = v .stack;
@@ -125,19 +130,24 @@ module _ (b : Book) (ok : BookOk anyKind b) where
       low i (inr p) = v .below i p
   finished-frame xs fs goal available (TaskStopped r) t = t
 
-  finishes-frame : (off left : ℕ) (g : Graph) (goal : ℕ) (step : PathKind) (available : ℕ) → InOrder (b .header) g → length (g .stack) + suc off ≡ b .header .goals
+  finishes-frame : (off left : ℕ) (g : Graph) (goal : ℕ) (step : PathKind) (available : ℕ) → InOrder (b .header) g
+      → length (g .stack) + suc off ≡ b .header .goals
       → goal < b .header .goals → available ≤ b .header .top → stackFind (g .stack) goal ≡ none
       → FinishesFrame (g .stack) available
       (evaluateGoalInTask (computeGoal (evaluateGoal b off) b goal) left false (withStack g (newFrame (b .header) goal step available ∷ g .stack)))
   unfolding any-book
   finishes-frame off left g goal step available v e l deep z =
-      finished-frame (basesOf (g .stack)) (g .stack) goal available (evaluateGoalInTask (computeGoal (evaluateGoal b off) b goal) left false (withStack g (newFrame (b .header) goal step available ∷ g .stack)))
+      finished-frame (basesOf (g .stack)) (g .stack) goal available
+      (evaluateGoalInTask (computeGoal (evaluateGoal b off) b goal) left false
+      (withStack g (newFrame (b .header) goal step available ∷ g .stack)))
       (frame-ok W (basesOf (g .stack)) (bases-ok (g .stack) (v .distinct)) g (inv-of g v) (omega arith) goal l step available deep (λ y. tt)
       (computeGoal (evaluateGoal b off) b)
-      (compute-ok W (basesOf (g .stack)) (evaluateGoal b off) (λ x s. evaluate-ok W off (x ∷ basesOf (g .stack)) s (omega (arith, length-bases (g .stack)))))
+      (compute-ok W (basesOf (g .stack)) (evaluateGoal b off)
+      (λ x s. evaluate-ok W off (x ∷ basesOf (g .stack)) s (omega (arith, length-bases (g .stack)))))
       (rw z at (find-at goal (g .stack))) left)
 
-  starts-in-order : (cache work : List ℕ) (goal depth : ℕ) → firstFailed (checks b cache work goal depth) ≡ none → InOrder (b .header) (newGraph depth cache)
+  starts-in-order : (cache work : List ℕ) (goal depth : ℕ) → firstFailed (checks b cache work goal depth) ≡ none
+      → InOrder (b .header) (newGraph depth cache)
   starts-in-order cache work goal depth e =
       let p : Passed (b .header) cache goal depth = passed b cache work goal depth e in
       record { root = p .shallow; frames = tt; distinct = tt; entries = tt; cache = p .order }
@@ -158,10 +168,12 @@ module _ (h : Header) (goal available : ℕ) (applicable : NestedGoals → Bool)
   hit-overflow o k true e z =
       let w : cacheData o true ≡ d = cc in
       omega (arith, k (and-left (slotHeld o) (applicable (slotNested o)) (of-true _ e)), ap (λ (x : CacheData). x .requiredDepth) w)
-  hit-overflow o k false e z = let w : _≡_ {A = ℕ} 0 1 = cc in absurd (omega arith)
+  hit-overflow o k false e z = clash (cc)
 
-  hit-success : (s o : List ℕ) → (T (slotHeld o) → slotDepth o ≡ available) → (t : Bool) → (slotHeld s && leb (slotDepth s) available && applicable (slotNested s)) ≡ t
-      → _≡_ {A = Option CacheData} (elim t [ true ↦ some (cacheData s false) | false ↦ getWithOverflow applicable o ]) (some d) → d .requiredDepth ≤ available
+  hit-success : (s o : List ℕ) → (T (slotHeld o) → slotDepth o ≡ available) → (t : Bool)
+      → (slotHeld s && leb (slotDepth s) available && applicable (slotNested s)) ≡ t
+      → _≡_ {A = Option CacheData} (elim t [ true ↦ some (cacheData s false) | false ↦ getWithOverflow applicable o ]) (some d)
+      → d .requiredDepth ≤ available
   hit-success s o k true e z =
       let w : cacheData s false ≡ d = cc in
       omega (arith, leb→le (slotDepth s) available (low (of-true _ e)), ap (λ (x : CacheData). x .requiredDepth) w)
@@ -177,7 +189,8 @@ in-order-follows h g v =
       noEntry = no-entries (g .stack) (g .provisionalCache) (known-entries h (g .stack) (g .provisionalCache) (v .entries));
       found = λ goal l e z. all-on-stack h (g .stack) goal (v .frames) (v .distinct) e l (rw z at (find-at goal (g .stack)));
       hit = λ goal available applicable d l m z.
-          hit-success h goal available applicable d (slotAt h (g .globalCache) goal successSlot) (slotAt h (g .globalCache) goal (overflowSlot available)) (v .cache .depths goal available l m) _ refl z;
+          hit-success h goal available applicable d (slotAt h (g .globalCache) goal successSlot)
+          (slotAt h (g .globalCache) goal (overflowSlot available)) (v .cache .depths goal available l m) _ refl z;
     }
 
 -- ---- the root
@@ -187,7 +200,7 @@ ends-of h g₀ e (Done g a) (v, same) = let z : g .stack ≡ [] = no-frames (g .
   where
     no-frames : (s : Stack) → goalsOf s ≡ [] → s ≡ []
     no-frames [] q = refl
-    no-frames (f ∷ fs) q = let w : _≡_ {A = ℕ} 0 1 = cc in absurd (omega arith)
+    no-frames (f ∷ fs) q = clash (cc)
 
 pub always-in-order : (b : Book) → BookOk anyKind b → Always b
 always-in-order b ok =
@@ -197,7 +210,8 @@ always-in-order b ok =
       finishes = finishes-frame b ok;
       ends = λ cache work goal depth e.
           ends-of (b .header) (newGraph depth cache) refl (evaluateRoot b cache goal depth)
-          (keeps-order b ok (b .header .goals) (newGraph depth cache) goal Inductive true (starts-in-order b ok cache work goal depth e) (omega arith) (passed b cache work goal depth e .inside));
+          (keeps-order b ok (b .header .goals) (newGraph depth cache) goal Inductive true (starts-in-order b ok cache work goal depth e)
+          (omega arith) (passed b cache work goal depth e .inside));
     }
 
 -- ---- the query
@@ -209,11 +223,11 @@ pub any-read : (bytes : List ℕ) (b : Book) → readBook bytes ≡ Accepted b �
 any-read bytes b e = book-read anyKind (λ l. Unit {0}) (λ n l p c i. (i, tt)) bytes b e (λ ls f. any-line ls)
 
 not-expected : (r : Refusal) → Expected r → r ≢ Unreachable
-not-expected r (inl e) z = let w : _≡_ {A = ℕ} 0 1 = cc in omega arith
-not-expected r (inr e) z = let w : _≡_ {A = ℕ} 0 1 = cc in omega arith
+not-expected r (inl e) z = clash (cc)
+not-expected r (inr e) z = clash (cc)
 
 ended : (cache work : List ℕ) (o : Outcome) → Ends o → replyOf cache work o .response ≢ Refused Unreachable
-ended cache work (Done g a) v z = let w : _≡_ {A = ℕ} 0 1 = cc in omega arith
+ended cache work (Done g a) v z = clash (cc)
 ended cache work (Stopped r) v z = not-expected r v (cc)
 
 abbrev Reachable : List Check → Type 0
@@ -221,7 +235,7 @@ Reachable [] = Unit {0}
 Reachable (c ∷ cs) = (c .otherwise ≢ Unreachable) × Reachable cs
 
 checked : (cs : List Check) → Reachable cs → firstFailed cs ≢ some Unreachable
-checked [] h e = let w : _≡_ {A = ℕ} 0 1 = cc in omega arith
+checked [] h e = clash (cc)
 checked (c ∷ cs) h e = one (c .passed) (checked cs (h .1)) e
   where
     one : (t : Bool) → firstFailed cs ≢ some Unreachable → elim t [ true ↦ firstFailed cs | false ↦ some (c .otherwise) ] ≢ some Unreachable
@@ -231,14 +245,14 @@ checked (c ∷ cs) h e = one (c .passed) (checked cs (h .1)) e
 -- the five refusals before the evaluation
 checks-reachable : (b : Book) (cache work : List ℕ) (goal depth : ℕ) → Reachable (checks b cache work goal depth)
 checks-reachable b cache work goal depth = (
-  λ e. let w : _≡_ {A = ℕ} 0 1 = cc in omega arith,
+  λ e. clash (cc),
   (
-    λ e. let w : _≡_ {A = ℕ} 0 1 = cc in omega arith,
+    λ e. clash (cc),
     (
-      λ e. let w : _≡_ {A = ℕ} 0 1 = cc in omega arith,
+      λ e. clash (cc),
       (
-        λ e. let w : _≡_ {A = ℕ} 0 1 = cc in omega arith,
-        (λ e. let w : _≡_ {A = ℕ} 0 1 = cc in omega arith, tt),
+        λ e. clash (cc),
+        (λ e. clash (cc), tt),
       ),
     ),
   ),
@@ -256,7 +270,8 @@ query-reaches b v cache work goal depth (some r) e z =
 
 read-reaches : (bytes cache work : List ℕ) (goal depth : ℕ) (o : BookRead) → readBook bytes ≡ o
     → Reaches (elim o [ Rejected r ↦ untouched r cache work | Accepted b ↦ queryBook b cache work goal depth ])
-read-reaches bytes cache work goal depth (Accepted b) e z = query-reaches b (always-in-order b (any-read bytes b e)) cache work goal depth (firstFailed (checks b cache work goal depth)) refl z
+read-reaches bytes cache work goal depth (Accepted b) e z =
+    query-reaches b (always-in-order b (any-read bytes b e)) cache work goal depth (firstFailed (checks b cache work goal depth)) refl z
 read-reaches bytes cache work goal depth (Rejected r) e z =
     never-rejected anyKind (λ l. Unit {0}) (λ n l p c i. (i, tt)) bytes r e (λ ls f. any-line ls) (cc)
 

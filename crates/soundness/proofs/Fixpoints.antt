@@ -66,7 +66,9 @@ module _ (b : Book) (whole : length (b .parts) ≡ b .header .goals) (u : Bool) 
   least-is =
       rw (rounds-iter b u (b .header .goals) noGoals)
       (record {
-        closed = climb (λ p. p) (round b u) same-mono (b .header .goals) round-beyond noGoals (λ g t. absurd t, λ g l t. absurd (omega (arith, round-inside noGoals g t)));
+        closed =
+            climb (λ p. p) (round b u) same-mono (b .header .goals) round-beyond noGoals
+            (λ g t. absurd t, λ g l t. absurd (omega (arith, round-inside noGoals g t)));
         inEvery = λ t h. iter-keeps (λ s. s ⊆ t) (round b u) (λ s st g r. h g (same-mono s t st g r)) (b .header .goals) noGoals (λ g r. absurd r);
       })
 
@@ -75,7 +77,9 @@ module _ (b : Book) (whole : length (b .parts) ≡ b .header .goals) (u : Bool) 
       rw (rounds-iter b u (b .header .goals) (allGoals b))
       (record {
         selfSupporting = fall (λ p. p) (round b u) same-mono (b .header .goals) round-beyond (allGoals b) inside-all beyond-all;
-        hasEvery = λ t h. iter-keeps (λ s. t ⊆ s) (round b u) (λ s ts g r. same-mono t s ts g (h g r)) (b .header .goals) (allGoals b) (λ g r. lt→ltb g (b .header .goals) (round-inside t g (h g r)));
+        hasEvery =
+            λ t h. iter-keeps (λ s. t ⊆ s) (round b u) (λ s ts g r. same-mono t s ts g (h g r)) (b .header .goals) (allGoals b)
+            (λ g r. lt→ltb g (b .header .goals) (round-inside t g (h g r)));
       })
     where
       inside-all : round b u (allGoals b) ⊆ allGoals b
@@ -87,7 +91,8 @@ module _ (b : Book) (whole : length (b .parts) ≡ b .header .goals) (u : Bool) 
 -- a higher reading has more
 pub least-reading : (b : Book) → length (b .parts) ≡ b .header .goals → least b false ⊆ least b true
 least-reading b w =
-    least-is b w false .inEvery (least b true) (λ g t. least-is b w true .closed g (round-mono b false true (least b true) (least b true) (λ u. tt) (λ k s. s) g t))
+    least-is b w false .inEvery (least b true)
+    (λ g t. least-is b w true .closed g (round-mono b false true (least b true) (least b true) (λ u. tt) (λ k s. s) g t))
 
 pub greatest-reading : (b : Book) → length (b .parts) ≡ b .header .goals → greatest b false ⊆ greatest b true
 greatest-reading b w =

@@ -60,7 +60,8 @@ pub record EntryOk (W : World) (xs : List Base) (L : ℕ → Type 0) (e : Entry)
 
 pub record CacheOk (W : World) (cache : List ℕ) : Type 0 where
   pub order : CacheInOrder (W .book .header) cache
-  pub claims : (goal slot : ℕ) → goal < W .book .header .goals → slot < W .book .header .top + 2 → T (slotHeld (slotAt (W .book .header) cache goal slot))
+  pub claims : (goal slot : ℕ) → goal < W .book .header .goals → slot < W .book .header .top + 2
+      → T (slotHeld (slotAt (W .book .header) cache goal slot))
       → T (W .claim (slotResult (slotAt (W .book .header) cache goal slot)) nobody goal)
 
 -- xs: what of the stack does not change; L: the indexes that an entry may name
@@ -70,6 +71,10 @@ pub record Inv (W : World) (xs : List Base) (L : ℕ → Type 0) (g : Graph) : T
   pub frames : FramesInOrder (W .book .header) (g .stack)
   pub entries : Every (EntryOk W xs L) (g .provisionalCache)
   pub cache : CacheOk W (g .globalCache)
+
+-- an entry may name what the stack says is a head
+abbrev pub State : World → List Base → Graph → Type 0
+State W xs g = Inv W xs (Known (g .stack)) g
 
 -- ---- what a step promises
 abbrev pub trackedIn : Option (List HeadUsages) → Reads
@@ -94,7 +99,7 @@ pub data Gain : Stack → Stack → Reads → Type 0 where
 
 pub record Step (W : World) (xs : List Base) (g g′ : Graph) (d : Reads) : Type 0 where
   pub gain : Gain (g .stack) (g′ .stack) d
-  pub inv : Inv W xs (Known (g′ .stack)) g′
+  pub inv : State W xs g′
 
 -- an outcome after g: one of the two refusals, or a step whose reads and answer are P
 abbrev pub After : World → List Base → Graph → (Reads → Answer → Type 0) → Outcome → Type 0

@@ -23,5 +23,7 @@ pub mod Evaluate
 pub mod Reading
 pub mod Books
 pub mod Queries
+pub mod Demand3
 pub mod EveryBook
 pub mod Theorems
+pub mod Sample

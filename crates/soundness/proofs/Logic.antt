@@ -2,6 +2,7 @@
 use mathlib.Core.Bool.{Bool, _&&_, _||_, false, not, true}
 use mathlib.Core.Path.{_≡_}
 use Prim.Native.Nat.{ℕ}
+use native.Mathlib.Omega.{arith}
 use lib.Dec.{T, T-not, eqb, eqb→eq}
 use Rattle.soundness.specs.Sets.{Goals, _⊆_, noGoals}
 
@@ -23,6 +24,10 @@ single g k = eqb k g
 
 pub is-single : (p : Goals) (g : ℕ) → T (p g) → single g ⊆ p
 is-single p g t k e = rw (eqb→eq k g e) t
+
+-- from an equation of two constructors: `clash (cc)`
+pub clash {ℓ} : {C : Type ℓ} → _≡_ {A = ℕ} 0 1 → C
+clash e = absurd (omega arith)
 
 pub both : (a b : Bool) → T a → T b → T (a && b)
 both true b s t = t

@@ -18,7 +18,6 @@ use Rattle.definition.specs.declared.answers.Answer.the-variants.{No, Undecided
 use Rattle.definition.specs.declared.paths.PathKind.{PathKind}
 use Rattle.definition.specs.declared.query.Refusal.the-variants.{Unreachable}
 use Rattle.definition.specs.declared.usages.HeadUsages.{HeadUsages}
-use Rattle.soundness.specs.Always.{Known}
 use Rattle.soundness.specs.Sets.{Goals, _⊆_, everyHolds, holds, someHolds}
 use Rattle.soundness.proofs.Logic.{both, not-and-left, not-and-right, not-or, of-true, or-left, or-right, outside, twice}
 use Rattle.soundness.proofs.Support.{step}
@@ -26,7 +25,7 @@ use Rattle.soundness.proofs.Certain.{no-holds-mono, noHolds, yes-holds-
 use Rattle.soundness.proofs.World.{AllCalls, CallOk, Calls, Right, RightOf, World}
 use Rattle.soundness.proofs.Counters.{Reads, counter, nothing, plus}
 use Rattle.soundness.proofs.Assumed.{A, A-mono, Base, Within}
-use Rattle.soundness.proofs.Inv.{After, Inv, Step}
+use Rattle.soundness.proofs.Inv.{After, State, Step}
 use Rattle.soundness.proofs.Steps.{after-from, after-map, after-then, step-nothing, step-trans}
 use Rattle.soundness.proofs.Candidates.{Untracked, can-be-ignored, enter-step, finish-step, finish-untracked, ignore-step, merged, no-candidate, tracked-since}
 use Rattle.soundness.proofs.Answers.{both-no, both-yes, differ, neither, same→≡}
@@ -45,7 +44,8 @@ RightGoal W xs goal d = RightOf (W .book) (W .claim Yes (A W xs d)) (W .claim No
 
 abbrev pub EvalOk : World → List Base → Evaluator → Type 0
 EvalOk W xs evaluate =
-    (g : Graph) (goal : ℕ) (step : PathKind) (lower : Bool) → Inv W xs (Known (g .stack)) g → goal < W .book .header .goals → (0 < length xs → T (W .allowed step))
+    (g : Graph) (goal : ℕ) (step : PathKind) (lower : Bool) → State W xs g → goal < W .book .header .goals
+    → (0 < length xs → T (W .allowed step))
     → After W xs g (Claims W xs goal) (evaluate g goal step lower)
 
 module _ (W : World) (xs : List Base) where
@@ -109,15 +109,23 @@ module _ (W : World) (xs : List Base) where
   pick-end D combined = record { whenYes = λ e h. absurd (h e); whenNo = λ e. (e, λ i k l h. h, tt) }
 
   all-stop : (combined : Answer) (p : Part) (ps : Parts) (d : Reads) → T (noHolds (N d) p) → ForAll combined (Then p ps) d No
-  all-stop combined p ps d t = record { whenYes = λ e. absurd (differ No Yes refl e); whenNo = λ e h. not-and-left (holds true (outside (N d)) p) (everyHolds true (outside (N d)) ps) t }
+  all-stop combined p ps d t =
+      record {
+        whenYes = λ e. absurd (differ No Yes refl e);
+        whenNo = λ e h. not-and-left (holds true (outside (N d)) p)
+            (everyHolds true (outside (N d)) ps) t;
+      }
 
   any-stop : (combined : Answer) (p : Part) (ps : Parts) (d : Reads) → T (yesHolds (Y d) p) → ForAny combined (Then p ps) d Yes
-  any-stop combined p ps d t = record { whenYes = λ e h. or-left (yesHolds (Y d) p) (someHolds false (Y d) ps) t; whenNo = λ e. absurd (differ Yes No refl e) }
+  any-stop combined p ps d t =
+      record { whenYes = λ e h. or-left (yesHolds (Y d) p) (someHolds false (Y d) ps) t; whenNo = λ e. absurd (differ Yes No refl e) }
 
   pick-stop : (D : Reads) (combined : Answer) (p : Part) (ps : Parts) (d : Reads) → T (yesHolds (Y d) p) → ForPick D combined (Then p ps) d Yes
-  pick-stop D combined p ps d t = record { whenYes = λ e h. or-left (yesHolds (Y d) p) (someHolds false (Y d) ps) t; whenNo = λ e. absurd (differ Yes No refl e) }
+  pick-stop D combined p ps d t =
+      record { whenYes = λ e h. or-left (yesHolds (Y d) p) (someHolds false (Y d) ps) t; whenNo = λ e. absurd (differ Yes No refl e) }
 
-  all-more : (combined a : Answer) (p : Part) (ps : Parts) (d e : Reads) (r : Answer) → a ≢ No → RightAt W xs p d a → ForAll (combine combined a) ps e r → ForAll combined (Then p ps) (plus d e) r
+  all-more : (combined a : Answer) (p : Part) (ps : Parts) (d e : Reads) (r : Answer) → a ≢ No → RightAt W xs p d a
+      → ForAll (combine combined a) ps e r → ForAll combined (Then p ps) (plus d e) r
   all-more combined a p ps d e r h t q =
       record {
         whenYes = λ z n.
@@ -133,7 +141,8 @@ module _ (W : World) (xs : List Base) where
             (no-mono (Node All ps) e (plus d e) (second d e) (q .whenNo z (neither No combined a n h)));
       }
 
-  any-more : (combined a : Answer) (p : Part) (ps : Parts) (d e : Reads) (r : Answer) → a ≢ Yes → RightAt W xs p d a → ForAny (combine combined a) ps e r → ForAny combined (Then p ps) (plus d e) r
+  any-more : (combined a : Answer) (p : Part) (ps : Parts) (d e : Reads) (r : Answer) → a ≢ Yes → RightAt W xs p d a
+      → ForAny (combine combined a) ps e r → ForAny combined (Then p ps) (plus d e) r
   any-more combined a p ps d e r h t q =
       record {
         whenYes = λ z n.
@@ -168,13 +177,12 @@ module _ (W : World) (xs : List Base) (evaluate : Evaluator) (ok : EvalOk W xs e
   abbrev G : ℕ
   G = W .book .header .goals
 
-  abbrev Accepted : Graph → Type 0
-  Accepted g = Inv W xs (Known (g .stack)) g
-
   all-then : (p : Part) (ps : Parts) (combined : Answer) (g : Graph) (o : Outcome) → After W xs g (RightAt W xs p) o
-      → ((w : Answer) (g′ : Graph) → Accepted g′ → After W xs g′ (ForAll W xs w ps) (evalAll evaluate G ps w g′))
-      → After W xs g (ForAll W xs combined (Then p ps)) (andThen o λ g1 a. elim (sameAnswer a No) [ true ↦ Done g1 No | false ↦ evalAll evaluate G ps (combine combined a) g1 ])
-  all-then p ps combined g o r ih = after-then W xs g (RightAt W xs p) (ForAll W xs combined (Then p ps)) o _ r λ g1 a d s t. go g1 a d s t (sameAnswer a No) refl
+      → ((w : Answer) (g′ : Graph) → State W xs g′ → After W xs g′ (ForAll W xs w ps) (evalAll evaluate G ps w g′))
+      → After W xs g (ForAll W xs combined (Then p ps))
+      (andThen o λ g1 a. elim (sameAnswer a No) [ true ↦ Done g1 No | false ↦ evalAll evaluate G ps (combine combined a) g1 ])
+  all-then p ps combined g o r ih =
+      after-then W xs g (RightAt W xs p) (ForAll W xs combined (Then p ps)) o _ r λ g1 a d s t. go g1 a d s t (sameAnswer a No) refl
     where
       go : (g1 : Graph) (a : Answer) (d : Reads) → Step W xs g g1 d → RightAt W xs p d a → (t : Bool) → sameAnswer a No ≡ t
           → After W xs g (ForAll W xs combined (Then p ps)) (elim t [ true ↦ Done g1 No | false ↦ evalAll evaluate G ps (combine combined a) g1 ])
@@ -185,9 +193,11 @@ module _ (W : World) (xs : List Base) (evaluate : Evaluator) (ok : EvalOk W xs e
           (evalAll evaluate G ps (combine combined a) g1) (ih (combine combined a) g1 (s .inv))
 
   any-then : (p : Part) (ps : Parts) (combined : Answer) (g : Graph) (o : Outcome) → After W xs g (RightAt W xs p) o
-      → ((w : Answer) (g′ : Graph) → Accepted g′ → After W xs g′ (ForAny W xs w ps) (evalAny evaluate G ps w g′))
-      → After W xs g (ForAny W xs combined (Then p ps)) (andThen o λ g1 a. elim (sameAnswer a Yes) [ true ↦ Done g1 Yes | false ↦ evalAny evaluate G ps (combine combined a) g1 ])
-  any-then p ps combined g o r ih = after-then W xs g (RightAt W xs p) (ForAny W xs combined (Then p ps)) o _ r λ g1 a d s t. go g1 a d s t (sameAnswer a Yes) refl
+      → ((w : Answer) (g′ : Graph) → State W xs g′ → After W xs g′ (ForAny W xs w ps) (evalAny evaluate G ps w g′))
+      → After W xs g (ForAny W xs combined (Then p ps))
+      (andThen o λ g1 a. elim (sameAnswer a Yes) [ true ↦ Done g1 Yes | false ↦ evalAny evaluate G ps (combine combined a) g1 ])
+  any-then p ps combined g o r ih =
+      after-then W xs g (RightAt W xs p) (ForAny W xs combined (Then p ps)) o _ r λ g1 a d s t. go g1 a d s t (sameAnswer a Yes) refl
     where
       go : (g1 : Graph) (a : Answer) (d : Reads) → Step W xs g g1 d → RightAt W xs p d a → (t : Bool) → sameAnswer a Yes ≡ t
           → After W xs g (ForAny W xs combined (Then p ps)) (elim t [ true ↦ Done g1 Yes | false ↦ evalAny evaluate G ps (combine combined a) g1 ])
@@ -205,11 +215,12 @@ module _ (W : World) (xs : List Base) (evaluate : Evaluator) (ok : EvalOk W xs e
   Fits O F D = (i : ℕ) (k : PathKind) → O i k + F i k ≤ D i k
 
   -- a candidate, entered at g and left after g1
-  candidate-step : (g₀ g g1 : Graph) (D d : Reads) → Accepted g → Step W xs g₀ g D → Step W xs (enterSingleCandidate G g) g1 d
+  candidate-step : (g₀ g g1 : Graph) (D d : Reads) → State W xs g → Step W xs g₀ g D → Step W xs (enterSingleCandidate G g) g1 d
       → Step W xs g₀ (finishSingleCandidate g1) (plus (plus (plus D nothing) d) nothing)
   candidate-step g₀ g g1 D d v s t =
       step-trans W xs g₀ g1 _ (plus (plus D nothing) d) nothing
-      (step-trans W xs g₀ (enterSingleCandidate G g) g1 (plus D nothing) d (step-trans W xs g₀ g (enterSingleCandidate G g) D nothing s (enter-step W xs g v)) t)
+      (step-trans W xs g₀ (enterSingleCandidate G g) g1 (plus D nothing) d
+      (step-trans W xs g₀ g (enterSingleCandidate G g) D nothing s (enter-step W xs g v)) t)
       (finish-step W xs g1 (t .inv))
 
   finished-atMost : (g g1 : Graph) (d : Reads) → Step W xs (enterSingleCandidate G g) g1 d → AtMost (finishedUsages G g1) d
@@ -224,15 +235,18 @@ module _ (W : World) (xs : List Base) (evaluate : Evaluator) (ok : EvalOk W xs e
 
   abbrev MetOk : Parts → Type 0
   MetOk ps =
-      (combined : Answer) (others : List HeadUsages) (g₀ g : Graph) (D O F : Reads) → Step W xs g₀ g D → AtMost others O → Fits O F D → Untracked (g .stack)
+      (combined : Answer) (others : List HeadUsages) (g₀ g : Graph) (D O F : Reads) → Step W xs g₀ g D → AtMost others O → Fits O F D
+      → Untracked (g .stack)
       → After W xs g₀ (Met F) (evalPick evaluate G ps true combined others g)
 
   abbrev PickOk : Parts → Type 0
   PickOk ps =
-      (combined : Answer) (others : List HeadUsages) (g₀ g : Graph) (D O : Reads) → Step W xs g₀ g D → AtMost others O → ((i : ℕ) (k : PathKind) → O i k ≤ D i k)
+      (combined : Answer) (others : List HeadUsages) (g₀ g : Graph) (D O : Reads) → Step W xs g₀ g D → AtMost others O
+      → ((i : ℕ) (k : PathKind) → O i k ≤ D i k)
       → After W xs g₀ (ForPick W xs D combined ps) (evalPick evaluate G ps false combined others g)
 
-  met-then : (p : Part) (ps : Parts) → ((g : Graph) → Accepted g → After W xs g (RightAt W xs p) (evalPart evaluate G p g)) → MetOk ps → MetOk (Then p ps)
+  met-then : (p : Part) (ps : Parts) → ((g : Graph) → State W xs g → After W xs g (RightAt W xs p) (evalPart evaluate G p g)) → MetOk ps
+      → MetOk (Then p ps)
   met-then p ps r ih combined others g₀ g D O F s a f u =
       go (evalPart evaluate G p (enterSingleCandidate G g)) (r (enterSingleCandidate G g) (enter-step W xs g (s .inv) .inv))
     where
@@ -247,21 +261,25 @@ module _ (W : World) (xs : List Base) (evaluate : Evaluator) (ok : EvalOk W xs e
           (λ i k. omega (arith, f i k))
           (finish-untracked (g1 .stack))
 
-  pick-then : (p : Part) (ps : Parts) → ((g : Graph) → Accepted g → After W xs g (RightAt W xs p) (evalPart evaluate G p g)) → MetOk ps → PickOk ps → PickOk (Then p ps)
+  pick-then : (p : Part) (ps : Parts) → ((g : Graph) → State W xs g → After W xs g (RightAt W xs p) (evalPart evaluate G p g)) → MetOk ps → PickOk ps
+      → PickOk (Then p ps)
   pick-then p ps r met ih combined others g₀ g D O s a f =
       go (evalPart evaluate G p (enterSingleCandidate G g)) (r (enterSingleCandidate G g) (enter-step W xs g (s .inv) .inv))
     where
-      next : (g1 : Graph) (b : Answer) (d : Reads) → Step W xs (enterSingleCandidate G g) g1 d → RightAt W xs p d b → (t : Bool) → sameAnswer b Yes ≡ t
+      next : (g1 : Graph) (b : Answer) (d : Reads) → Step W xs (enterSingleCandidate G g) g1 d → RightAt W xs p d b → (t : Bool)
+          → sameAnswer b Yes ≡ t
           → After W xs g₀ (ForPick W xs D combined (Then p ps)) (evalPick evaluate G ps (false || t) (combine combined b)
           (mergeUnless (not false && t) others (finishedUsages G g1)) (finishSingleCandidate g1))
       next g1 b d t q true e =
           after-map W xs g₀ (Met d) (ForPick W xs D combined (Then p ps))
           (λ d′ a′ m. rw (m .0, m .1) (pick-stop W xs D combined p ps d (q .whenYes (same→≡ b Yes (of-true (sameAnswer b Yes) e)))))
           (evalPick evaluate G ps true (combine combined b) others (finishSingleCandidate g1))
-          (met (combine combined b) others g₀ (finishSingleCandidate g1) _ O d (candidate-step g₀ g g1 D d (s .inv) s t) a (λ i k. omega (arith, f i k)) (finish-untracked (g1 .stack)))
+          (met (combine combined b) others g₀ (finishSingleCandidate g1) _ O d (candidate-step g₀ g g1 D d (s .inv) s t) a
+          (λ i k. omega (arith, f i k)) (finish-untracked (g1 .stack)))
       next g1 b d t q false e =
           after-map W xs g₀ (ForPick W xs (plus (plus (plus D nothing) d) nothing) (combine combined b) ps) (ForPick W xs D combined (Then p ps))
-          (λ d′ a′ m. pick-more W xs D (plus (plus (plus D nothing) d) nothing) combined b p ps d d′ a′ (differ b Yes e) q (λ i k l h. omega arith) (λ i k l h. omega arith) m)
+          (λ d′ a′ m. pick-more W xs D (plus (plus (plus D nothing) d) nothing) combined b p ps d d′ a′ (differ b Yes e) q (λ i k l h. omega arith)
+          (λ i k l h. omega arith) m)
           (evalPick evaluate G ps false (combine combined b) (mergeUsages others (finishedUsages G g1)) (finishSingleCandidate g1))
           (ih (combine combined b) (mergeUsages others (finishedUsages G g1)) g₀ (finishSingleCandidate g1) _ (plus O d)
           (candidate-step g₀ g g1 D d (s .inv) s t)
@@ -269,40 +287,52 @@ module _ (W : World) (xs : List Base) (evaluate : Evaluator) (ok : EvalOk W xs e
           (λ i k. omega (arith, f i k)))
 
       go : (o : Outcome) → After W xs (enterSingleCandidate G g) (RightAt W xs p) o
-          → After W xs g₀ (ForPick W xs D combined (Then p ps)) (andThen o λ g1 a. evalPick evaluate G ps (false || sameAnswer a Yes) (combine combined a)
+          → After W xs g₀ (ForPick W xs D combined (Then p ps))
+          (andThen o λ g1 a. evalPick evaluate G ps (false || sameAnswer a Yes) (combine combined a)
           (mergeUnless (not false && sameAnswer a Yes) others (finishedUsages G g1)) (finishSingleCandidate g1))
       go (Stopped r) t = t
       go (Done g1 b) (d, t, q) = next g1 b d t q (sameAnswer b Yes) refl
 
-  met-end : (combined : Answer) (others : List HeadUsages) (g₀ g : Graph) (D O F : Reads) → Step W xs g₀ g D → AtMost others O → Fits O F D → Untracked (g .stack)
-      → (t : Bool) → canIgnore others (g .stack) ≡ t → After W xs g₀ (Met F) (elim t [ true ↦ Done (ignoreCandidateHeadUsages g others) Yes | false ↦ Stopped Unreachable ])
+  met-end : (combined : Answer) (others : List HeadUsages) (g₀ g : Graph) (D O F : Reads) → Step W xs g₀ g D → AtMost others O → Fits O F D
+      → Untracked (g .stack)
+      → (t : Bool) → canIgnore others (g .stack) ≡ t
+      → After W xs g₀ (Met F) (elim t [ true ↦ Done (ignoreCandidateHeadUsages g others) Yes | false ↦ Stopped Unreachable ])
   met-end combined others g₀ g D O F s a f u true e = (F, ignore-step W xs g₀ g others D O F s a f u, (refl, refl))
   met-end combined others g₀ g D O F s a f u false e = absurd (rw e at (can-be-ignored others O F (s .gain) a f))
 
   mutual
-    pub part-ok : (p : Part) → Calls (CallOk (W .allowed) G) p → (g : Graph) → Accepted g → After W xs g (RightAt W xs p) (evalPart evaluate G p g)
+    pub part-ok : (p : Part) → Calls (CallOk (W .allowed) G) p → (g : Graph) → State W xs g → After W xs g (RightAt W xs p) (evalPart evaluate G p g)
     part-ok (Call goal kind lower) c g v =
         after-map W xs g (Claims W xs goal) (RightAt W xs (Call goal kind lower)) (right-call W xs goal kind lower) (evaluate g goal kind lower)
         (ok g goal kind lower v (c .0) (λ h. c .1))
-    part-ok (Node All ps) c g v = after-map W xs g (ForAll W xs Yes ps) (RightAt W xs (Node All ps)) (right-all W xs ps) (evalAll evaluate G ps Yes g) (all-ok ps c Yes g v)
-    part-ok (Node Any ps) c g v = after-map W xs g (ForAny W xs No ps) (RightAt W xs (Node Any ps)) (right-any W xs ps) (evalAny evaluate G ps No g) (any-ok ps c No g v)
+    part-ok (Node All ps) c g v =
+        after-map W xs g (ForAll W xs Yes ps) (RightAt W xs (Node All ps)) (right-all W xs ps) (evalAll evaluate G ps Yes g) (all-ok ps c Yes g v)
+    part-ok (Node Any ps) c g v =
+        after-map W xs g (ForAny W xs No ps) (RightAt W xs (Node Any ps)) (right-any W xs ps) (evalAny evaluate G ps No g) (any-ok ps c No g v)
     part-ok (Node Pick ps) c g v =
-        after-map W xs g (ForPick W xs nothing No ps) (RightAt W xs (Node Pick ps)) (right-pick W xs nothing ps) (evalPick evaluate G ps false No (noCandidateUsages G) g)
-        (pick-ok ps c No (noCandidateUsages G) g g nothing nothing (step-nothing W xs g v) (λ i k. omega (arith, no-candidate G i k)) (λ i k. omega arith))
+        after-map W xs g (ForPick W xs nothing No ps) (RightAt W xs (Node Pick ps)) (right-pick W xs nothing ps)
+        (evalPick evaluate G ps false No (noCandidateUsages G) g)
+        (pick-ok ps c No (noCandidateUsages G) g g nothing nothing (step-nothing W xs g v) (λ i k. omega (arith, no-candidate G i k))
+        (λ i k. omega arith))
     part-ok UndecidedLine c g v = (nothing, step-nothing W xs g v, right-undecided W xs nothing)
 
-    all-ok : (ps : Parts) → AllCalls (CallOk (W .allowed) G) ps → (combined : Answer) (g : Graph) → Accepted g → After W xs g (ForAll W xs combined ps) (evalAll evaluate G ps combined g)
+    all-ok : (ps : Parts) → AllCalls (CallOk (W .allowed) G) ps → (combined : Answer) (g : Graph) → State W xs g
+        → After W xs g (ForAll W xs combined ps) (evalAll evaluate G ps combined g)
     all-ok End c combined g v = (nothing, step-nothing W xs g v, all-end W xs combined nothing)
-    all-ok (Then p ps) c combined g v = all-then p ps combined g (evalPart evaluate G p g) (part-ok p (c .0) g v) (λ w g′ v′. all-ok ps (c .1) w g′ v′)
+    all-ok (Then p ps) c combined g v =
+        all-then p ps combined g (evalPart evaluate G p g) (part-ok p (c .0) g v) (λ w g′ v′. all-ok ps (c .1) w g′ v′)
 
-    any-ok : (ps : Parts) → AllCalls (CallOk (W .allowed) G) ps → (combined : Answer) (g : Graph) → Accepted g → After W xs g (ForAny W xs combined ps) (evalAny evaluate G ps combined g)
+    any-ok : (ps : Parts) → AllCalls (CallOk (W .allowed) G) ps → (combined : Answer) (g : Graph) → State W xs g
+        → After W xs g (ForAny W xs combined ps) (evalAny evaluate G ps combined g)
     any-ok End c combined g v = (nothing, step-nothing W xs g v, any-end W xs combined nothing)
-    any-ok (Then p ps) c combined g v = any-then p ps combined g (evalPart evaluate G p g) (part-ok p (c .0) g v) (λ w g′ v′. any-ok ps (c .1) w g′ v′)
+    any-ok (Then p ps) c combined g v =
+        any-then p ps combined g (evalPart evaluate G p g) (part-ok p (c .0) g v) (λ w g′ v′. any-ok ps (c .1) w g′ v′)
 
     met-ok : (ps : Parts) → AllCalls (CallOk (W .allowed) G) ps → MetOk ps
     met-ok End c combined others g₀ g D O F s a f u = met-end combined others g₀ g D O F s a f u (canIgnore others (g .stack)) refl
     met-ok (Then p ps) c combined others g₀ g D O F s a f u =
-        met-then p ps (λ g′ v′. part-ok p (c .0) g′ v′) (λ w o h₀ h D′ O′ F′ s′ a′ f′ u′. met-ok ps (c .1) w o h₀ h D′ O′ F′ s′ a′ f′ u′) combined others g₀ g D O F s a f u
+        met-then p ps (λ g′ v′. part-ok p (c .0) g′ v′)
+        (λ w o h₀ h D′ O′ F′ s′ a′ f′ u′. met-ok ps (c .1) w o h₀ h D′ O′ F′ s′ a′ f′ u′) combined others g₀ g D O F s a f u
 
     pick-ok : (ps : Parts) → AllCalls (CallOk (W .allowed) G) ps → PickOk ps
     pick-ok End c combined others g₀ g D O s a f = (D, s, pick-end W xs D combined)

@@ -89,5 +89,6 @@ pub full-stack : (h : Header) (s : Stack) → FramesInOrder h s → Distinct (go
 full-stack h s v d = omega (arith, pigeons (h .goals) (goalsOf s) (below-goals h s v) d, length-goals s)
 
 -- so where it has that many, every goal is on it
-pub all-on-stack : (h : Header) (s : Stack) (goal : ℕ) → FramesInOrder h s → Distinct (goalsOf s) → length s ≡ h .goals → goal < h .goals → Apart goal (goalsOf s) → ⊥
+pub all-on-stack : (h : Header) (s : Stack) (goal : ℕ) → FramesInOrder h s → Distinct (goalsOf s) → length s ≡ h .goals → goal < h .goals
+    → Apart goal (goalsOf s) → ⊥
 all-on-stack h s goal v d e l a = omega (arith, pigeons (h .goals) (goal ∷ goalsOf s) (l, below-goals h s v) (a, d), length-goals s)

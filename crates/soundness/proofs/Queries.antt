@@ -7,24 +7,23 @@ use Prim.Native.Nat.{_+_, _<_, _≤_, suc, zero, ℕ}
 use native.Mathlib.Decide.{ℕ-discrete}
 use native.Mathlib.Numerals.{add-one}
 use native.Mathlib.Omega.{arith}
-use lib.Dec.{T, eqb, eqb→eq, leb, leb→le, ltb, ltb→lt}
+use lib.Dec.{T, eqb, eqb→eq, leb, leb→le, ltb→lt}
 use lib.ListN.{getD, length, replicate, set}
 use Rattle.definition.specs.CacheForm.{allAtMost, cacheFits, cacheLength, depthFits, goalsFit, slotFits, slotsFit}
 use Rattle.definition.specs.GlobalCache.{slotAt, slotDepth, slotHeld, slotNested, slotResult, slotsPerGoal}
 use Rattle.definition.specs.Graph.{Done, Graph, Outcome, Stopped}
 use Rattle.definition.specs.Part.{Book}
-use Rattle.definition.specs.Query.{Reply, checks, evaluateRoot, firstFailed, newGraph, query, queryBook, replyOf, untouched, workLength, zeros}
+use Rattle.definition.specs.Query.{Check, Reply, checks, evaluateRoot, firstFailed, newGraph, query, queryBook, replyOf, untouched, zeros}
 use Rattle.definition.specs.Reader.{Accepted, BookRead, Rejected, readBook}
 use Rattle.definition.specs.declared.answers.Answer.the-variants.{No, Yes}
 use Rattle.definition.specs.declared.book.Header.{Header}
 use Rattle.definition.specs.declared.paths.PathKind.the-variants.{Inductive}
 use Rattle.definition.specs.declared.query.Refusal.{Refusal}
-use Rattle.definition.specs.declared.query.Refusal.the-variants.{CacheForm, CacheLength, DepthAboveTop, UnknownGoal, WorkLength}
 use Rattle.definition.specs.declared.query.Response.the-variants.{Refused}
 use Rattle.soundness.specs.Always.{CacheInOrder}
 use Rattle.soundness.specs.Sets.{Goals}
 use Rattle.soundness.specs.Statement.{AllRight, Query, RightReply, replyTo}
-use Rattle.soundness.proofs.Logic.{and-left, and-right, nobody, of-true, or-cases}
+use Rattle.soundness.proofs.Logic.{and-left, and-right, clash, nobody, or-cases}
 use Rattle.soundness.proofs.World.{Judges, World}
 use Rattle.soundness.proofs.Assumed.{A}
 use Rattle.soundness.proofs.Inv.{After}
@@ -67,15 +66,18 @@ depth-fits h k s t u =
 
 slots-fit : (h : Header) (cache : List ℕ) (goal m k : ℕ) → T (slotsFit h cache goal m) → k < m → T (slotFits h k (slotAt h cache goal k))
 slots-fit h cache goal zero k t l = absurd (omega arith)
-slots-fit h cache goal (suc m) k t l = go (ℕ-discrete m k) (λ u. slots-fit h cache goal m k (and-right (slotFits h m (slotAt h cache goal m)) (slotsFit h cache goal m) t) u)
+slots-fit h cache goal (suc m) k t l =
+    go (ℕ-discrete m k) (λ u. slots-fit h cache goal m k (and-right (slotFits h m (slotAt h cache goal m)) (slotsFit h cache goal m) t) u)
   where
     go : Dec (m ≡ k) → (k < m → T (slotFits h k (slotAt h cache goal k))) → T (slotFits h k (slotAt h cache goal k))
-    go (yes e) ih = subst (λ (n : ℕ). T (slotFits h n (slotAt h cache goal n))) e (and-left (slotFits h m (slotAt h cache goal m)) (slotsFit h cache goal m) t)
+    go (yes e) ih =
+        subst (λ (n : ℕ). T (slotFits h n (slotAt h cache goal n))) e (and-left (slotFits h m (slotAt h cache goal m)) (slotsFit h cache goal m) t)
     go (no d) ih = ih (omega arith)
 
 goals-slots : (h : Header) (cache : List ℕ) (n goal : ℕ) → T (goalsFit h cache n) → goal < n → T (slotsFit h cache goal (slotsPerGoal h))
 goals-slots h cache zero goal t l = absurd (omega arith)
-goals-slots h cache (suc n) goal t l = go (ℕ-discrete goal n) (λ u. goals-slots h cache n goal (and-right (slotsFit h cache n (slotsPerGoal h)) (goalsFit h cache n) t) u)
+goals-slots h cache (suc n) goal t l =
+    go (ℕ-discrete goal n) (λ u. goals-slots h cache n goal (and-right (slotsFit h cache n (slotsPerGoal h)) (goalsFit h cache n) t) u)
   where
     go : Dec (goal ≡ n) → (goal < n → T (slotsFit h cache goal (slotsPerGoal h))) → T (slotsFit h cache goal (slotsPerGoal h))
     go (yes e) ih = rw e (and-left (slotsFit h cache n (slotsPerGoal h)) (goalsFit h cache n) t)
@@ -87,42 +89,56 @@ cache-order h cache e t =
       size = e;
       depths = λ goal k l m u.
           subst (λ (s : ℕ). T (slotHeld (slotAt h cache goal s)) → slotDepth (slotAt h cache goal s) ≡ k) (sym (add-one k))
-          (depth-fits h k (slotAt h cache goal (suc k)) (slots-fit h cache goal (slotsPerGoal h) (suc k) (goals-slots h cache (h .goals) goal t l) (omega arith))) u;
+          (depth-fits h k (slotAt h cache goal (suc k))
+          (slots-fit h cache goal (slotsPerGoal h) (suc k) (goals-slots h cache (h .goals) goal t l) (omega arith))) u;
     }
 
-pub passed : (b : Book) (cache work : List ℕ) (goal depth : ℕ) → firstFailed (checks b cache work goal depth) ≡ none → Passed (b .header) cache goal depth
-passed b cache work goal depth e = go _ _ _ _ refl refl refl refl e
+abbrev AllPassed : List Check → Type 0
+AllPassed [] = Unit {0}
+AllPassed (c ∷ cs) = T (c .passed) × AllPassed cs
+
+all-passed : (cs : List Check) → firstFailed cs ≡ none → AllPassed cs
+all-passed [] e = tt
+all-passed (c ∷ cs) e = one (c .passed) e (λ z. all-passed cs z)
   where
-    go : (p q r s : Bool) → ltb goal (b .header .goals) ≡ p → leb depth (b .header .top) ≡ q → eqb (length cache) (cacheLength (b .header)) ≡ r → cacheFits (b .header) cache ≡ s
-        → _≡_ {A = Option Refusal} (elim p [ true ↦ elim q [ true ↦ elim r [ true ↦ elim s [ true ↦ elim (eqb (length work) (workLength (b .header .goals))) [ true ↦ none | false ↦ some WorkLength ] | false ↦ some CacheForm ] | false ↦ some CacheLength ] | false ↦ some DepthAboveTop ] | false ↦ some UnknownGoal ]) none
-        → Passed (b .header) cache goal depth
-    go false q r s ep eq er es e = let z : _≡_ {A = ℕ} 0 1 = cc in absurd (omega arith)
-    go true false r s ep eq er es e = let z : _≡_ {A = ℕ} 0 1 = cc in absurd (omega arith)
-    go true true false s ep eq er es e = let z : _≡_ {A = ℕ} 0 1 = cc in absurd (omega arith)
-    go true true true false ep eq er es e = let z : _≡_ {A = ℕ} 0 1 = cc in absurd (omega arith)
-    go true true true true ep eq er es e =
-        record {
-          inside = ltb→lt goal (b .header .goals) (of-true _ ep);
-          shallow = leb→le depth (b .header .top) (of-true _ eq);
-          order = cache-order (b .header) cache (eqb→eq (length cache) (cacheLength (b .header)) (of-true _ er)) (of-true _ es);
-        }
+    one : (t : Bool) → _≡_ {A = Option Refusal} (elim t [ true ↦ firstFailed cs | false ↦ some (c .otherwise) ]) none → (firstFailed cs ≡ none → AllPassed cs)
+        → T t × AllPassed cs
+    one true e rest = (tt, rest e)
+    one false e rest = clash (cc)
+
+pub passed : (b : Book) (cache work : List ℕ) (goal depth : ℕ) → firstFailed (checks b cache work goal depth) ≡ none → Passed (b .header) cache goal depth
+passed b cache work goal depth e =
+    let v : AllPassed (checks b cache work goal depth) = all-passed (checks b cache work goal depth) e in
+    record {
+      inside = ltb→lt goal (b .header .goals) (v .0);
+      shallow = leb→le depth (b .header .top) (v .1 .0);
+      order = cache-order (b .header) cache (eqb→eq (length cache) (cacheLength (b .header)) (v .1 .1 .0)) (v .1 .1 .1 .0);
+    }
 
 -- ---- one query
 module _ (W : World) where
-  root-ok : (cache : List ℕ) (goal depth : ℕ) → Passed (W .book .header) cache goal depth → Sound W cache → After W [] (newGraph depth cache) (Claims W [] goal) (evaluateRoot (W .book) cache goal depth)
+  root-ok : (cache : List ℕ) (goal depth : ℕ) → Passed (W .book .header) cache goal depth → Sound W cache
+      → After W [] (newGraph depth cache) (Claims W [] goal) (evaluateRoot (W .book) cache goal depth)
   root-ok cache goal depth p v =
       evaluate-ok W (W .book .header .goals) [] tt (omega arith) (newGraph depth cache) goal Inductive true
-      (record { here = refl; root = p .shallow; frames = tt; entries = tt; cache = record { order = p .order; claims = v .fits (p .order .size) } }) (p .inside) (λ l. absurd (omega arith))
+      (record { here = refl; root = p .shallow; frames = tt; entries = tt; cache = record { order = p .order; claims = v .fits (p .order .size) } })
+      (p .inside) (λ l. absurd (omega arith))
 
   module _ (set : Bool → Goals) (judged : Judges W set) where
     record Replied (goal : ℕ) (r : Reply) : Type 0 where
       right : RightReply set goal r
       left : Sound W (r .cache)
 
-    refused : (goal : ℕ) (r : Refusal) (cache work : List ℕ) → Sound W cache → Replied goal (record { response = Refused r; cache = cache; work = work })
+    refused : (goal : ℕ) (r : Refusal) (cache work : List ℕ) → Sound W cache
+        → Replied goal (record { response = Refused r; cache = cache; work = work })
     refused goal r cache work v =
         record {
-          right = record { whenYes = λ e. let z : _≡_ {A = ℕ} 0 1 = cc in absurd (omega arith); whenNo = λ e. let z : _≡_ {A = ℕ} 0 1 = cc in absurd (omega arith) };
+          right =
+              record {
+                whenYes = λ e. clash (cc);
+                whenNo = λ e. let z : _≡_ {A = ℕ} 0 1 = cc in absurd
+                    (omega arith);
+              };
           left = v;
         }
 
@@ -137,19 +153,24 @@ module _ (W : World) where
         }
     answered goal cache work g₀ (Stopped r) l = refused goal r (replicate (length cache) 0) (zeros work) (zeros-sound W (length cache))
 
-    query-book : (cache work : List ℕ) (goal depth : ℕ) → Sound W cache → (o : Option Refusal) → firstFailed (checks (W .book) cache work goal depth) ≡ o
+    query-book : (cache work : List ℕ) (goal depth : ℕ) → Sound W cache → (o : Option Refusal)
+        → firstFailed (checks (W .book) cache work goal depth) ≡ o
         → Replied goal (elim o [ some r ↦ untouched r cache work | none ↦ replyOf cache work (evaluateRoot (W .book) cache goal depth) ])
     query-book cache work goal depth v none e =
-        answered goal cache work (newGraph depth cache) (evaluateRoot (W .book) cache goal depth) (root-ok cache goal depth (passed (W .book) cache work goal depth e) v)
+        answered goal cache work (newGraph depth cache) (evaluateRoot (W .book) cache goal depth)
+        (root-ok cache goal depth (passed (W .book) cache work goal depth e) v)
     query-book cache work goal depth v (some r) e = refused goal r cache work v
 
-    replied : (bytes : List ℕ) → readBook bytes ≡ Accepted (W .book) → (cache work : List ℕ) (goal depth : ℕ) → Sound W cache → Replied goal (query bytes cache work goal depth)
+    replied : (bytes : List ℕ) → readBook bytes ≡ Accepted (W .book) → (cache work : List ℕ) (goal depth : ℕ) → Sound W cache
+        → Replied goal (query bytes cache work goal depth)
     replied bytes e cache work goal depth v =
-        subst (λ (o : BookRead). Replied goal (elim o [ Rejected r ↦ untouched r cache work | Accepted b ↦ queryBook b cache work goal depth ])) (sym e)
+        subst (λ (o : BookRead). Replied goal (elim o [ Rejected r ↦ untouched r cache work | Accepted b ↦ queryBook b cache work goal depth ]))
+        (sym e)
         (query-book cache work goal depth v (firstFailed (checks (W .book) cache work goal depth)) refl)
 
     -- ---- the list
-    pub all-right : (bytes : List ℕ) → readBook bytes ≡ Accepted (W .book) → (qs : List Query) (cache : List ℕ) → Sound W cache → AllRight set bytes cache qs
+    pub all-right : (bytes : List ℕ) → readBook bytes ≡ Accepted (W .book) → (qs : List Query) (cache : List ℕ) → Sound W cache
+        → AllRight set bytes cache qs
     all-right bytes e [] cache v = tt
     all-right bytes e (q ∷ qs) cache v =
         let r : Replied (q .goal) (replyTo bytes cache q) = replied bytes e cache (q .work) (q .goal) (q .depth) v in

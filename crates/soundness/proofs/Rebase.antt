@@ -21,12 +21,13 @@ use Rattle.definition.specs.declared.heads.CycleHead.{CycleHead}
 use Rattle.definition.specs.declared.paths.PathKind.{PathKind}
 use Rattle.definition.specs.declared.usages.HeadUsages.{HeadUsages}
 use Rattle.soundness.specs.Always.{Every, HasHead, Known}
-use Rattle.soundness.proofs.Logic.{and-right, of-true, single, union, union-elim}
+use Rattle.soundness.specs.Sets.{_⊆_}
+use Rattle.soundness.proofs.Logic.{and-right, clash, of-true, single, union, union-elim}
 use Rattle.soundness.proofs.World.{World}
 use Rattle.soundness.proofs.Counters.{Reads, empty-counter, limit-positive}
 use Rattle.soundness.proofs.Assumed.{A, A-mono, A-over, A-skip, A-under, Base, Within, assumes, assumes-none}
 use Rattle.soundness.proofs.Inv.{EntryOk, known-bound, readsOf}
-use Rattle.soundness.proofs.HeadLaws.{Grows, each-from, each-gains, each-grows, highest-present, is-highestIndex, join-grows, join-reads, length-each, present-or, removed-from, removed-other}
+use Rattle.soundness.proofs.HeadLaws.{Grows, Joins, each-from, each-gains, each-grows, head-or-unused, highest-present, is-highest, join-grows, join-reads, length-each, removed-from, removed-other}
 use Rattle.soundness.proofs.Settle.{Why, kept-why}
 
 module _ (W : World) (x : Base) (xs : List Base) (f : Frame) (fs : Stack) (len : length fs ≡ length xs) where
@@ -37,147 +38,175 @@ module _ (W : World) (x : Base) (xs : List Base) (f : Frame) (fs : Stack) (len :
   abbrev Before : Entry → Type 0
   Before = EntryOk W (x ∷ xs) (Known (f ∷ fs))
 
-  pub rest : (i : ℕ) → i ≢ length fs → Known (f ∷ fs) i → Rest i
-  rest i h (inl (e, u)) = absurd (h e)
-  rest i h (inr (inl (l, p))) = inr p
-  rest i h (inr (inr l)) = inl l
+  rest : (i : ℕ) → i ≢ length fs → Known (f ∷ fs) i → Rest i
+  rest i d (inl (e, u)) = absurd (d e)
+  rest i d (inr (inl (l, p))) = inr p
+  rest i d (inr (inr k)) = inl k
 
-  -- an entry that does not use the frame
-  unused-claims : (a : Answer) (d : Reads) (goal : ℕ) → ((k : PathKind) → d (length fs) k ≡ 0) → T (W .claim a (A W (x ∷ xs) d) goal) → T (W .claim a (A W xs d) goal)
-  unused-claims a d goal h t =
-      W .mono a (A W (x ∷ xs) d) (A W xs d)
-      (A-skip W x xs d (assumes-none (W .start (x .goal)) (x .provisional) (d (length xs)) (rw len at h))) goal t
+  -- ---- an entry e, over the frame at index n
+  module _ (e : Entry) (v : Before e) where
+    abbrev n : ℕ
+    n = length fs
 
-  -- an entry that does not name the frame
-  unnamed : (e : Entry) → Before e → (HasHead (e .heads) (length fs) → ⊥) → EntryOk W xs Rest e
-  unnamed e v h =
-      record {
-        claims = unused-claims (e .result) (readsOf (e .heads)) (e .input) zeros (v .claims);
-        order = record { heads = v .order .heads; known = λ i p. rest i (λ z. h (rw z at p)) (v .order .known i p); notEmpty = v .order .notEmpty };
-      }
-    where
-      pick : HasHead (e .heads) (length fs) ⊎ ((k : PathKind) → readsOf (e .heads) (length fs) k ≡ 0) → (k : PathKind) → readsOf (e .heads) (length fs) k ≡ 0
-      pick (inl p) = absurd (h p)
-      pick (inr z) = z
+    abbrev reads : Reads
+    reads = readsOf (e .heads)
 
-      zeros : (k : PathKind) → readsOf (e .heads) (length fs) k ≡ 0
-      zeros = pick (present-or (e .heads) (length fs) _ refl)
+    -- what e read of the frame assumes its start answer
+    abbrev assumesStart : Bool
+    assumesStart = assumes (W .start (x .goal)) (x .provisional) (reads n)
 
-  not-highest : (e : Entry) → Before e → eqb (highestIndex (e .heads)) (length fs) ≡ false → HasHead (e .heads) (length fs) → ⊥
-  not-highest e v h p =
-      let z : highestIndex (e .heads) ≡ length fs = is-highestIndex (e .heads) (length fs) p (λ i q. omega (arith, known-bound (f ∷ fs) i (v .order .known i q))) in
-      let t : T (eqb (highestIndex (e .heads)) (length fs)) = rw z (eqb-refl (length fs)) in
-      rw h at t
+    unread : ((k : PathKind) → reads n k ≡ 0) → T assumesStart → ⊥
+    unread h = assumes-none (W .start (x .goal)) (x .provisional) (reads n) h
 
-  -- ---- not a head: no entry names the frame
-  module _ (not-head : f .usages ≡ none) where
-    pub finished : (e : Entry) → Before e → EntryOk W xs Rest e
-    finished e v = unnamed e v (λ p. no-way (v .order .known (length fs) p))
+    skip : (T assumesStart → ⊥) → A W (x ∷ xs) reads ⊆ A W xs reads
+    skip h = A-skip W x xs reads (rw len at h)
+
+    unnamed-reads : (HasHead (e .heads) n → ⊥) → (k : PathKind) → reads n k ≡ 0
+    unnamed-reads h = pick (head-or-unused (e .heads) n _ refl)
       where
-        no-way : Known (f ∷ fs) (length fs) → ⊥
-        no-way (inl (z, (u, h))) = let q : _≡_ {A = ℕ} 0 1 = cc in omega arith
+        pick : HasHead (e .heads) n ⊎ ((k : PathKind) → reads n k ≡ 0) → (k : PathKind) → reads n k ≡ 0
+        pick (inl p) = absurd (h p)
+        pick (inr z) = z
+
+    empty-reads : isEmpty (usagesAt (e .heads) n) ≡ true → (k : PathKind) → reads n k ≡ 0
+    empty-reads h k = empty-counter (usagesAt (e .heads) n) k (of-true _ h)
+
+    -- the claim of an entry that did not read the frame
+    unread-claims : ((k : PathKind) → reads n k ≡ 0) → T (W .claim (e .result) (A W xs reads) (e .input))
+    unread-claims h = W .mono (e .result) (A W (x ∷ xs) reads) (A W xs reads) (skip (unread h)) (e .input) (v .claims)
+
+    unnamed : (HasHead (e .heads) n → ⊥) → EntryOk W xs Rest e
+    unnamed h =
+        record {
+          claims = unread-claims (unnamed-reads h);
+          order = record { heads = v .order .heads; known = λ i p. rest i (λ z. h (rw z at p)) (v .order .known i p); notEmpty = v .order .notEmpty };
+        }
+
+    not-highest : eqb (highestIndex (e .heads)) n ≡ false → HasHead (e .heads) n → ⊥
+    not-highest h p =
+        let z : highestIndex (e .heads) ≡ n = is-highest (e .heads) n p (λ i q. omega (arith, known-bound (f ∷ fs) i (v .order .known i q))) in
+        let t : T (eqb (highestIndex (e .heads)) n) = rw z (eqb-refl n) in
+        rw h at t
+
+    -- the frame is no head: no entry names it
+    pub finished : f .usages ≡ none → EntryOk W xs Rest e
+    finished h = unnamed (λ p. no-way (v .order .known n p))
+      where
+        no-way : Known (f ∷ fs) n → ⊥
+        no-way (inl (z, (u, q))) = clash (cc)
         no-way (inr (inl (l, p))) = omega arith
-        no-way (inr (inr l)) = omega (arith, known-bound fs (length fs) l)
+        no-way (inr (inr k)) = omega (arith, known-bound fs n k)
+
+    -- ---- the entry's heads, less the frame, joined with the frame's
+    module _ (φ : CycleHead → Option CycleHead → CycleHead) where
+      abbrev moved : CycleHeads
+      moved = forEachHead φ (removeHead (e .heads) n) (f .heads)
+
+      moved-length : length moved ≡ W .book .header .goals
+      moved-length = length-each φ (removeHead (e .heads) n) (f .heads) ∙ (length-set (e .heads) n none ∙ v .order .heads)
+
+      moved-known : (i : ℕ) → HasHead moved i → Rest i
+      moved-known i p = go (each-from φ (removeHead (e .heads) n) (f .heads) i p)
+        where
+          go : HasHead (removeHead (e .heads) n) i ⊎ HasHead (f .heads) i → Rest i
+          go (inl q) = let r : (i ≢ n) × HasHead (e .heads) i = removed-from (e .heads) n i q in rest i (r .0) (v .order .known i (r .1))
+          go (inr q) = inr q
+
+      module _ (small : length xs ≤ W .book .header .goals) where
+        -- what the entry read, it still reads
+        moved-old : Grows φ → Within (length xs) reads (readsOf moved)
+        moved-old j i k l h =
+            omega (
+              arith,
+              limit-positive,
+              removed-other (e .heads) n i (omega arith) k,
+              each-grows φ j (removeHead (e .heads) n) (f .heads) i k (omega (arith, length-set (e .heads) n none, v .order .heads)),
+            )
+
+        -- and what the frame read, where φ joins its usages
+        moved-new : Joins φ (λ c. c .usages) → Within (length xs) (readsOf (f .heads)) (readsOf moved)
+        moved-new j i k l h =
+            omega (
+              arith,
+              limit-positive,
+              each-gains φ j (removeHead (e .heads) n) (f .heads) i k (omega (arith, length-set (e .heads) n none, v .order .heads)),
+            )
+
+        -- the claim, where nothing was assumed of the frame
+        claims-old : Grows φ → (T assumesStart → ⊥) → T (W .claim (e .result) (A W xs (readsOf moved)) (e .input))
+        claims-old j h =
+            W .mono (e .result) (A W (x ∷ xs) reads) (A W xs (readsOf moved))
+            (λ g t. A-mono W xs reads (readsOf moved) (moved-old j) g (skip h g t)) (e .input) (v .claims)
+
+        -- and where the frame's start answer was assumed, and is its answer
+        claims-new : Grows φ → Joins φ (λ c. c .usages) → T (W .claim (W .start (x .goal)) (A W xs (readsOf (f .heads))) (x .goal))
+            → T (W .claim (e .result) (A W xs (readsOf moved)) (e .input))
+        claims-new j j′ claimed =
+            W .mono (e .result) (union (A W xs (readsOf (f .heads))) (A W xs reads)) (A W xs (readsOf moved))
+            (union-elim (A W xs (readsOf (f .heads))) (A W xs reads) (A W xs (readsOf moved))
+            (A-mono W xs (readsOf (f .heads)) (readsOf moved) (moved-new j′)) (A-mono W xs reads (readsOf moved) (moved-old j)))
+            (e .input)
+            (W .rebase (e .result) (A W xs (readsOf (f .heads))) (A W xs reads) (x .goal) claimed (e .input)
+            (W .mono (e .result) (A W (x ∷ xs) reads) (union (A W xs reads) (single (x .goal))) (A-over W x xs reads) (e .input) (v .claims)))
 
   -- ---- rebased
   module _ (reason : RebaseReason) (u : HeadUsages) (a : Answer) (why : Why (x .provisional) u a reason)
       (small : length xs ≤ W .book .header .goals) (claimed : T (W .claim a (A W xs (readsOf (f .heads))) (x .goal))) where
-    moved-heads : (CycleHead → Option CycleHead → CycleHead) → Entry → CycleHeads
-    moved-heads φ e = forEachHead φ (removeHead (e .heads) (length fs)) (f .heads)
-
-    abbrev Moved : (CycleHead → Option CycleHead → CycleHead) → Entry → Reads
-    Moved φ e = readsOf (forEachHead φ (removeHead (e .heads) (length fs)) (f .heads))
-
-    moved-long : (φ : CycleHead → Option CycleHead → CycleHead) (e : Entry) → Before e → length (forEachHead φ (removeHead (e .heads) (length fs)) (f .heads)) ≡ W .book .header .goals
-    moved-long φ e v = length-each φ (removeHead (e .heads) (length fs)) (f .heads) ∙ (length-set (e .heads) (length fs) none ∙ v .order .heads)
-
-    moved-lives : (φ : CycleHead → Option CycleHead → CycleHead) (e : Entry) → Before e → (i : ℕ) → HasHead (forEachHead φ (removeHead (e .heads) (length fs)) (f .heads)) i → Rest i
-    moved-lives φ e v i p = go (each-from φ (removeHead (e .heads) (length fs)) (f .heads) i p)
-      where
-        go : HasHead (removeHead (e .heads) (length fs)) i ⊎ HasHead (f .heads) i → Rest i
-        go (inl q) = let r : (i ≢ length fs) × HasHead (e .heads) i = removed-from (e .heads) (length fs) i q in rest i (r .0) (v .order .known i (r .1))
-        go (inr q) = inr q
-
-    -- what the entry used, it still uses
-    moved-old : (φ : CycleHead → Option CycleHead → CycleHead) → Grows φ → (e : Entry) → Before e → Within (length xs) (readsOf (e .heads)) (Moved φ e)
-    moved-old φ j e v i k l h =
-        omega (
-          arith,
-          limit-positive,
-          removed-other (e .heads) (length fs) i (omega arith) k,
-          each-grows φ j (removeHead (e .heads) (length fs)) (f .heads) i k (omega (arith, length-set (e .heads) (length fs) none, v .order .heads)),
-        )
-
-    -- and what the frame used, it uses if it is reached by way of the frame
-    moved-new : (ep : ℕ) (e : Entry) → Before e → Within (length xs) (readsOf (f .heads)) (Moved (headThrough ep) e)
-    moved-new ep e v i k l h =
-        omega (
-          arith,
-          limit-positive,
-          each-gains (headThrough ep) (join-reads (λ c. extendWithPaths ep (c .paths)) (λ c. c .usages)) (removeHead (e .heads) (length fs)) (f .heads) i k
-              (omega (arith, length-set (e .heads) (length fs) none, v .order .heads)),
-        )
-
-    -- the claim of an entry, moved
-    claims-old : (φ : CycleHead → Option CycleHead → CycleHead) → Grows φ → (e : Entry) → Before e
-        → (T (assumes (W .start (x .goal)) (x .provisional) (readsOf (e .heads) (length fs))) → ⊥) → T (W .claim (e .result) (A W xs (Moved φ e)) (e .input))
-    claims-old φ j e v h =
-        W .mono (e .result) (A W (x ∷ xs) (readsOf (e .heads))) (A W xs (Moved φ e))
-        (λ g t. A-mono W xs (readsOf (e .heads)) (Moved φ e) (moved-old φ j e v) g (A-skip W x xs (readsOf (e .heads)) (rw len at h) g t))
-        (e .input) (v .claims)
-
-    through-grows : (ep : ℕ) → Grows (headThrough ep)
-    through-grows ep = join-grows (λ c. extendWithPaths ep (c .paths)) (λ c. c .usages)
-
-    claims-through : (ep : ℕ) (e : Entry) → Before e → a ≡ W .start (x .goal) → T (W .claim (e .result) (A W xs (Moved (headThrough ep) e)) (e .input))
-    claims-through ep e v z =
-        W .mono (e .result) (union (A W xs (readsOf (f .heads))) (A W xs (readsOf (e .heads)))) (A W xs (Moved (headThrough ep) e))
-        (union-elim (A W xs (readsOf (f .heads))) (A W xs (readsOf (e .heads))) (A W xs (Moved (headThrough ep) e))
-        (A-mono W xs (readsOf (f .heads)) (Moved (headThrough ep) e) (moved-new ep e v))
-        (A-mono W xs (readsOf (e .heads)) (Moved (headThrough ep) e) (moved-old (headThrough ep) (through-grows ep) e v)))
-        (e .input)
-        (W .rebase (e .result) (A W xs (readsOf (f .heads))) (A W xs (readsOf (e .heads))) (x .goal) (rw z at claimed) (e .input)
-        (W .mono (e .result) (A W (x ∷ xs) (readsOf (e .heads))) (union (A W xs (readsOf (e .heads))) (single (x .goal)))
-        (A-over W x xs (readsOf (e .heads))) (e .input) (v .claims)))
-
-    claims-kept : (ep : ℕ) (e : Entry) → Before e → T (reasonKeeps reason (e .result) (usagesAt (e .heads) (length fs)))
-        → (t : Bool) → assumes (W .start (x .goal)) (x .provisional) (readsOf (e .heads) (length fs)) ≡ t → T (W .claim (e .result) (A W xs (Moved (headThrough ep) e)) (e .input))
-    claims-kept ep e v k false h = claims-old (headThrough ep) (through-grows ep) e v (λ t. rw h at t)
-    claims-kept ep e v k true h = go (kept-why (W .start (x .goal)) why (usagesAt (e .heads) (length fs)) (e .result) k (of-true _ h))
-      where
-        go : (a ≡ W .start (x .goal)) ⊎ T (isAmbiguous (e .result)) → T (W .claim (e .result) (A W xs (Moved (headThrough ep) e)) (e .input))
-        go (inl z) = claims-through ep e v z
-        go (inr m) = W .ambiguous (e .result) m (A W xs (Moved (headThrough ep) e)) (e .input)
-
-    abbrev Maybe : Option Entry → Type 0
-    Maybe none = Unit {0}
-    Maybe (some e) = EntryOk W xs Rest e
+    abbrev Rebased : Option Entry → Type 0
+    Rebased none = Unit {0}
+    Rebased (some e) = EntryOk W xs Rest e
 
     -- an entry with new heads
-    under-ok : (e : Entry) (hs : CycleHeads) → T (W .claim (e .result) (A W xs (readsOf hs)) (e .input)) → length hs ≡ W .book .header .goals → ((i : ℕ) → HasHead hs i → Rest i)
-        → (o : Option ℕ) → optHighestIndex hs ≡ o → Maybe (underNewHead fs f e hs)
+    under-ok : (e : Entry) (hs : CycleHeads) → T (W .claim (e .result) (A W xs (readsOf hs)) (e .input)) → length hs ≡ W .book .header .goals
+        → ((i : ℕ) → HasHead hs i → Rest i) → (o : Option ℕ) → optHighestIndex hs ≡ o → Rebased (underNewHead fs f e hs)
     under-ok e hs c l r none h = rw (h, underNewHead) tt
-    under-ok e hs c l r (some new) h = rw (h, underNewHead) (record { claims = c; order = record { heads = l; known = r; notEmpty = (new, highest-present hs new h) } })
+    under-ok e hs c l r (some new) h =
+        rw (h, underNewHead) (record { claims = c; order = record { heads = l; known = r; notEmpty = (new, highest-present hs new h) } })
 
-    heads-ok : (e : Entry) → Before e → (s t : Bool) → isEmpty (usagesAt (e .heads) (length fs)) ≡ s
-        → (pathsKeepKind fs (f .stepKindFromParent) (e .pathFromHead) (pathsAt (e .heads) (length fs)) 0 (f .heads) && reasonKeeps reason (e .result) (usagesAt (e .heads) (length fs))) ≡ t
-        → Maybe (elim (rebasedHeads fs f reason e (usagesAt (e .heads) (length fs)) (pathsAt (e .heads) (length fs))) [ none ↦ none | some hs ↦ underNewHead fs f e hs ])
-    heads-ok e v true t h k =
-        rw (h, rebasedHeads)
-        (under-ok e (forEachHead unusedHead (removeHead (e .heads) (length fs)) (f .heads)) (claims-old unusedHead (join-grows (λ c. emptyPath) (λ c. noUsages)) e v
-        (assumes-none (W .start (x .goal)) (x .provisional) (readsOf (e .heads) (length fs)) (λ j. empty-counter (usagesAt (e .heads) (length fs)) j (of-true _ h))))
-        (moved-long unusedHead e v) (moved-lives unusedHead e v) _ refl)
-    heads-ok e v false false h k = rw (h, k, rebasedHeads) tt
-    heads-ok e v false true h k =
-        rw (h, k, rebasedHeads)
-        (under-ok e (forEachHead (headThrough (pathsAt (e .heads) (length fs))) (removeHead (e .heads) (length fs)) (f .heads)) (claims-kept (pathsAt (e .heads) (length fs)) e v (and-right (pathsKeepKind fs (f .stepKindFromParent) (e .pathFromHead) (pathsAt (e .heads) (length fs)) 0 (f .heads)) _ (of-true _ k)) _ refl)
-        (moved-long (headThrough (pathsAt (e .heads) (length fs))) e v) (moved-lives (headThrough (pathsAt (e .heads) (length fs))) e v) _ refl)
+    module _ (e : Entry) (v : Before e) where
+      abbrev used : HeadUsages
+      used = usagesAt (e .heads) (length fs)
 
-    entry-ok : (e : Entry) → Before e → (t : Bool) → eqb (highestIndex (e .heads)) (length fs) ≡ t → Maybe (rebaseEntry fs f reason e)
-    entry-ok e v false h = rw (h, rebaseEntry) (unnamed e v (not-highest e v h))
-    entry-ok e v true h = rw (h, rebaseEntry) (heads-ok e v _ _ refl refl)
+      abbrev ep : ℕ
+      ep = pathsAt (e .heads) (length fs)
 
-    add-ok : (es : List Entry) (o : Option Entry) → Maybe o → Every (EntryOk W xs Rest) es → Every (EntryOk W xs Rest) (elim o [ none ↦ es | some r ↦ r ∷ es ])
+      abbrev keepKind : Bool
+      keepKind = pathsKeepKind fs (f .stepKindFromParent) (e .pathFromHead) ep 0 (f .heads)
+
+      -- an entry that used the frame for nothing
+      unused-claims : isEmpty used ≡ true → T (W .claim (e .result) (A W xs (readsOf (moved e v unusedHead))) (e .input))
+      unused-claims h = claims-old e v unusedHead small (join-grows (λ c. emptyPath) (λ c. noUsages)) (unread e v (empty-reads e v h))
+
+      -- one that used it and is kept
+      kept-claims : T (reasonKeeps reason (e .result) used) → (t : Bool) → assumesStart e v ≡ t
+          → T (W .claim (e .result) (A W xs (readsOf (moved e v (headThrough ep)))) (e .input))
+      kept-claims k false h =
+          claims-old e v (headThrough ep) small (join-grows (λ c. extendWithPaths ep (c .paths)) (λ c. c .usages)) (λ t. rw h at t)
+      kept-claims k true h = go (kept-why (W .start (x .goal)) why used (e .result) k (of-true _ h))
+        where
+          go : (a ≡ W .start (x .goal)) ⊎ T (isAmbiguous (e .result)) → T (W .claim (e .result) (A W xs (readsOf (moved e v (headThrough ep)))) (e .input))
+          go (inl z) =
+              claims-new e v (headThrough ep) small (join-grows (λ c. extendWithPaths ep (c .paths)) (λ c. c .usages))
+              (join-reads (λ c. extendWithPaths ep (c .paths)) (λ c. c .usages)) (rw z at claimed)
+          go (inr m) = W .ambiguous (e .result) m (A W xs (readsOf (moved e v (headThrough ep)))) (e .input)
+
+      heads-ok : (s t : Bool) → isEmpty used ≡ s → (keepKind && reasonKeeps reason (e .result) used) ≡ t
+          → Rebased (elim (rebasedHeads fs f reason e used ep) [ none ↦ none | some hs ↦ underNewHead fs f e hs ])
+      heads-ok true t h k =
+          rw (h, rebasedHeads)
+          (under-ok e (moved e v unusedHead) (unused-claims h) (moved-length e v unusedHead) (moved-known e v unusedHead) _ refl)
+      heads-ok false false h k = rw (h, k, rebasedHeads) tt
+      heads-ok false true h k =
+          rw (h, k, rebasedHeads)
+          (under-ok e (moved e v (headThrough ep)) (kept-claims (and-right keepKind _ (of-true _ k)) _ refl)
+          (moved-length e v (headThrough ep)) (moved-known e v (headThrough ep)) _ refl)
+
+      entry-ok : (t : Bool) → eqb (highestIndex (e .heads)) (length fs) ≡ t → Rebased (rebaseEntry fs f reason e)
+      entry-ok false h = rw (h, rebaseEntry) (unnamed e v (not-highest e v h))
+      entry-ok true h = rw (h, rebaseEntry) (heads-ok _ _ refl refl)
+
+    add-ok : (es : List Entry) (o : Option Entry) → Rebased o → Every (EntryOk W xs Rest) es
+        → Every (EntryOk W xs Rest) (elim o [ none ↦ es | some r ↦ r ∷ es ])
     add-ok es none m v = v
     add-ok es (some e) m v = (m, v)
 
@@ -187,29 +216,29 @@ module _ (W : World) (x : Base) (xs : List Base) (f : Frame) (fs : Stack) (len :
 
   -- ---- run again: what is kept does not use the frame
   module _ (x′ : Base) (f′ : Frame) (stay : (i : ℕ) → Known (f ∷ fs) i → Known (f′ ∷ fs) i) where
-    rerun-ok : (e : Entry) → Before e → (s t : Bool) → eqb (highestIndex (e .heads)) (length fs) ≡ s → isEmpty (usagesAt (e .heads) (length fs)) ≡ t → T (not s || t)
-        → EntryOk W (x′ ∷ xs) (Known (f′ ∷ fs)) e
-    rerun-ok e v s t h k z =
+    abbrev Again : Entry → Type 0
+    Again = EntryOk W (x′ ∷ xs) (Known (f′ ∷ fs))
+
+    rerun-reads : (e : Entry) (v : Before e) (s t : Bool) → eqb (highestIndex (e .heads)) (length fs) ≡ s → isEmpty (usagesAt (e .heads) (length fs)) ≡ t
+        → T (not s || t) → (k : PathKind) → readsOf (e .heads) (length fs) k ≡ 0
+    rerun-reads e v false t h k z = unnamed-reads e v (not-highest e v h)
+    rerun-reads e v true true h k z = empty-reads e v k
+    rerun-reads e v true false h k z = absurd z
+
+    rerun-ok : (e : Entry) → Before e → T (survivesRerun (length fs) e) → Again e
+    rerun-ok e v t =
         record {
-          claims = W .mono (e .result) (A W xs (readsOf (e .heads))) (A W (x′ ∷ xs) (readsOf (e .heads))) (A-under W x′ xs (readsOf (e .heads))) (e .input)
-              (unused-claims (e .result) (readsOf (e .heads)) (e .input) (zeros s t h k z) (v .claims));
+          claims =
+              W .mono (e .result) (A W xs (readsOf (e .heads))) (A W (x′ ∷ xs) (readsOf (e .heads))) (A-under W x′ xs (readsOf (e .heads))) (e .input)
+              (unread-claims e v (rerun-reads e v _ _ refl refl t));
           order = record { heads = v .order .heads; known = λ i p. stay i (v .order .known i p); notEmpty = v .order .notEmpty };
         }
-      where
-        pick : (HasHead (e .heads) (length fs) → ⊥) → HasHead (e .heads) (length fs) ⊎ ((k : PathKind) → readsOf (e .heads) (length fs) k ≡ 0) → (k : PathKind) → readsOf (e .heads) (length fs) k ≡ 0
-        pick n (inl p) = absurd (n p)
-        pick n (inr z) = z
 
-        zeros : (s t : Bool) → eqb (highestIndex (e .heads)) (length fs) ≡ s → isEmpty (usagesAt (e .heads) (length fs)) ≡ t → T (not s || t) → (k : PathKind) → readsOf (e .heads) (length fs) k ≡ 0
-        zeros false t h k z = pick (not-highest e v h) (present-or (e .heads) (length fs) _ refl)
-        zeros true true h k z = λ j. empty-counter (usagesAt (e .heads) (length fs)) j (of-true (isEmpty (usagesAt (e .heads) (length fs))) k)
-        zeros true false h k z = absurd z
-
-    keep-ok : (e : Entry) → Before e → (es : List Entry) → Every (EntryOk W (x′ ∷ xs) (Known (f′ ∷ fs))) es → (s : Bool) → survivesRerun (length fs) e ≡ s
-        → Every (EntryOk W (x′ ∷ xs) (Known (f′ ∷ fs))) (elim s [ true ↦ e ∷ es | false ↦ es ])
-    keep-ok e v es w true h = (rerun-ok e v _ _ refl refl (of-true (survivesRerun (length fs) e) h), w)
+    keep-ok : (e : Entry) → Before e → (es : List Entry) → Every Again es → (t : Bool) → survivesRerun (length fs) e ≡ t
+        → Every Again (elim t [ true ↦ e ∷ es | false ↦ es ])
+    keep-ok e v es w true h = (rerun-ok e v (of-true (survivesRerun (length fs) e) h), w)
     keep-ok e v es w false h = w
 
-    pub survivors-ok : (es : List Entry) → Every Before es → Every (EntryOk W (x′ ∷ xs) (Known (f′ ∷ fs))) (survivors (length fs) es)
+    pub survivors-ok : (es : List Entry) → Every Before es → Every Again (survivors (length fs) es)
     survivors-ok [] v = tt
     survivors-ok (e ∷ es) v = keep-ok e (v .0) (survivors (length fs) es) (survivors-ok es (v .1)) _ refl

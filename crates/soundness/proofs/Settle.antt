@@ -19,7 +19,7 @@ use Rattle.definition.specs.declared.answers.RebaseReason.the-variants.{Ambigui
 use Rattle.definition.specs.declared.paths.PathKind.{PathKind}
 use Rattle.definition.specs.declared.usages.HeadUsages.{HeadUsages}
 use Rattle.soundness.specs.Sets.{Goals, _⊆_}
-use Rattle.soundness.proofs.Logic.{and-left, of-true, or-left, or-right, single, union, union-elim}
+use Rattle.soundness.proofs.Logic.{and-left, clash, of-true, or-left, or-right, single, union, union-elim}
 use Rattle.soundness.proofs.Fixpoints.{round-mono}
 use Rattle.soundness.proofs.Certain.{no-round-mono}
 use Rattle.soundness.proofs.World.{RightOf, World}
@@ -56,14 +56,14 @@ some-later : (v : Answer) (u : HeadUsages) (a : Answer) (t : Bool) → sameAnswe
 some-later v u a true e k h =
     let z : LaterFixpoint ≡ k = cc in
     rw (← z) (later (ap some (same→≡ v a (of-true (sameAnswer v a) e))))
-some-later v u a false e k h = let z : _≡_ {A = ℕ} 0 1 = cc in absurd (omega arith)
+some-later v u a false e k h = clash (cc)
 
 none-first : (u : HeadUsages) (a : Answer) (t : Bool) → isSingle u (initialKind a) ≡ t → (k : RebaseReason)
     → _≡_ {A = Option RebaseReason} (elim t [ true ↦ some (FirstFixpoint (initialKind a)) | false ↦ none ]) (some k) → Why none u a k
 none-first u a true e k h =
     let z : FirstFixpoint (initialKind a) ≡ k = cc in
     rw (← z) (first refl (of-true (isSingle u (initialKind a)) e))
-none-first u a false e k h = let z : _≡_ {A = ℕ} 0 1 = cc in absurd (omega arith)
+none-first u a false e k h = clash (cc)
 
 pub turn : (p : Option Answer) (u : HeadUsages) (a : Answer) → Turn p u a (nextOfHead p u a)
 turn none u a = fix-turn none u a _ (none-first u a _ refl)
@@ -85,21 +85,24 @@ first-start start a v s t = go (decide a start)
           single-counter v (initialKind a) (initialKind start) s (λ e. h (sym (same-kind start a e))),
         ))
 
-pub kept-why : (start : Answer) {p : Option Answer} {u : HeadUsages} {a : Answer} {reason : RebaseReason} → Why p u a reason → (v : HeadUsages) (r : Answer)
+pub kept-why : (start : Answer) {p : Option Answer} {u : HeadUsages} {a : Answer} {reason : RebaseReason} → Why p u a reason
+    → (v : HeadUsages) (r : Answer)
     → T (reasonKeeps reason r v) → T (assumes start p (counter v)) → (a ≡ start) ⊎ T (isAmbiguous r)
 kept-why start {a = a} (later e) v r k t = inl (same→≡ a start (and-left (sameAnswer a start) _ (rw e at t)))
 kept-why start {a = a} (first e s) v r k t = inl (first-start start a v k (rw e at t))
 kept-why start (unread s) v r k t = absurd k
 kept-why start {a = a} (mixed s) v r k t = inr (and-left (isAmbiguous r) (sameAnswer r a) k)
 
-own-why : (start : Answer) {p : Option Answer} {u : HeadUsages} {a : Answer} {reason : RebaseReason} → Why p u a reason → T (assumes start p (counter u)) → (a ≡ start) ⊎ T (isAmbiguous a)
+own-why : (start : Answer) {p : Option Answer} {u : HeadUsages} {a : Answer} {reason : RebaseReason} → Why p u a reason
+    → T (assumes start p (counter u)) → (a ≡ start) ⊎ T (isAmbiguous a)
 own-why start {a = a} (later e) t = inl (same→≡ a start (and-left (sameAnswer a start) _ (rw e at t)))
 own-why start {u = u} {a = a} (first e s) t = inl (first-start start a u s (rw e at t))
 own-why start {p = p} {u = u} (unread s) t = absurd (assumes-none start p (counter u) (λ k. empty-counter u k s) t)
 own-why start (mixed s) t = inr s
 
 -- ---- what the answer rests on
-right-within : (W : World) (P Q : Goals) (g : ℕ) (a : Answer) → P ⊆ Q → RightOf (W .book) (W .claim Yes P) (W .claim No P) g a → RightOf (W .book) (W .claim Yes Q) (W .claim No Q) g a
+right-within : (W : World) (P Q : Goals) (g : ℕ) (a : Answer) → P ⊆ Q → RightOf (W .book) (W .claim Yes P) (W .claim No P) g a
+    → RightOf (W .book) (W .claim Yes Q) (W .claim No Q) g a
 right-within W P Q g a h r =
     record {
       whenYes = λ e. round-mono (W .book) false false (W .claim Yes P) (W .claim Yes Q) (λ t. t) (W .mono Yes P Q h) g (r .whenYes e);
@@ -117,7 +120,8 @@ module _ (W : World) (x : Base) (xs : List Base) (d R : Reads) (u : HeadUsages) 
   without h =
       W .pop a AR (x .goal)
       (right-within W (A W (x ∷ xs) d) AR (x .goal) a
-      (λ g t. A-mono W xs d R under g (A-skip W x xs d (λ s. h (assumes-mono (W .start (x .goal)) (x .provisional) (d (length xs)) (counter u) top s)) g t)) r)
+      (λ g t. A-mono W xs d R under g (A-skip W x xs d
+      (λ s. h (assumes-mono (W .start (x .goal)) (x .provisional) (d (length xs)) (counter u) top s)) g t)) r)
 
   -- the goal's own answer is what was assumed
   pub with-itself : a ≡ W .start (x .goal) → T (W .claim a AR (x .goal))
@@ -126,7 +130,8 @@ module _ (W : World) (x : Base) (xs : List Base) (d R : Reads) (u : HeadUsages) 
       (W .head AR (x .goal)
       (right-within W (A W (x ∷ xs) d) (union AR (single (x .goal))) (x .goal) (W .start (x .goal))
       (λ g t. union-elim (A W xs d) (single (x .goal)) (union AR (single (x .goal)))
-      (λ k s. or-left (AR k) (single (x .goal) k) (A-mono W xs d R under k s)) (λ k s. or-right (AR k) (single (x .goal) k) s) g (A-over W x xs d g t))
+      (λ k s. or-left (AR k) (single (x .goal) k) (A-mono W xs d R under k s)) (λ k s. or-right (AR k) (single (x .goal) k) s) g
+      (A-over W x xs d g t))
       (rw e at r)))
 
   pub settled : {reason : RebaseReason} → Why (x .provisional) u a reason → T (W .claim a AR (x .goal))

@@ -46,7 +46,15 @@ module _ (l vs : List ℕ) (i : ℕ) (fits : i + length vs ≤ length l) where
       ∙ (getD-drop (i + length vs) l q 0 ∙ ap (λ (n : ℕ). getD l n 0) (omega arith))))
 
   written-length : length written ≡ length l
-  written-length = omega (arith, length-append (take i l) (vs ++ drop (i + length vs) l), length-append vs (drop (i + length vs) l), length-drop (i + length vs) l, front)
+  written-length =
+      omega (
+        arith,
+        length-append (take i l) (vs ++ drop (i + length vs) l),
+        length-append vs (drop (i + length vs) l),
+        length-drop
+            (i + length vs) l,
+        front,
+      )
 
   -- outside the written part
   written-other : (p : ℕ) → (p < i) ⊎ (i + length vs ≤ p) → getD written p 0 ≡ getD l p 0
@@ -75,7 +83,8 @@ module _ (h : Header) where
   pub slot-byte : (cache : List ℕ) (goal slot q : ℕ) → q < slotSize h → getD (slotAt h cache goal slot) q 0 ≡ getD cache (slotStart h goal slot + q) 0
   slot-byte cache goal slot q l = getD-take (slotSize h) (drop (slotStart h goal slot) cache) q 0 l ∙ getD-drop (slotStart h goal slot) cache q 0
 
-  slot-fits : (cache : List ℕ) (goal slot : ℕ) → length cache ≡ cacheLength h → goal < h .goals → slot < h .top + 2 → slotStart h goal slot + slotSize h ≤ length cache
+  slot-fits : (cache : List ℕ) (goal slot : ℕ) → length cache ≡ cacheLength h → goal < h .goals → slot < h .top + 2
+      → slotStart h goal slot + slotSize h ≤ length cache
   slot-fits cache goal slot e l m =
       let x : suc (goal * (h .top + 2) + slot) ≤ h .goals * (h .top + 2) = omega (arith, mul-le-mul-right (h .top + 2) l) in
       omega (arith, mul-le-mul-right (h .goals + 3) x)
@@ -98,14 +107,17 @@ module _ (W : World) (cache : List ℕ) (ok : CacheOk W cache) (goal slot : ℕ)
   new-is : new ≡ written cache bytes (slotStart h goal slot) fits
   new-is = ap (λ (n : ℕ). take (slotStart h goal slot) cache ++ (bytes ++ drop (slotStart h goal slot + n) cache)) (sym long)
 
-  new-byte : (goal′ slot′ q : ℕ) → q < slotSize h → getD (slotAt h new goal′ slot′) q 0 ≡ getD (written cache bytes (slotStart h goal slot) fits) (slotStart h goal′ slot′ + q) 0
+  new-byte : (goal′ slot′ q : ℕ) → q < slotSize h
+      → getD (slotAt h new goal′ slot′) q 0 ≡ getD (written cache bytes (slotStart h goal slot) fits) (slotStart h goal′ slot′ + q) 0
   new-byte goal′ slot′ q z = slot-byte h new goal′ slot′ q z ∙ ap (λ (s : List ℕ). getD s (slotStart h goal′ slot′ + q) 0) new-is
 
-  longer : (p : ℕ) → (p < slotStart h goal slot) ⊎ (slotStart h goal slot + slotSize h ≤ p) → (p < slotStart h goal slot) ⊎ (slotStart h goal slot + length bytes ≤ p)
+  longer : (p : ℕ) → (p < slotStart h goal slot) ⊎ (slotStart h goal slot + slotSize h ≤ p)
+      → (p < slotStart h goal slot) ⊎ (slotStart h goal slot + length bytes ≤ p)
   longer p (inl x) = inl x
   longer p (inr x) = inr (omega (arith, long))
 
-  other-byte : (goal′ slot′ q : ℕ) → number goal′ slot′ ≢ number goal slot → q < slotSize h → getD (slotAt h new goal′ slot′) q 0 ≡ getD (slotAt h cache goal′ slot′) q 0
+  other-byte : (goal′ slot′ q : ℕ) → number goal′ slot′ ≢ number goal slot → q < slotSize h
+      → getD (slotAt h new goal′ slot′) q 0 ≡ getD (slotAt h cache goal′ slot′) q 0
   other-byte goal′ slot′ q d z =
       new-byte goal′ slot′ q z
       ∙ (written-other cache bytes (slotStart h goal slot) fits (slotStart h goal′ slot′ + q)
@@ -118,10 +130,12 @@ module _ (W : World) (cache : List ℕ) (ok : CacheOk W cache) (goal slot : ℕ)
       ∙ (ap (λ (n : ℕ). getD (written cache bytes (slotStart h goal slot) fits) (n * slotSize h + q) 0) e
       ∙ written-in cache bytes (slotStart h goal slot) fits q (omega (arith, long)))
 
-  still-held : (goal′ slot′ : ℕ) → number goal′ slot′ ≢ number goal slot → T (slotHeld (slotAt h new goal′ slot′)) → T (slotHeld (slotAt h cache goal′ slot′))
+  still-held : (goal′ slot′ : ℕ) → number goal′ slot′ ≢ number goal slot → T (slotHeld (slotAt h new goal′ slot′))
+      → T (slotHeld (slotAt h cache goal′ slot′))
   still-held goal′ slot′ d t = subst (λ (n : ℕ). T (eqb n 1)) (other-byte goal′ slot′ 0 d (omega arith)) t
 
-  written-claims : (goal′ slot′ : ℕ) → goal′ < h .goals → slot′ < h .top + 2 → T (slotHeld (slotAt h new goal′ slot′)) → T (W .claim (slotResult (slotAt h new goal′ slot′)) nobody goal′)
+  written-claims : (goal′ slot′ : ℕ) → goal′ < h .goals → slot′ < h .top + 2 → T (slotHeld (slotAt h new goal′ slot′))
+      → T (W .claim (slotResult (slotAt h new goal′ slot′)) nobody goal′)
   written-claims goal′ slot′ l′ m′ t = go (ℕ-discrete (number goal′ slot′) (number goal slot))
     where
       go : Dec (number goal′ slot′ ≡ number goal slot) → T (W .claim (slotResult (slotAt h new goal′ slot′)) nobody goal′)
@@ -130,10 +144,12 @@ module _ (W : World) (cache : List ℕ) (ok : CacheOk W cache) (goal slot : ℕ)
           let r : slotResult (slotAt h new goal′ slot′) ≡ a = says _ a (same-byte goal′ slot′ 1 e (omega arith) ∙ second) in
           subst₂ (λ (x : Answer) (y : ℕ). T (W .claim x nobody y)) (sym r) (sym g) claimed
       go (no d) =
-          let r : slotResult (slotAt h cache goal′ slot′) ≡ slotResult (slotAt h new goal′ slot′) = ap answerOf (sym (other-byte goal′ slot′ 1 d (omega arith))) in
+          let r : slotResult (slotAt h cache goal′ slot′) ≡ slotResult (slotAt h new goal′ slot′) = ap answerOf
+          (sym (other-byte goal′ slot′ 1 d (omega arith))) in
           subst (λ (x : Answer). T (W .claim x nobody goal′)) r (ok .claims goal′ slot′ l′ m′ (still-held goal′ slot′ d t))
 
-  written-depths : (goal′ k : ℕ) → goal′ < h .goals → k ≤ h .top → T (slotHeld (slotAt h new goal′ (overflowSlot k))) → slotDepth (slotAt h new goal′ (overflowSlot k)) ≡ k
+  written-depths : (goal′ k : ℕ) → goal′ < h .goals → k ≤ h .top → T (slotHeld (slotAt h new goal′ (overflowSlot k)))
+      → slotDepth (slotAt h new goal′ (overflowSlot k)) ≡ k
   written-depths goal′ k l′ m′ t = go (ℕ-discrete (number goal′ (overflowSlot k)) (number goal slot))
     where
       go : Dec (number goal′ (overflowSlot k) ≡ number goal slot) → slotDepth (slotAt h new goal′ (overflowSlot k)) ≡ k
@@ -146,7 +162,8 @@ module _ (W : World) (cache : List ℕ) (ok : CacheOk W cache) (goal slot : ℕ)
   pub written-ok : CacheOk W new
   written-ok =
       record {
-        order = record { size = ap length new-is ∙ (written-length cache bytes (slotStart h goal slot) fits ∙ ok .order .size); depths = written-depths };
+        order =
+            record { size = ap length new-is ∙ (written-length cache bytes (slotStart h goal slot) fits ∙ ok .order .size); depths = written-depths };
         claims = written-claims;
       }
 
@@ -155,7 +172,8 @@ abbrev pub Kept : World → Option (List ℕ) → Type 0
 Kept W none = Unit {0}
 Kept W (some cache) = CacheOk W cache
 
-module _ (W : World) (cache : List ℕ) (ok : CacheOk W cache) (goal : ℕ) (l : goal < W .book .header .goals) (r : EvaluationResult) (nested : length (r .nestedGoals) ≡ W .book .header .goals)
+module _ (W : World) (cache : List ℕ) (ok : CacheOk W cache) (goal : ℕ) (l : goal < W .book .header .goals) (r : EvaluationResult)
+    (nested : length (r .nestedGoals) ≡ W .book .header .goals)
     (shallow : r .requiredDepth ≤ W .book .header .top) (claimed : T (W .claim (r .result) nobody goal)) where
   slot-bound : (t : Bool) → elim t [ true ↦ overflowSlot (r .requiredDepth) | false ↦ successSlot ] < W .book .header .top + 2
   slot-bound true = omega arith
@@ -168,7 +186,8 @@ module _ (W : World) (cache : List ℕ) (ok : CacheOk W cache) (goal : ℕ) (l :
   insert-one : (t : Bool) → Kept W (elim t [ true ↦ none | false ↦ some (writeSlot (W .book .header) cache goal (slotFor r) (slotBytes r)) ])
   insert-one true = tt
   insert-one false =
-      written-ok W cache ok goal (slotFor r) l (slot-bound (r .encounteredOverflow)) (slotBytes r) (omega (arith, nested)) (r .result) refl (slot-depth (r .encounteredOverflow)) claimed
+      written-ok W cache ok goal (slotFor r) l (slot-bound (r .encounteredOverflow)) (slotBytes r) (omega (arith, nested)) (r .result) refl
+      (slot-depth (r .encounteredOverflow)) claimed
 
   pub insert-ok : Kept W (cacheInsert (W .book .header) cache goal r)
   insert-ok = insert-one (conflicts (slotAt (W .book .header) cache goal (slotFor r)) (r .result))

@@ -73,7 +73,8 @@ module _ (Φ : Operator) where
   -- assumptions that are supported on others may be replaced by those
   pub H-bind : (A B : Goals) → A ⊆ H B → H A ⊆ H B
   H-bind A B h =
-      H-upto B (H A) (λ g t. union-elim (Φ .act (H A)) A (union (Φ .act (union (H A) (H B))) (H B)) (search (inside, Φ .mono)) (search inside) g (H-out A g t))
+      H-upto B (H A) (λ g t. union-elim (Φ .act (H A)) A (union (Φ .act (union (H A) (H B))) (H B)) (search (inside, Φ .mono)) (search inside) g
+      (H-out A g t))
 
   pub H-mono : (A B : Goals) → A ⊆ B → H A ⊆ H B
   H-mono A B h = H-bind A B (search H-assumed)

@@ -21,11 +21,12 @@ use Rattle.definition.specs.declared.heads.CycleHead.{CycleHead}
 use Rattle.definition.specs.declared.paths.PathKind.{PathKind}
 use Rattle.definition.specs.declared.usages.HeadUsages.{HeadUsages}
 use Rattle.soundness.specs.Always.{FrameInOrder, FramesInOrder, HasHead, IsHead, Known}
+use Rattle.soundness.proofs.Logic.{clash}
 use Rattle.soundness.proofs.Support.{step}
 use Rattle.soundness.proofs.World.{World}
 use Rattle.soundness.proofs.Counters.{Reads, counter, counter-nested, counter-none}
 use Rattle.soundness.proofs.Assumed.{A, Base, own}
-use Rattle.soundness.proofs.Inv.{FrameGain, Gain, Inv, Step, none-gains, readsOf, top-gains, trackedIn}
+use Rattle.soundness.proofs.Inv.{FrameGain, Gain, Inv, State, Step, none-gains, readsOf, top-gains, trackedIn}
 use Rattle.soundness.proofs.Steps.{entry-known, every-map, gain-bases, gain-known}
 use Rattle.soundness.proofs.HeadLaws.{each-adds, each-from, each-gains, each-keeps, join-reads, length-each, take-from, take-reads, usagesOf}
 
@@ -34,7 +35,8 @@ abbrev pub childReads : CycleHeads → Reads
 childReads cs i k = min (readsOf cs i k) 1
 
 -- ---- the candidate
-track-at : (us : List HeadUsages) (cs : CycleHeads) (i : ℕ) (k : PathKind) → counter (getD (trackUsages us cs) i noUsages) k ≤ counter (getD us i noUsages) k + childReads cs i k
+track-at : (us : List HeadUsages) (cs : CycleHeads) (i : ℕ) (k : PathKind)
+    → counter (getD (trackUsages us cs) i noUsages) k ≤ counter (getD us i noUsages) k + childReads cs i k
 track-at [] cs i k = omega arith
 track-at (u ∷ us) [] i k = omega arith
 track-at (u ∷ us) (none ∷ cs) zero k = omega arith
@@ -42,7 +44,8 @@ track-at (u ∷ us) (none ∷ cs) (suc i) k = track-at us cs i k
 track-at (u ∷ us) (some c ∷ cs) zero k = omega (arith, counter-nested u (c .usages) k)
 track-at (u ∷ us) (some c ∷ cs) (suc i) k = track-at us cs i k
 
-candidate-gains : (o : Option (List HeadUsages)) (cs : CycleHeads) (i : ℕ) (k : PathKind) → trackedIn (addToCandidate o cs) i k ≤ trackedIn o i k + childReads cs i k
+candidate-gains : (o : Option (List HeadUsages)) (cs : CycleHeads) (i : ℕ) (k : PathKind)
+    → trackedIn (addToCandidate o cs) i k ≤ trackedIn o i k + childReads cs i k
 candidate-gains none cs i k = omega arith
 candidate-gains (some us) cs i k = track-at us cs i k
 
@@ -57,7 +60,7 @@ own-keeps f none h = h
 own-keeps f (some c) h = (_, refl)
 
 own-new : (o : Option HeadUsages) (c : Option CycleHead) (h : CycleHead) → c ≡ some h → (u : HeadUsages) × (addToUsages o c ≡ some u)
-own-new o none h e = let z : _≡_ {A = ℕ} 0 1 = cc in absurd (omega arith)
+own-new o none h e = clash (cc)
 own-new o (some c) h e = (_, refl)
 
 -- ---- the nested goals
@@ -79,13 +82,19 @@ module _ (W : World) (step : PathKind) (cs : CycleHeads) (overflow : Bool) (ctxt
   updated : ℕ → Frame → Frame
   updated n f = addRest step overflow ctxt reached (addHeads step n cs f)
 
-  update-frame : (n : ℕ) (f : Frame) → length (f .heads) ≡ W .book .header .goals → n ≤ W .book .header .goals → FrameGain n f (updated n f) (childReads cs)
+  update-frame : (n : ℕ) (f : Frame) → length (f .heads) ≡ W .book .header .goals → n ≤ W .book .header .goals
+      → FrameGain n f (updated n f) (childReads cs)
   unfolding updated
   update-frame n f long room =
       record {
         same = refl;
         heads = λ i k l.
-            omega (arith, each-gains (joinChild step) (join-reads (λ c. extendWith (c .paths) step) (λ c. c .usages)) (f .heads) (take n cs) i k (omega arith), take-reads n cs i k l);
+            omega (
+              arith,
+              each-gains (joinChild step) (join-reads (λ c. extendWith (c .paths) step) (λ c. c .usages)) (f .heads) (take n cs) i k
+                  (omega arith),
+              take-reads n cs i k l,
+            );
         usages = λ k. own-gains (f .usages) (getD cs n none) k;
         tracked = λ i k. candidate-gains (f .candidateUsages) cs i k;
         keepsHeads = λ i p. each-keeps (joinChild step) (f .heads) (take n cs) i p;
@@ -101,7 +110,9 @@ module _ (W : World) (step : PathKind) (cs : CycleHeads) (overflow : Bool) (ctxt
         reached = omega (arith, v .reached);
         heads = length-each (joinChild step) (f .heads) (take n cs) ∙ v .heads;
         below = λ i p. low (each-from (joinChild step) (f .heads) (take n cs) i p);
-        nested = length-rest (dependsOnCycle ctxt) (f .input) (addNested ctxt step (f .nestedGoals)) ∙ (length-nested ctxt step (f .nestedGoals) ∙ v .nested);
+        nested =
+            length-rest (dependsOnCycle ctxt) (f .input) (addNested ctxt step (f .nestedGoals)) ∙
+            (length-nested ctxt step (f .nestedGoals) ∙ v .nested);
       }
     where
       low : {i : ℕ} → HasHead (f .heads) i ⊎ HasHead (take n cs) i → i < n
@@ -109,24 +120,32 @@ module _ (W : World) (step : PathKind) (cs : CycleHeads) (overflow : Bool) (ctxt
       low (inr p) = take-from n cs _ p
 
   -- the parent gains what its child's heads were used for
-  pub update-gains : (s : Stack) → FramesInOrder (W .book .header) s → length s ≤ W .book .header .goals → Gain s (updateParentGoal s step cs overflow ctxt reached) (childReads cs)
+  pub update-gains : (s : Stack) → FramesInOrder (W .book .header) s → length s ≤ W .book .header .goals
+      → Gain s (updateParentGoal s step cs overflow ctxt reached) (childReads cs)
   unfolding updated
   update-gains [] v l = none-gains
   update-gains (f ∷ fs) v l = top-gains (update-frame (length fs) f (v .0 .heads) (omega arith))
 
-  pub update-frames : (s : Stack) → FramesInOrder (W .book .header) s → FramesInOrder (W .book .header) (updateParentGoal s step cs overflow ctxt reached)
+  pub update-frames : (s : Stack) → FramesInOrder (W .book .header) s
+      → FramesInOrder (W .book .header) (updateParentGoal s step cs overflow ctxt reached)
   unfolding updated
   update-frames [] v = tt
   update-frames (f ∷ fs) v = (update-ok (length fs) f (v .0), v .1)
 
   -- and the child's heads are live
-  pub update-known : (s : Stack) → FramesInOrder (W .book .header) s → length s ≤ W .book .header .goals → (i : ℕ) → i < length s → HasHead cs i → Known (updateParentGoal s step cs overflow ctxt reached) i
+  pub update-known : (s : Stack) → FramesInOrder (W .book .header) s → length s ≤ W .book .header .goals → (i : ℕ) → i < length s → HasHead cs i
+      → Known (updateParentGoal s step cs overflow ctxt reached) i
   unfolding updated
   update-known [] v l i b p = absurd (not-suc-le-zero b)
   update-known (f ∷ fs) v l i b p = go (decLt i (length fs))
     where
       go : Dec (i < length fs) → Known (updated (length fs) f ∷ fs) i
-      go (yes h) = inr (inl (h, each-adds (joinChild step) (f .heads) (take (length fs) cs) i (omega (arith, v .0 .heads)) (p .0, getD-take (length fs) cs i none h ∙ p .1)))
+      go (yes h) =
+          inr (inl (
+            h,
+            each-adds (joinChild step) (f .heads) (take (length fs) cs) i (omega (arith, v .0 .heads))
+                (p .0, getD-take (length fs) cs i none h ∙ p .1),
+          ))
       go (no h) =
           let e : i ≡ length fs = omega arith in
           inl (e, own-new (f .usages) (getD cs (length fs) none) (p .0) (rw e at (p .1)))
@@ -134,18 +153,21 @@ module _ (W : World) (step : PathKind) (cs : CycleHeads) (overflow : Bool) (ctxt
   -- a state whose stack was updated
   pub update-inv : (xs : List Base) (L : ℕ → Type 0) (g : Graph) → Inv W xs L g → length (g .stack) ≤ W .book .header .goals
       → ((i : ℕ) → L i → Known (updateParentGoal (g .stack) step cs overflow ctxt reached) i)
-      → Inv W xs (Known (updateParentGoal (g .stack) step cs overflow ctxt reached)) (withStack g (updateParentGoal (g .stack) step cs overflow ctxt reached))
+      → Inv W xs (Known (updateParentGoal (g .stack) step cs overflow ctxt reached))
+      (withStack g (updateParentGoal (g .stack) step cs overflow ctxt reached))
   update-inv xs L g v l h =
       record {
         here = gain-bases (update-gains (g .stack) (v .frames) l) ∙ v .here;
         root = v .root;
         frames = update-frames (g .stack) (v .frames);
-        entries = every-map _ _ (entry-known W xs L (Known (updateParentGoal (g .stack) step cs overflow ctxt reached)) h) (g .provisionalCache) (v .entries);
+        entries =
+            every-map _ _ (entry-known W xs L (Known (updateParentGoal (g .stack) step cs overflow ctxt reached)) h) (g .provisionalCache)
+            (v .entries);
         cache = v .cache;
       }
 
   -- a lookup's step
-  pub update-step : (xs : List Base) (g : Graph) → Inv W xs (Known (g .stack)) g → length (g .stack) ≤ W .book .header .goals
+  pub update-step : (xs : List Base) (g : Graph) → State W xs g → length (g .stack) ≤ W .book .header .goals
       → Step W xs g (withStack g (updateParentGoal (g .stack) step cs overflow ctxt reached)) (childReads cs)
   update-step xs g v l =
       record {

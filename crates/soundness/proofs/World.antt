@@ -65,7 +65,8 @@ pub record World : Type 0 where
   -- no answer but `start` rests on assumptions
   pub free : (a : Answer) (g : ℕ) → a ≢ start g → (A B : Goals) → T (claim a A g) → T (claim a B g)
   pub ambiguous : (a : Answer) → T (isAmbiguous a) → (A : Goals) (g : ℕ) → T (claim a A g)
-  pub initial : (k : PathKind) (g : ℕ) → T (allowed k) → initialProvisionalResult k ≢ start g → (A : Goals) → T (claim (initialProvisionalResult k) A g)
+  pub initial : (k : PathKind) (g : ℕ) → T (allowed k) → initialProvisionalResult k ≢ start g → (A : Goals)
+      → T (claim (initialProvisionalResult k) A g)
   -- a goal whose part's answer is right
   pub pop : (a : Answer) (A : Goals) (g : ℕ) → RightOf book (claim Yes A) (claim No A) g a → T (claim a A g)
   -- a head whose part's answer is right on the assumption of the head itself, and is what was assumed
