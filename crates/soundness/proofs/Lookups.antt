@@ -40,12 +40,9 @@ use Rattle.soundness.proofs.Parts.{Claims}
 lowered : (h : Header) (f : Frame) (s t : Bool) (a : ℕ)
     → _≡_ {A = Option ℕ} (elim s [
       | true ↦ none
-      | false ↦ elim t [
-        | true ↦ some (f .availableDepth / h .divisor)
-        | false ↦ some
-            (f .availableDepth - 1)
-      ]
-    ]) (some a) → a ≤ f .availableDepth
+      | false ↦ elim t [ true ↦ some (f .availableDepth / h .divisor) | false ↦ some (f .availableDepth - 1) ]
+    ]) (some a)
+    → a ≤ f .availableDepth
 lowered h f true t a e = clash (cc)
 lowered h f false true a e = let z : f .availableDepth / h .divisor ≡ a = cc in omega (arith, div-le-self (f .availableDepth) (h .divisor))
 lowered h f false false a e = let z : f .availableDepth - 1 ≡ a = cc in omega arith
@@ -102,22 +99,22 @@ module _ (W : World) (xs : List Base) (g : Graph) (v : State W xs g) (small : le
   pub provisional-found : (goal : ℕ) (step : PathKind) (available : ℕ) → Found goal (lookupProvisionalCache (W .book .header) g goal step available)
   provisional-found goal step available = when-on goal step available (W .book .header .provisional)
 
-  -- ---- the notebook
+  -- ---- the global cache
   abbrev Cached : ℕ → Option CacheData → Type 0
   Cached goal none = Unit {0}
   Cached goal (some d) = T (W .claim (d .result) nobody goal)
 
-  with-overflow : (goal : ℕ) (ap : List ℕ → Bool) (s : List ℕ) → (T (slotHeld s) → T (W .claim (slotResult s) nobody goal)) → (t : Bool)
-      → (slotHeld s && ap (slotNested s)) ≡ t → Cached goal (getWithOverflow ap s)
+  with-overflow : (goal : ℕ) (p : List ℕ → Bool) (s : List ℕ) → (T (slotHeld s) → T (W .claim (slotResult s) nobody goal)) → (t : Bool)
+      → (slotHeld s && p (slotNested s)) ≡ t → Cached goal (getWithOverflow p s)
   with-overflow goal p s h true e = rw (e, getWithOverflow) (h (and-left (slotHeld s) (p (slotNested s)) (of-true _ e)))
   with-overflow goal p s h false e = rw (e, getWithOverflow) tt
 
   get-in : (goal : ℕ) (p : List ℕ → Bool) (available : ℕ) (s o : List ℕ) → (T (slotHeld s) → T (W .claim (slotResult s) nobody goal))
       → (T (slotHeld o) → T (W .claim (slotResult o) nobody goal))
-      → (t : Bool) → (slotHeld s && lib.Dec.leb (slotDepth s) available && p (slotNested s)) ≡ t → Cached goal (getFromSlots p available s o)
+      → (t : Bool) → (slotHeld s && leb (slotDepth s) available && p (slotNested s)) ≡ t → Cached goal (getFromSlots p available s o)
   get-in goal p available s o h k true e = rw (e, getFromSlots) (h (is-held (of-true _ e)))
     where
-      is-held : T (slotHeld s && lib.Dec.leb (slotDepth s) available && p (slotNested s)) → T (slotHeld s)
+      is-held : T (slotHeld s && leb (slotDepth s) available && p (slotNested s)) → T (slotHeld s)
       is-held t = search (and-left, and-right)
   get-in goal p available s o h k false e = rw (e, getFromSlots) (with-overflow goal p o k _ refl)
 
@@ -159,8 +156,7 @@ find-below goal f fs n (some o) h = below h
 
 find-one : (goal : ℕ) (f : Frame) (fs : Stack) → FindPost goal fs (stackFind fs goal) → (t : Bool) → eqb (f .input) goal ≡ t
     → FindPost goal (f ∷ fs) (elim t [
-      | true ↦ some
-          (record { index = length fs; provisionalResult = f .provisionalResult })
+      | true ↦ some (record { index = length fs; provisionalResult = f .provisionalResult })
       | false ↦ stackFind fs goal
     ])
 find-one goal f fs h true e = on-top (eqb→eq (f .input) goal (of-true _ e))

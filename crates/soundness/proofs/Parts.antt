@@ -172,170 +172,172 @@ module _ (W : World) (xs : List Base) where
             );
       }
 
--- ---- the recursion
-module _ (W : World) (xs : List Base) (evaluate : Evaluator) (ok : EvalOk W xs evaluate) where
-  abbrev G : ℕ
-  G = W .book .header .goals
+  -- ---- the recursion
+  module _ (evaluate : Evaluator) (ok : EvalOk W xs evaluate) where
+    abbrev G : ℕ
+    G = W .book .header .goals
 
-  all-then : (p : Part) (ps : Parts) (combined : Answer) (g : Graph) (o : Outcome) → After W xs g (RightAt W xs p) o
-      → ((w : Answer) (g′ : Graph) → State W xs g′ → After W xs g′ (ForAll W xs w ps) (evalAll evaluate G ps w g′))
-      → After W xs g (ForAll W xs combined (Then p ps))
-      (andThen o λ g1 a. elim (sameAnswer a No) [ true ↦ Done g1 No | false ↦ evalAll evaluate G ps (combine combined a) g1 ])
-  all-then p ps combined g o r ih =
-      after-then W xs g (RightAt W xs p) (ForAll W xs combined (Then p ps)) o _ r λ g1 a d s t. go g1 a d s t (sameAnswer a No) refl
-    where
-      go : (g1 : Graph) (a : Answer) (d : Reads) → Step W xs g g1 d → RightAt W xs p d a → (t : Bool) → sameAnswer a No ≡ t
-          → After W xs g (ForAll W xs combined (Then p ps)) (elim t [ true ↦ Done g1 No | false ↦ evalAll evaluate G ps (combine combined a) g1 ])
-      go g1 a d s t true e = (d, s, all-stop W xs combined p ps d (t .whenNo (same→≡ a No (of-true (sameAnswer a No) e))))
-      go g1 a d s t false e =
-          after-from W xs g g1 d (ForAll W xs combined (Then p ps)) (ForAll W xs (combine combined a) ps) s
-          (λ e′ r′ q. all-more W xs combined a p ps d e′ r′ (differ a No e) t q)
-          (evalAll evaluate G ps (combine combined a) g1) (ih (combine combined a) g1 (s .inv))
+    all-then : (p : Part) (ps : Parts) (combined : Answer) (g : Graph) (o : Outcome) → After W xs g (RightAt W xs p) o
+        → ((w : Answer) (g′ : Graph) → State W xs g′ → After W xs g′ (ForAll w ps) (evalAll evaluate G ps w g′))
+        → After W xs g (ForAll combined (Then p ps))
+        (andThen o λ g1 a. elim (sameAnswer a No) [ true ↦ Done g1 No | false ↦ evalAll evaluate G ps (combine combined a) g1 ])
+    all-then p ps combined g o r ih =
+        after-then W xs g (RightAt W xs p) (ForAll combined (Then p ps)) o _ r λ g1 a d s t. go g1 a d s t (sameAnswer a No) refl
+      where
+        go : (g1 : Graph) (a : Answer) (d : Reads) → Step W xs g g1 d → RightAt W xs p d a → (t : Bool) → sameAnswer a No ≡ t
+            → After W xs g (ForAll combined (Then p ps)) (elim t [ true ↦ Done g1 No | false ↦ evalAll evaluate G ps (combine combined a) g1 ])
+        go g1 a d s t true e = (d, s, all-stop combined p ps d (t .whenNo (same→≡ a No (of-true (sameAnswer a No) e))))
+        go g1 a d s t false e =
+            after-from W xs g g1 d (ForAll combined (Then p ps)) (ForAll (combine combined a) ps) s
+            (λ e′ r′ q. all-more combined a p ps d e′ r′ (differ a No e) t q)
+            (evalAll evaluate G ps (combine combined a) g1) (ih (combine combined a) g1 (s .inv))
 
-  any-then : (p : Part) (ps : Parts) (combined : Answer) (g : Graph) (o : Outcome) → After W xs g (RightAt W xs p) o
-      → ((w : Answer) (g′ : Graph) → State W xs g′ → After W xs g′ (ForAny W xs w ps) (evalAny evaluate G ps w g′))
-      → After W xs g (ForAny W xs combined (Then p ps))
-      (andThen o λ g1 a. elim (sameAnswer a Yes) [ true ↦ Done g1 Yes | false ↦ evalAny evaluate G ps (combine combined a) g1 ])
-  any-then p ps combined g o r ih =
-      after-then W xs g (RightAt W xs p) (ForAny W xs combined (Then p ps)) o _ r λ g1 a d s t. go g1 a d s t (sameAnswer a Yes) refl
-    where
-      go : (g1 : Graph) (a : Answer) (d : Reads) → Step W xs g g1 d → RightAt W xs p d a → (t : Bool) → sameAnswer a Yes ≡ t
-          → After W xs g (ForAny W xs combined (Then p ps)) (elim t [ true ↦ Done g1 Yes | false ↦ evalAny evaluate G ps (combine combined a) g1 ])
-      go g1 a d s t true e = (d, s, any-stop W xs combined p ps d (t .whenYes (same→≡ a Yes (of-true (sameAnswer a Yes) e))))
-      go g1 a d s t false e =
-          after-from W xs g g1 d (ForAny W xs combined (Then p ps)) (ForAny W xs (combine combined a) ps) s
-          (λ e′ r′ q. any-more W xs combined a p ps d e′ r′ (differ a Yes e) t q)
-          (evalAny evaluate G ps (combine combined a) g1) (ih (combine combined a) g1 (s .inv))
+    any-then : (p : Part) (ps : Parts) (combined : Answer) (g : Graph) (o : Outcome) → After W xs g (RightAt W xs p) o
+        → ((w : Answer) (g′ : Graph) → State W xs g′ → After W xs g′ (ForAny w ps) (evalAny evaluate G ps w g′))
+        → After W xs g (ForAny combined (Then p ps))
+        (andThen o λ g1 a. elim (sameAnswer a Yes) [ true ↦ Done g1 Yes | false ↦ evalAny evaluate G ps (combine combined a) g1 ])
+    any-then p ps combined g o r ih =
+        after-then W xs g (RightAt W xs p) (ForAny combined (Then p ps)) o _ r λ g1 a d s t. go g1 a d s t (sameAnswer a Yes) refl
+      where
+        go : (g1 : Graph) (a : Answer) (d : Reads) → Step W xs g g1 d → RightAt W xs p d a → (t : Bool) → sameAnswer a Yes ≡ t
+            → After W xs g (ForAny combined (Then p ps)) (elim t [ true ↦ Done g1 Yes | false ↦ evalAny evaluate G ps (combine combined a) g1 ])
+        go g1 a d s t true e = (d, s, any-stop combined p ps d (t .whenYes (same→≡ a Yes (of-true (sameAnswer a Yes) e))))
+        go g1 a d s t false e =
+            after-from W xs g g1 d (ForAny combined (Then p ps)) (ForAny (combine combined a) ps) s
+            (λ e′ r′ q. any-more combined a p ps d e′ r′ (differ a Yes e) t q)
+            (evalAny evaluate G ps (combine combined a) g1) (ih (combine combined a) g1 (s .inv))
 
-  -- the usages in `us` are at most the reads O
-  abbrev AtMost : List HeadUsages → Reads → Type 0
-  AtMost us O = (i : ℕ) (k : PathKind) → counter (getD us i noUsages) k ≤ O i k
+    -- the usages in `us` are at most the reads O
+    abbrev AtMost : List HeadUsages → Reads → Type 0
+    AtMost us O = (i : ℕ) (k : PathKind) → counter (getD us i noUsages) k ≤ O i k
 
-  abbrev Fits : Reads → Reads → Reads → Type 0
-  Fits O F D = (i : ℕ) (k : PathKind) → O i k + F i k ≤ D i k
+    abbrev Fits : Reads → Reads → Reads → Type 0
+    Fits O F D = (i : ℕ) (k : PathKind) → O i k + F i k ≤ D i k
 
-  -- a candidate, entered at g and left after g1
-  candidate-step : (g₀ g g1 : Graph) (D d : Reads) → State W xs g → Step W xs g₀ g D → Step W xs (enterSingleCandidate G g) g1 d
-      → Step W xs g₀ (finishSingleCandidate g1) (plus (plus (plus D nothing) d) nothing)
-  candidate-step g₀ g g1 D d v s t =
-      step-trans W xs g₀ g1 _ (plus (plus D nothing) d) nothing
-      (step-trans W xs g₀ (enterSingleCandidate G g) g1 (plus D nothing) d
-      (step-trans W xs g₀ g (enterSingleCandidate G g) D nothing s (enter-step W xs g v)) t)
-      (finish-step W xs g1 (t .inv))
+    -- a candidate, entered at g and left after g1
+    candidate-step : (g₀ g g1 : Graph) (D d : Reads) → State W xs g → Step W xs g₀ g D → Step W xs (enterSingleCandidate G g) g1 d
+        → Step W xs g₀ (finishSingleCandidate g1) (plus (plus (plus D nothing) d) nothing)
+    candidate-step g₀ g g1 D d v s t =
+        step-trans W xs g₀ g1 _ (plus (plus D nothing) d) nothing
+        (step-trans W xs g₀ (enterSingleCandidate G g) g1 (plus D nothing) d
+        (step-trans W xs g₀ g (enterSingleCandidate G g) D nothing s (enter-step W xs g v)) t)
+        (finish-step W xs g1 (t .inv))
 
-  finished-atMost : (g g1 : Graph) (d : Reads) → Step W xs (enterSingleCandidate G g) g1 d → AtMost (finishedUsages G g1) d
-  finished-atMost g g1 d t = tracked-since G (g .stack) (g1 .stack) d (t .gain)
+    finished-atMost : (g g1 : Graph) (d : Reads) → Step W xs (enterSingleCandidate G g) g1 d → AtMost (finishedUsages G g1) d
+    finished-atMost g g1 d t = tracked-since G (g .stack) (g1 .stack) d (t .gain)
 
-  merged-atMost : (us vs : List HeadUsages) (O d : Reads) → AtMost us O → AtMost vs d → AtMost (mergeUsages us vs) (plus O d)
-  merged-atMost us vs O d a b i k = omega (arith, merged us vs i k, a i k, b i k)
+    merged-atMost : (us vs : List HeadUsages) (O d : Reads) → AtMost us O → AtMost vs d → AtMost (mergeUsages us vs) (plus O d)
+    merged-atMost us vs O d a b i k = omega (arith, merged us vs i k, a i k, b i k)
 
-  -- after a Yes was met: the answer is Yes, and the reads that are left are F, those of the first Yes
-  abbrev Met : Reads → Reads → Answer → Type 0
-  Met F d a = (a ≡ Yes) × (d ≡ F)
+    -- after a Yes was met: the answer is Yes, and the reads that are left are F, those of the first Yes
+    abbrev Met : Reads → Reads → Answer → Type 0
+    Met F d a = (a ≡ Yes) × (d ≡ F)
 
-  abbrev MetOk : Parts → Type 0
-  MetOk ps =
-      (combined : Answer) (others : List HeadUsages) (g₀ g : Graph) (D O F : Reads) → Step W xs g₀ g D → AtMost others O → Fits O F D
-      → Untracked (g .stack)
-      → After W xs g₀ (Met F) (evalPick evaluate G ps true combined others g)
+    abbrev MetOk : Parts → Type 0
+    MetOk ps =
+        (combined : Answer) (others : List HeadUsages) (g₀ g : Graph) (D O F : Reads) → Step W xs g₀ g D → AtMost others O → Fits O F D
+        → Untracked (g .stack)
+        → After W xs g₀ (Met F) (evalPick evaluate G ps true combined others g)
 
-  abbrev PickOk : Parts → Type 0
-  PickOk ps =
-      (combined : Answer) (others : List HeadUsages) (g₀ g : Graph) (D O : Reads) → Step W xs g₀ g D → AtMost others O
-      → ((i : ℕ) (k : PathKind) → O i k ≤ D i k)
-      → After W xs g₀ (ForPick W xs D combined ps) (evalPick evaluate G ps false combined others g)
+    abbrev PickOk : Parts → Type 0
+    PickOk ps =
+        (combined : Answer) (others : List HeadUsages) (g₀ g : Graph) (D O : Reads) → Step W xs g₀ g D → AtMost others O
+        → ((i : ℕ) (k : PathKind) → O i k ≤ D i k)
+        → After W xs g₀ (ForPick D combined ps) (evalPick evaluate G ps false combined others g)
 
-  met-then : (p : Part) (ps : Parts) → ((g : Graph) → State W xs g → After W xs g (RightAt W xs p) (evalPart evaluate G p g)) → MetOk ps
-      → MetOk (Then p ps)
-  met-then p ps r ih combined others g₀ g D O F s a f u =
-      go (evalPart evaluate G p (enterSingleCandidate G g)) (r (enterSingleCandidate G g) (enter-step W xs g (s .inv) .inv))
-    where
-      go : (o : Outcome) → After W xs (enterSingleCandidate G g) (RightAt W xs p) o
-          → After W xs g₀ (Met F) (andThen o λ g1 a. evalPick evaluate G ps (true || sameAnswer a Yes) (combine combined a)
-          (mergeUnless (not true && sameAnswer a Yes) others (finishedUsages G g1)) (finishSingleCandidate g1))
-      go (Stopped r) t = t
-      go (Done g1 b) (d, t, q) =
-          ih (combine combined b) (mergeUsages others (finishedUsages G g1)) g₀ (finishSingleCandidate g1) _ (plus O d) F
-          (candidate-step g₀ g g1 D d (s .inv) s t)
-          (merged-atMost others (finishedUsages G g1) O d a (finished-atMost g g1 d t))
-          (λ i k. omega (arith, f i k))
-          (finish-untracked (g1 .stack))
+    met-then : (p : Part) (ps : Parts) → ((g : Graph) → State W xs g → After W xs g (RightAt W xs p) (evalPart evaluate G p g)) → MetOk ps
+        → MetOk (Then p ps)
+    met-then p ps r ih combined others g₀ g D O F s a f u =
+        go (evalPart evaluate G p (enterSingleCandidate G g)) (r (enterSingleCandidate G g) (enter-step W xs g (s .inv) .inv))
+      where
+        go : (o : Outcome) → After W xs (enterSingleCandidate G g) (RightAt W xs p) o
+            → After W xs g₀ (Met F) (andThen o λ g1 a. evalPick evaluate G ps (true || sameAnswer a Yes) (combine combined a)
+            (mergeUnless (not true && sameAnswer a Yes) others (finishedUsages G g1)) (finishSingleCandidate g1))
+        go (Stopped r) t = t
+        go (Done g1 b) (d, t, q) =
+            ih (combine combined b) (mergeUsages others (finishedUsages G g1)) g₀ (finishSingleCandidate g1) _ (plus O d) F
+            (candidate-step g₀ g g1 D d (s .inv) s t)
+            (merged-atMost others (finishedUsages G g1) O d a (finished-atMost g g1 d t))
+            (λ i k. omega (arith, f i k))
+            (finish-untracked (g1 .stack))
 
-  pick-then : (p : Part) (ps : Parts) → ((g : Graph) → State W xs g → After W xs g (RightAt W xs p) (evalPart evaluate G p g)) → MetOk ps → PickOk ps
-      → PickOk (Then p ps)
-  pick-then p ps r met ih combined others g₀ g D O s a f =
-      go (evalPart evaluate G p (enterSingleCandidate G g)) (r (enterSingleCandidate G g) (enter-step W xs g (s .inv) .inv))
-    where
-      next : (g1 : Graph) (b : Answer) (d : Reads) → Step W xs (enterSingleCandidate G g) g1 d → RightAt W xs p d b → (t : Bool)
-          → sameAnswer b Yes ≡ t
-          → After W xs g₀ (ForPick W xs D combined (Then p ps)) (evalPick evaluate G ps (false || t) (combine combined b)
-          (mergeUnless (not false && t) others (finishedUsages G g1)) (finishSingleCandidate g1))
-      next g1 b d t q true e =
-          after-map W xs g₀ (Met d) (ForPick W xs D combined (Then p ps))
-          (λ d′ a′ m. rw (m .0, m .1) (pick-stop W xs D combined p ps d (q .whenYes (same→≡ b Yes (of-true (sameAnswer b Yes) e)))))
-          (evalPick evaluate G ps true (combine combined b) others (finishSingleCandidate g1))
-          (met (combine combined b) others g₀ (finishSingleCandidate g1) _ O d (candidate-step g₀ g g1 D d (s .inv) s t) a
-          (λ i k. omega (arith, f i k)) (finish-untracked (g1 .stack)))
-      next g1 b d t q false e =
-          after-map W xs g₀ (ForPick W xs (plus (plus (plus D nothing) d) nothing) (combine combined b) ps) (ForPick W xs D combined (Then p ps))
-          (λ d′ a′ m. pick-more W xs D (plus (plus (plus D nothing) d) nothing) combined b p ps d d′ a′ (differ b Yes e) q (λ i k l h. omega arith)
-          (λ i k l h. omega arith) m)
-          (evalPick evaluate G ps false (combine combined b) (mergeUsages others (finishedUsages G g1)) (finishSingleCandidate g1))
-          (ih (combine combined b) (mergeUsages others (finishedUsages G g1)) g₀ (finishSingleCandidate g1) _ (plus O d)
-          (candidate-step g₀ g g1 D d (s .inv) s t)
-          (merged-atMost others (finishedUsages G g1) O d a (finished-atMost g g1 d t))
-          (λ i k. omega (arith, f i k)))
+    pick-then : (p : Part) (ps : Parts) → ((g : Graph) → State W xs g → After W xs g (RightAt W xs p) (evalPart evaluate G p g)) → MetOk ps
+        → PickOk ps
+        → PickOk (Then p ps)
+    pick-then p ps r met ih combined others g₀ g D O s a f =
+        go (evalPart evaluate G p (enterSingleCandidate G g)) (r (enterSingleCandidate G g) (enter-step W xs g (s .inv) .inv))
+      where
+        next : (g1 : Graph) (b : Answer) (d : Reads) → Step W xs (enterSingleCandidate G g) g1 d → RightAt W xs p d b → (t : Bool)
+            → sameAnswer b Yes ≡ t
+            → After W xs g₀ (ForPick D combined (Then p ps)) (evalPick evaluate G ps (false || t) (combine combined b)
+            (mergeUnless (not false && t) others (finishedUsages G g1)) (finishSingleCandidate g1))
+        next g1 b d t q true e =
+            after-map W xs g₀ (Met d) (ForPick D combined (Then p ps))
+            (λ d′ a′ m. rw (m .0, m .1) (pick-stop D combined p ps d (q .whenYes (same→≡ b Yes (of-true (sameAnswer b Yes) e)))))
+            (evalPick evaluate G ps true (combine combined b) others (finishSingleCandidate g1))
+            (met (combine combined b) others g₀ (finishSingleCandidate g1) _ O d (candidate-step g₀ g g1 D d (s .inv) s t) a
+            (λ i k. omega (arith, f i k)) (finish-untracked (g1 .stack)))
+        next g1 b d t q false e =
+            after-map W xs g₀ (ForPick (plus (plus (plus D nothing) d) nothing) (combine combined b) ps) (ForPick D combined (Then p ps))
+            (λ d′ a′ m. pick-more D (plus (plus (plus D nothing) d) nothing) combined b p ps d d′ a′ (differ b Yes e) q (λ i k l h. omega arith)
+            (λ i k l h. omega arith) m)
+            (evalPick evaluate G ps false (combine combined b) (mergeUsages others (finishedUsages G g1)) (finishSingleCandidate g1))
+            (ih (combine combined b) (mergeUsages others (finishedUsages G g1)) g₀ (finishSingleCandidate g1) _ (plus O d)
+            (candidate-step g₀ g g1 D d (s .inv) s t)
+            (merged-atMost others (finishedUsages G g1) O d a (finished-atMost g g1 d t))
+            (λ i k. omega (arith, f i k)))
 
-      go : (o : Outcome) → After W xs (enterSingleCandidate G g) (RightAt W xs p) o
-          → After W xs g₀ (ForPick W xs D combined (Then p ps))
-          (andThen o λ g1 a. evalPick evaluate G ps (false || sameAnswer a Yes) (combine combined a)
-          (mergeUnless (not false && sameAnswer a Yes) others (finishedUsages G g1)) (finishSingleCandidate g1))
-      go (Stopped r) t = t
-      go (Done g1 b) (d, t, q) = next g1 b d t q (sameAnswer b Yes) refl
+        go : (o : Outcome) → After W xs (enterSingleCandidate G g) (RightAt W xs p) o
+            → After W xs g₀ (ForPick D combined (Then p ps))
+            (andThen o λ g1 a. evalPick evaluate G ps (false || sameAnswer a Yes) (combine combined a)
+            (mergeUnless (not false && sameAnswer a Yes) others (finishedUsages G g1)) (finishSingleCandidate g1))
+        go (Stopped r) t = t
+        go (Done g1 b) (d, t, q) = next g1 b d t q (sameAnswer b Yes) refl
 
-  met-end : (combined : Answer) (others : List HeadUsages) (g₀ g : Graph) (D O F : Reads) → Step W xs g₀ g D → AtMost others O → Fits O F D
-      → Untracked (g .stack)
-      → (t : Bool) → canIgnore others (g .stack) ≡ t
-      → After W xs g₀ (Met F) (elim t [ true ↦ Done (ignoreCandidateHeadUsages g others) Yes | false ↦ Stopped Unreachable ])
-  met-end combined others g₀ g D O F s a f u true e = (F, ignore-step W xs g₀ g others D O F s a f u, (refl, refl))
-  met-end combined others g₀ g D O F s a f u false e = absurd (rw e at (can-be-ignored others O F (s .gain) a f))
+    met-end : (combined : Answer) (others : List HeadUsages) (g₀ g : Graph) (D O F : Reads) → Step W xs g₀ g D → AtMost others O → Fits O F D
+        → Untracked (g .stack)
+        → (t : Bool) → canIgnore others (g .stack) ≡ t
+        → After W xs g₀ (Met F) (elim t [ true ↦ Done (ignoreCandidateHeadUsages g others) Yes | false ↦ Stopped Unreachable ])
+    met-end combined others g₀ g D O F s a f u true e = (F, ignore-step W xs g₀ g others D O F s a f u, (refl, refl))
+    met-end combined others g₀ g D O F s a f u false e = absurd (rw e at (can-be-ignored others O F (s .gain) a f))
 
-  mutual
-    pub part-ok : (p : Part) → Calls (CallOk (W .allowed) G) p → (g : Graph) → State W xs g → After W xs g (RightAt W xs p) (evalPart evaluate G p g)
-    part-ok (Call goal kind lower) c g v =
-        after-map W xs g (Claims W xs goal) (RightAt W xs (Call goal kind lower)) (right-call W xs goal kind lower) (evaluate g goal kind lower)
-        (ok g goal kind lower v (c .0) (λ h. c .1))
-    part-ok (Node All ps) c g v =
-        after-map W xs g (ForAll W xs Yes ps) (RightAt W xs (Node All ps)) (right-all W xs ps) (evalAll evaluate G ps Yes g) (all-ok ps c Yes g v)
-    part-ok (Node Any ps) c g v =
-        after-map W xs g (ForAny W xs No ps) (RightAt W xs (Node Any ps)) (right-any W xs ps) (evalAny evaluate G ps No g) (any-ok ps c No g v)
-    part-ok (Node Pick ps) c g v =
-        after-map W xs g (ForPick W xs nothing No ps) (RightAt W xs (Node Pick ps)) (right-pick W xs nothing ps)
-        (evalPick evaluate G ps false No (noCandidateUsages G) g)
-        (pick-ok ps c No (noCandidateUsages G) g g nothing nothing (step-nothing W xs g v) (λ i k. omega (arith, no-candidate G i k))
-        (λ i k. omega arith))
-    part-ok UndecidedLine c g v = (nothing, step-nothing W xs g v, right-undecided W xs nothing)
+    mutual
+      pub part-ok : (p : Part) → Calls (CallOk (W .allowed) G) p → (g : Graph) → State W xs g
+          → After W xs g (RightAt W xs p) (evalPart evaluate G p g)
+      part-ok (Call goal kind lower) c g v =
+          after-map W xs g (Claims W xs goal) (RightAt W xs (Call goal kind lower)) (right-call goal kind lower) (evaluate g goal kind lower)
+          (ok g goal kind lower v (c .0) (λ h. c .1))
+      part-ok (Node All ps) c g v =
+          after-map W xs g (ForAll Yes ps) (RightAt W xs (Node All ps)) (right-all ps) (evalAll evaluate G ps Yes g) (all-ok ps c Yes g v)
+      part-ok (Node Any ps) c g v =
+          after-map W xs g (ForAny No ps) (RightAt W xs (Node Any ps)) (right-any ps) (evalAny evaluate G ps No g) (any-ok ps c No g v)
+      part-ok (Node Pick ps) c g v =
+          after-map W xs g (ForPick nothing No ps) (RightAt W xs (Node Pick ps)) (right-pick nothing ps)
+          (evalPick evaluate G ps false No (noCandidateUsages G) g)
+          (pick-ok ps c No (noCandidateUsages G) g g nothing nothing (step-nothing W xs g v) (λ i k. omega (arith, no-candidate G i k))
+          (λ i k. omega arith))
+      part-ok UndecidedLine c g v = (nothing, step-nothing W xs g v, right-undecided nothing)
 
-    all-ok : (ps : Parts) → AllCalls (CallOk (W .allowed) G) ps → (combined : Answer) (g : Graph) → State W xs g
-        → After W xs g (ForAll W xs combined ps) (evalAll evaluate G ps combined g)
-    all-ok End c combined g v = (nothing, step-nothing W xs g v, all-end W xs combined nothing)
-    all-ok (Then p ps) c combined g v =
-        all-then p ps combined g (evalPart evaluate G p g) (part-ok p (c .0) g v) (λ w g′ v′. all-ok ps (c .1) w g′ v′)
+      all-ok : (ps : Parts) → AllCalls (CallOk (W .allowed) G) ps → (combined : Answer) (g : Graph) → State W xs g
+          → After W xs g (ForAll combined ps) (evalAll evaluate G ps combined g)
+      all-ok End c combined g v = (nothing, step-nothing W xs g v, all-end combined nothing)
+      all-ok (Then p ps) c combined g v =
+          all-then p ps combined g (evalPart evaluate G p g) (part-ok p (c .0) g v) (λ w g′ v′. all-ok ps (c .1) w g′ v′)
 
-    any-ok : (ps : Parts) → AllCalls (CallOk (W .allowed) G) ps → (combined : Answer) (g : Graph) → State W xs g
-        → After W xs g (ForAny W xs combined ps) (evalAny evaluate G ps combined g)
-    any-ok End c combined g v = (nothing, step-nothing W xs g v, any-end W xs combined nothing)
-    any-ok (Then p ps) c combined g v =
-        any-then p ps combined g (evalPart evaluate G p g) (part-ok p (c .0) g v) (λ w g′ v′. any-ok ps (c .1) w g′ v′)
+      any-ok : (ps : Parts) → AllCalls (CallOk (W .allowed) G) ps → (combined : Answer) (g : Graph) → State W xs g
+          → After W xs g (ForAny combined ps) (evalAny evaluate G ps combined g)
+      any-ok End c combined g v = (nothing, step-nothing W xs g v, any-end combined nothing)
+      any-ok (Then p ps) c combined g v =
+          any-then p ps combined g (evalPart evaluate G p g) (part-ok p (c .0) g v) (λ w g′ v′. any-ok ps (c .1) w g′ v′)
 
-    met-ok : (ps : Parts) → AllCalls (CallOk (W .allowed) G) ps → MetOk ps
-    met-ok End c combined others g₀ g D O F s a f u = met-end combined others g₀ g D O F s a f u (canIgnore others (g .stack)) refl
-    met-ok (Then p ps) c combined others g₀ g D O F s a f u =
-        met-then p ps (λ g′ v′. part-ok p (c .0) g′ v′)
-        (λ w o h₀ h D′ O′ F′ s′ a′ f′ u′. met-ok ps (c .1) w o h₀ h D′ O′ F′ s′ a′ f′ u′) combined others g₀ g D O F s a f u
+      met-ok : (ps : Parts) → AllCalls (CallOk (W .allowed) G) ps → MetOk ps
+      met-ok End c combined others g₀ g D O F s a f u = met-end combined others g₀ g D O F s a f u (canIgnore others (g .stack)) refl
+      met-ok (Then p ps) c combined others g₀ g D O F s a f u =
+          met-then p ps (λ g′ v′. part-ok p (c .0) g′ v′)
+          (λ w o h₀ h D′ O′ F′ s′ a′ f′ u′. met-ok ps (c .1) w o h₀ h D′ O′ F′ s′ a′ f′ u′) combined others g₀ g D O F s a f u
 
-    pick-ok : (ps : Parts) → AllCalls (CallOk (W .allowed) G) ps → PickOk ps
-    pick-ok End c combined others g₀ g D O s a f = (D, s, pick-end W xs D combined)
-    pick-ok (Then p ps) c combined others g₀ g D O s a f =
-        pick-then p ps (λ g′ v′. part-ok p (c .0) g′ v′) (λ w o h₀ h D′ O′ F′ s′ a′ f′ u′. met-ok ps (c .1) w o h₀ h D′ O′ F′ s′ a′ f′ u′)
-        (λ w o h₀ h D′ O′ s′ a′ f′. pick-ok ps (c .1) w o h₀ h D′ O′ s′ a′ f′) combined others g₀ g D O s a f
+      pick-ok : (ps : Parts) → AllCalls (CallOk (W .allowed) G) ps → PickOk ps
+      pick-ok End c combined others g₀ g D O s a f = (D, s, pick-end D combined)
+      pick-ok (Then p ps) c combined others g₀ g D O s a f =
+          pick-then p ps (λ g′ v′. part-ok p (c .0) g′ v′) (λ w o h₀ h D′ O′ F′ s′ a′ f′ u′. met-ok ps (c .1) w o h₀ h D′ O′ F′ s′ a′ f′ u′)
+          (λ w o h₀ h D′ O′ s′ a′ f′. pick-ok ps (c .1) w o h₀ h D′ O′ s′ a′ f′) combined others g₀ g D O s a f

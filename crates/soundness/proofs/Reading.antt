@@ -65,8 +65,8 @@ module _ (n : ℕ) (P : Line → Type 0) (Q : ℕ → PathKind → Type 0)
       → (o : Option TakenPart) → One o
       → Several (elim o [
         | none ↦ none
-        | some p ↦ elim
-            (readParts read m (p .rest)) [ none ↦ none | some ps ↦ some (record { parts = Then (p .part) (ps .parts); rest = ps .rest }) ]
+        | some p ↦
+            elim (readParts read m (p .rest)) [ none ↦ none | some ps ↦ some (record { parts = Then (p .part) (ps .parts); rest = ps .rest }) ]
       ])
   more-ok read m ih none h = tt
   more-ok read m ih (some p) h = then-ok (p .part) (h .0) (readParts read m (p .rest)) (ih (p .rest) (h .1))
@@ -129,8 +129,8 @@ module _ (n : ℕ) (P : Line → Type 0) (Q : ℕ → PathKind → Type 0)
   goals-more : (g m : ℕ) → ((ls : List Line) → EveryLine P ls → SomeGoals m (readGoals n (suc g) m ls)) → (o : Option TakenPart) → One o
       → SomeGoals (suc m) (elim o [
         | none ↦ none
-        | some p ↦ elim
-            (readGoals n (suc g) m (p .rest)) [ none ↦ none | some ps ↦ some (record { parts = p .part ∷ ps .parts; rest = ps .rest }) ]
+        | some p ↦
+            elim (readGoals n (suc g) m (p .rest)) [ none ↦ none | some ps ↦ some (record { parts = p .part ∷ ps .parts; rest = ps .rest }) ]
       ])
   goals-more g m ih none h = tt
   goals-more g m ih (some p) h = next-ok m (p .part) (h .0) (readGoals n (suc g) m (p .rest)) (ih (p .rest) (h .1))

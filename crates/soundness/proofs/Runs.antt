@@ -132,7 +132,7 @@ module _ (W : World) (xs : List Base) (fs : Stack) (goal available : ℕ) (here 
         → basesOf s ≡ x ∷ xs → FramesInOrder (W .book .header) s → g .rootDepth ≤ W .book .header .top
         → Every (EntryOk W (x ∷ xs) (Known s)) (g .provisionalCache) → CacheOk W (g .globalCache)
         → RightGoal W (x ∷ xs) (x .goal) d a → Task (popped more o g s a)
-    popped-ok x f₀ g a o i j v (top-gains {f′ = f} {d = d} t) h fr rt es nb r =
+    popped-ok x f₀ g a o i j v (top-gains {f′ = f} {d = d} t) h fr rt es ca r =
         next-ok x f g a _
         (record {
           isGoal = i;
@@ -142,7 +142,7 @@ module _ (W : World) (xs : List Base) (fs : Stack) (goal available : ℕ) (here 
           frame = fr .0;
           root = rt;
           entries = es;
-          cache = nb;
+          cache = ca;
           reads = d;
           under = λ m k l z. omega (arith, limit-positive, t .heads m k (omega (arith, len)));
           top = λ k z. omega (arith, limit-positive, t .usages k, ap (λ (n : ℕ). d n k) len);

@@ -1,4 +1,4 @@
--- The notebook's slots: one is written, the others stay.
+-- The slots of the global cache: one is written, the others stay.
 use mathlib.Core.Bool.{Bool, false, true}
 use mathlib.Core.List.{List, _++_}
 use mathlib.Core.Logic.{_≢_, _⊎_, inl, inr}

@@ -120,18 +120,27 @@ Ends (Done g a) = (g .stack ≡ []) × (g .provisionalCache ≡ [])
 Ends (Stopped r) = Expected r
 
 -- ---- the claims, for a book that is accepted
+
+-- none of the refusals 5 to 9
+abbrev pub Passes : Book → List ℕ → List ℕ → ℕ → ℕ → Type 0
+Passes b cache work goal depth = firstFailed (checks b cache work goal depth) ≡ none
+
 pub record Always (b : Book) : Type 0 where
   -- the root of a query is in order
-  pub starts : (cache work : List ℕ) (goal depth : ℕ) → firstFailed (checks b cache work goal depth) ≡ none → InOrder (b .header) (newGraph depth cache)
-  -- each goal that is evaluated keeps the order. So no subtraction of ignored usages fails, and nothing is computed where every goal is on the stack
-  pub keeps : (off : ℕ) (g : Graph) (goal : ℕ) (step : PathKind) (lower : Bool) → InOrder (b .header) g → length (g .stack) + off ≡ b .header .goals
-      → goal < b .header .goals → Keeps (b .header) g (evaluateGoal b off g goal step lower)
-  -- and so does each frame that is pushed for it
-  pub finishes : (off left : ℕ) (g : Graph) (goal : ℕ) (step : PathKind) (available : ℕ) → InOrder (b .header) g → length (g .stack) + suc off ≡ b .header .goals
-      → goal < b .header .goals → available ≤ b .header .top → stackFind (g .stack) goal ≡ none
+  pub starts : (cache work : List ℕ) (goal depth : ℕ) → Passes b cache work goal depth → InOrder (b .header) (newGraph depth cache)
+  -- each goal that is evaluated, with `off` goals off the stack, keeps the order. So no subtraction of ignored usages fails,
+  -- and nothing is computed where every goal is on the stack: either would be refused as unreachable
+  pub keeps : (off : ℕ) (g : Graph) (goal : ℕ) (step : PathKind) (lower : Bool)
+      → InOrder (b .header) g → length (g .stack) + off ≡ b .header .goals → goal < b .header .goals
+      → Keeps (b .header) g (evaluateGoal b off g goal step lower)
+  -- a frame that is pushed for a goal is finished with `left` reruns
+  pub finishes : (off left : ℕ) (g : Graph) (goal : ℕ) (step : PathKind) (available : ℕ)
+      → InOrder (b .header) g → length (g .stack) + suc off ≡ b .header .goals → goal < b .header .goals → available ≤ b .header .top
+      → stackFind (g .stack) goal ≡ none
       → FinishesFrame (g .stack) available
-      (evaluateGoalInTask (computeGoal (evaluateGoal b off) b goal) left false (withStack g (newFrame (b .header) goal step available ∷ g .stack)))
-  pub ends : (cache work : List ℕ) (goal depth : ℕ) → firstFailed (checks b cache work goal depth) ≡ none → Ends (evaluateRoot b cache goal depth)
+      (evaluateGoalInTask (computeGoal (evaluateGoal b off) b goal) left false
+      (withStack g (newFrame (b .header) goal step available ∷ g .stack)))
+  pub ends : (cache work : List ℕ) (goal depth : ℕ) → Passes b cache work goal depth → Ends (evaluateRoot b cache goal depth)
 
 -- ---- what follows of a state in order
 pub record Follows (h : Header) (g : Graph) : Type 0 where
