@@ -36,7 +36,7 @@ use Rattle.soundness.proofs.Update.{childReads, update-gains, update-in
 use Rattle.soundness.proofs.Candidates.{overflow-step}
 use Rattle.soundness.proofs.Parts.{Claims, EvalOk, RightAt, RightGoal, part-ok}
 use Rattle.soundness.proofs.Runs.{ComputesGoal, Finished, TaskAfter, task-ok}
-use Rattle.soundness.proofs.Lookups.{Found, below, cycle-or, depth-ok, find-at, global-found, provisional-found}
+use Rattle.soundness.proofs.Lookups.{Found, cycle-or, depth-ok, find-at, global-found, provisional-found}
 use Rattle.soundness.proofs.Slots.{Kept, insert-ok}
 use Rattle.soundness.proofs.Pigeons.{full-stack}
 

@@ -31,16 +31,15 @@ use Rattle.soundness.proofs.Logic.{and-left, and-right, clash, of-true}
 use Rattle.soundness.proofs.Support.{step}
 use Rattle.soundness.proofs.World.{BookOk, World}
 use Rattle.soundness.proofs.Counters.{Reads}
-use Rattle.soundness.proofs.Assumed.{A, Base, basesOf, length-bases}
+use Rattle.soundness.proofs.Assumed.{Base, basesOf, length-bases}
 use Rattle.soundness.proofs.Inv.{After, BasesOk, EntryOk, State, goals-here, goalsIn, known-bound}
 use Rattle.soundness.proofs.Parts.{Claims}
-use Rattle.soundness.proofs.Settle.{ends}
 use Rattle.soundness.proofs.Runs.{TaskAfter}
 use Rattle.soundness.proofs.Lookups.{find-at}
 use Rattle.soundness.proofs.Pigeons.{all-on-stack}
 use Rattle.soundness.proofs.Evaluate.{compute-ok, evaluate-ok, frame-ok}
 use Rattle.soundness.proofs.Reading.{book-read, never-rejected}
-use Rattle.soundness.proofs.Books.{any-book, anyKind, claims}
+use Rattle.soundness.proofs.Books.{any-book, anyKind}
 use Rattle.soundness.proofs.Queries.{Passed, passed}
 
 -- ---- a state in order is one of the invariant

@@ -25,12 +25,10 @@ use Rattle.soundness.specs.Sets.{Goals}
 use Rattle.soundness.specs.Statement.{AllRight, Query, RightReply, replyTo}
 use Rattle.soundness.proofs.Logic.{and-left, and-right, clash, nobody, or-cases}
 use Rattle.soundness.proofs.World.{Judges, World}
-use Rattle.soundness.proofs.Assumed.{A}
 use Rattle.soundness.proofs.Inv.{After}
 use Rattle.soundness.proofs.Parts.{Claims}
 use Rattle.soundness.proofs.Slots.{slot-byte}
 use Rattle.soundness.proofs.Evaluate.{evaluate-ok}
-use Rattle.soundness.proofs.Books.{claims}
 
 -- ---- a cache of any length, whose slots claim nothing wrong
 pub record Sound (W : World) (cache : List ℕ) : Type 0 where

@@ -21,7 +21,6 @@ use Rattle.definition.specs.declared.query.Refusal.the-variants.{BookBody, Book
 use Rattle.soundness.specs.Statement.{EveryLine}
 use Rattle.soundness.proofs.Logic.{and-left, and-right, clash, of-true}
 use Rattle.soundness.proofs.World.{AllCalls, BookOk, CallOk, Calls, EveryPart}
-use Rattle.soundness.proofs.Assumed.{A}
 
 -- what holds of every line gives what holds of every call
 module _ (n : ℕ) (P : Line → Type 0) (Q : ℕ → PathKind → Type 0)

@@ -21,7 +21,6 @@ use Rattle.definition.specs.declared.paths.PathKind.{PathKind}
 use Rattle.definition.specs.declared.usages.HeadUsages.{HeadUsages}
 use Rattle.soundness.specs.Always.{Every, Expected, FrameInOrder, FramesInOrder, HasHead, Known}
 use Rattle.soundness.proofs.Logic.{nobody}
-use Rattle.soundness.proofs.Support.{step}
 use Rattle.soundness.proofs.World.{World}
 use Rattle.soundness.proofs.Counters.{Reads, counter, counter-none, limit-positive}
 use Rattle.soundness.proofs.Assumed.{A, Base, Within, assumes-none, baseOf, basesOf, length-bases}

@@ -14,7 +14,6 @@ use Rattle.definition.specs.declared.paths.PathKind.{PathKind}
 use Rattle.definition.specs.declared.paths.PathKind.the-variants.{Coinductive, Inductive}
 use Rattle.soundness.specs.Sets.{greatest, least}
 use Rattle.soundness.specs.Statement.{AllRight, Query}
-use Rattle.soundness.proofs.Settle.{first}
 use Rattle.soundness.proofs.Theorems.{no-coinductive-step, no-inductive-step}
 
 -- a line of five digits
