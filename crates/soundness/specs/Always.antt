@@ -1,23 +1,23 @@
 -- What holds in books of every kind: of the state before and after each goal is evaluated, and of what an evaluation comes to.
 use mathlib.Core.Path.{_≡_}
 use mathlib.Core.Bool.{Bool, false}
-use Rattle.definition.specs.declared.paths.PathKind.{PathKind}
-use Rattle.definition.specs.declared.query.Response.the-variants.{Refused}
-use Rattle.definition.specs.Nested.{NestedGoals}
-use Rattle.definition.specs.Part.{Book}
-use Rattle.definition.specs.Evaluate.{computeGoal, newFrame, evaluateGoal}
-use Rattle.definition.specs.Query.{checks, firstFailed, newGraph, evaluateRoot, query}
 use mathlib.Core.Logic.{_≢_, _⊎_}
 use mathlib.Core.Option.{Option, none, some}
 use mathlib.Core.List.{List, [], _∷_}
 use Prim.Native.Nat.{ℕ, suc, _+_, _≤_, _<_}
 use lib.Dec.{T}
 use lib.ListN.{length, getD}
+use Rattle.definition.specs.declared.paths.PathKind.{PathKind}
+use Rattle.definition.specs.declared.query.Response.the-variants.{Refused}
 use Rattle.definition.specs.declared.usages.HeadUsages.{HeadUsages}
 use Rattle.definition.specs.declared.heads.CycleHead.{CycleHead}
 use Rattle.definition.specs.declared.book.Header.{Header}
 use Rattle.definition.specs.declared.query.Refusal.{Refusal}
 use Rattle.definition.specs.declared.query.Refusal.the-variants.{ProvisionalCacheFull, CacheConflict, Unreachable}
+use Rattle.definition.specs.Nested.{NestedGoals}
+use Rattle.definition.specs.Part.{Book}
+use Rattle.definition.specs.Evaluate.{computeGoal, newFrame, evaluateGoal}
+use Rattle.definition.specs.Query.{checks, firstFailed, newGraph, evaluateRoot, query}
 use Rattle.definition.specs.Heads.{CycleHeads}
 use Rattle.definition.specs.Stack.{Frame, Stack, stackFind}
 use Rattle.definition.specs.Graph.{Graph, Entry, withStack, Outcome, Done, Stopped, EvaluationResult}
