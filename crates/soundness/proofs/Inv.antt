@@ -1,0 +1,107 @@
+-- The invariant, and what a step of the engine promises.
+use mathlib.Core.List.{List, [], _∷_}
+use mathlib.Core.Logic.{_≢_, inl, inr}
+use mathlib.Core.Option.{Option, none, some}
+use mathlib.Core.Path.{_∙_, _≡_, ap, refl, sym}
+use Prim.Native.Nat.{_+_, _<_, _≤_, min, ℕ}
+use native.Mathlib.Omega.{arith}
+use lib.Dec.{T}
+use lib.ListN.{getD, length}
+use Rattle.definition.specs.GlobalCache.{slotAt, slotHeld, slotResult}
+use Rattle.definition.specs.Graph.{Done, Entry, Graph, Outcome, Stopped}
+use Rattle.definition.specs.Heads.{CycleHeads, usagesAt}
+use Rattle.definition.specs.Parent.{orNoUsages}
+use Rattle.definition.specs.Stack.{Frame, Stack}
+use Rattle.definition.specs.Usages.{counterLimit, noUsages}
+use Rattle.definition.specs.declared.answers.Answer.{Answer}
+use Rattle.definition.specs.declared.paths.PathKind.{PathKind}
+use Rattle.definition.specs.declared.usages.HeadUsages.{HeadUsages}
+use Rattle.soundness.specs.Always.{Apart, CacheInOrder, EntryInOrder, Every, Expected, FramesInOrder, HasHead, IsHead, Known, goalsOf}
+use Rattle.soundness.proofs.Logic.{nobody}
+use Rattle.soundness.proofs.World.{World}
+use Rattle.soundness.proofs.Counters.{Reads, counter}
+use Rattle.soundness.proofs.Assumed.{A, Base, baseOf, basesOf}
+
+abbrev pub readsOf : CycleHeads → Reads
+readsOf hs i k = counter (usagesAt hs i) k
+
+pub known-bound : (s : Stack) (i : ℕ) → Known s i → i < length s
+known-bound [] i l = absurd l
+known-bound (f ∷ fs) i (inl h) = omega arith
+known-bound (f ∷ fs) i (inr (inl h)) = omega arith
+known-bound (f ∷ fs) i (inr (inr l)) = omega (arith, known-bound fs i l)
+
+abbrev pub goalsIn : List Base → List ℕ
+goalsIn [] = []
+goalsIn (x ∷ xs) = x .goal ∷ goalsIn xs
+
+goals-bases : (s : Stack) → goalsIn (basesOf s) ≡ goalsOf s
+goals-bases [] = refl
+goals-bases (f ∷ fs) = ap (λ (l : List ℕ). f .input ∷ l) (goals-bases fs)
+
+pub goals-here : (s : Stack) (xs : List Base) → basesOf s ≡ xs → goalsIn xs ≡ goalsOf s
+goals-here s xs e = ap goalsIn (sym e) ∙ goals-bases s
+
+-- ---- the parts of the invariant
+
+-- a provisional result other than the start answer rests on nothing
+pub record BaseOk (W : World) (under : List Base) (x : Base) : Type 0 where
+  pub result : (a : Answer) → x .provisional ≡ some a → a ≢ W .start (x .goal) → T (W .claim a nobody (x .goal))
+  pub byCall : 0 < length under → T (W .allowed (x .step))
+  pub apart : Apart (x .goal) (goalsIn under)
+
+abbrev pub BasesOk : World → List Base → Type 0
+BasesOk W [] = Unit {0}
+BasesOk W (x ∷ xs) = BaseOk W xs x × BasesOk W xs
+
+pub record EntryOk (W : World) (xs : List Base) (L : ℕ → Type 0) (e : Entry) : Type 0 where
+  pub order : EntryInOrder (W .book .header) L e
+  pub claims : T (W .claim (e .result) (A W xs (readsOf (e .heads))) (e .input))
+
+pub record CacheOk (W : World) (cache : List ℕ) : Type 0 where
+  pub order : CacheInOrder (W .book .header) cache
+  pub claims : (goal slot : ℕ) → goal < W .book .header .goals → slot < W .book .header .top + 2
+      → T (slotHeld (slotAt (W .book .header) cache goal slot))
+      → T (W .claim (slotResult (slotAt (W .book .header) cache goal slot)) nobody goal)
+
+-- xs: what of the stack does not change; L: the indexes that an entry may name
+pub record Inv (W : World) (xs : List Base) (L : ℕ → Type 0) (g : Graph) : Type 0 where
+  pub here : basesOf (g .stack) ≡ xs
+  pub root : g .rootDepth ≤ W .book .header .top
+  pub frames : FramesInOrder (W .book .header) (g .stack)
+  pub entries : Every (EntryOk W xs L) (g .provisionalCache)
+  pub cache : CacheOk W (g .globalCache)
+
+-- an entry may name what the stack says is a head
+abbrev pub State : World → List Base → Graph → Type 0
+State W xs g = Inv W xs (Known (g .stack)) g
+
+-- ---- what a step promises
+abbrev pub trackedIn : Option (List HeadUsages) → Reads
+trackedIn none i k = 0
+trackedIn (some us) i k = counter (getD us i noUsages) k
+
+abbrev pub trackedBy : Frame → Reads
+trackedBy f = trackedIn (f .candidateUsages)
+
+-- the top frame at index n gained the reads d
+pub record FrameGain (n : ℕ) (f f′ : Frame) (d : Reads) : Type 0 where
+  pub same : baseOf f′ ≡ baseOf f
+  pub heads : (i : ℕ) (k : PathKind) → i < n → min (readsOf (f .heads) i k + d i k) counterLimit ≤ readsOf (f′ .heads) i k
+  pub usages : (k : PathKind) → min (counter (orNoUsages (f .usages)) k + d n k) counterLimit ≤ counter (orNoUsages (f′ .usages)) k
+  pub tracked : (i : ℕ) (k : PathKind) → trackedBy f′ i k ≤ trackedBy f i k + d i k
+  pub keepsHeads : (i : ℕ) → HasHead (f .heads) i → HasHead (f′ .heads) i
+  pub keepsUsages : IsHead f → IsHead f′
+
+pub data Gain : Stack → Stack → Reads → Type 0 where
+  none-gains : {d : Reads} → Gain [] [] d
+  top-gains : {f f′ : Frame} {fs : Stack} {d : Reads} → FrameGain (length fs) f f′ d → Gain (f ∷ fs) (f′ ∷ fs) d
+
+pub record Step (W : World) (xs : List Base) (g g′ : Graph) (d : Reads) : Type 0 where
+  pub gain : Gain (g .stack) (g′ .stack) d
+  pub inv : State W xs g′
+
+-- an outcome after g: one of the two refusals, or a step whose reads and answer are P
+abbrev pub After : World → List Base → Graph → (Reads → Answer → Type 0) → Outcome → Type 0
+After W xs g P (Done g′ a) = (d : Reads) × Step W xs g g′ d × P d a
+After W xs g P (Stopped r) = Expected r

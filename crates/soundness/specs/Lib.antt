@@ -1,0 +1,3 @@
+pub mod Sets
+pub mod Statement
+pub mod Always
