@@ -75,19 +75,19 @@ computeGoal evaluate b input g =
     elim (partAt (b .parts) input) [ none ↦ Stopped Unreachable | some p ↦ evalPart evaluate (b .header .goals) p g ]
 
 -- ---- evaluate_goal
-abbrev pub newFrame : Header → ℕ → PathKind → ℕ → Frame
-newFrame h input step available =
+abbrev pub newFrame : ℕ → ℕ → PathKind → ℕ → Frame
+newFrame goals input step available =
     record {
       input = input;
       stepKindFromParent = step;
       availableDepth = available;
       minReachedAvailableDepth = available;
       provisionalResult = none;
-      heads = noHeads (h .goals);
+      heads = noHeads goals;
       encounteredOverflow = false;
       usages = none;
       candidateUsages = none;
-      nestedGoals = noNestedGoals (h .goals);
+      nestedGoals = noNestedGoals goals;
     }
 
 abbrev pub newEntry : Graph → ℕ → PathKind → EvaluationResult → Entry
@@ -141,7 +141,7 @@ afterTask h input step available (Evaluated g r) =
 abbrev pub evaluateNewFrame : Header → (ℕ → Graph → Outcome) → Graph → ℕ → PathKind → ℕ → Outcome
 evaluateNewFrame h compute g input step available =
     afterTask h input step available
-    (evaluateGoalInTask (compute input) (pred (h .limit)) false (withStack g (newFrame h input step available ∷ g .stack)))
+    (evaluateGoalInTask (compute input) (pred (h .limit)) false (withStack g (newFrame (h .goals) input step available ∷ g .stack)))
 
 abbrev pub evaluateAtDepth : Header → (ℕ → Graph → Outcome) → Graph → ℕ → PathKind → ℕ → Outcome
 evaluateAtDepth h compute g input step available =

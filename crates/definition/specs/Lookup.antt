@@ -98,8 +98,8 @@ lookupGlobalCache h g input step available =
     useCacheData h g step available (cacheGet h (g .globalCache) input available (candidateIsApplicable g step))
 
 -- ---- check_cycle_on_stack
-abbrev pub cycleHead : Header → Stack → PathKind → ℕ → CycleHeads
-cycleHead h s step head = insertHead (noHeads (h .goals)) head (flagOf step) (addUsage noUsages (cyclePathKind s step head))
+abbrev pub cycleHead : ℕ → Stack → PathKind → ℕ → CycleHeads
+cycleHead goals s step head = insertHead (noHeads goals) head (flagOf step) (addUsage noUsages (cyclePathKind s step head))
 
 -- the provisional result, or the initial one in the first iteration
 abbrev pub cycleResult : Option Answer → PathKind → Answer
@@ -109,7 +109,7 @@ cycleResult none pathKind = initialProvisionalResult pathKind
 abbrev pub closeCycle : Header → Graph → ℕ → PathKind → ℕ → OnStack → Outcome
 closeCycle h g input step available head =
     Done
-    (withStack g (updateParentGoal (g .stack) step (cycleHead h (g .stack) step (head .index)) false (CycleOnStack input) available))
+    (withStack g (updateParentGoal (g .stack) step (cycleHead (h .goals) (g .stack) step (head .index)) false (CycleOnStack input) available))
     (cycleResult (head .provisionalResult) (cyclePathKind (g .stack) step (head .index)))
 
 abbrev pub checkCycleOnStack : Header → Graph → ℕ → PathKind → ℕ → Option Outcome
