@@ -1,4 +1,0 @@
-pub mod Blocks
-pub mod Frame
-pub mod Entry
-pub mod Work
