@@ -15,7 +15,7 @@ use Rattle.definition.specs.declared.answers.Answer.{Answer}
 use Rattle.definition.specs.Answers.{answerNumber}
 use Rattle.definition.specs.GlobalCache.{slotAt, slotStart, slotHeld, slotFor, cacheInsert}
 use Rattle.global_cache.specs.declared.Insertion.the-variants.{Kept, Conflict}
-use Rattle.global_cache.specs.Cache.{headerWith, GoalIn, evaluated}
+use Rattle.global_cache.specs.Cache.{headerWith, CacheBytes, evaluated}
 use Rattle.global_cache.proofs.Sizes.{place-in, goal-in}
 
 -- past the end there is none
@@ -35,13 +35,23 @@ pub part-from : (n : ℕ) (s : List ℕ) → take (length s - n) (drop n s) ≡ 
 part-from n s = take-all (length s - n) (drop n s) (omega (arith, length-drop n s))
 
 -- a slot of a known goal is as long as a slot is
-pub slot-length : (goals top goal slot : ℕ) (cache : List ℕ) → GoalIn goals top goal cache → slot < top + 2
+pub slot-length : (goals top goal slot : ℕ) (cache : List ℕ) → CacheBytes goals top cache → goal < goals → slot < top + 2
     → length (slotAt (headerWith goals top) cache goal slot) ≡ goals + 3
-slot-length goals top goal slot cache g h =
-    let inside = goal-in goals top goal (g .known) in
+slot-length goals top goal slot cache g k h =
+    let inside = goal-in goals top goal k in
     let room = place-in goals top (goal * (top + 2) + slot) (omega arith) in
     let whole = g .whole in
     length-region ((goal * (top + 2) + slot) * (goals + 3)) (goals + 3) cache (omega arith)
+
+pub slot-room : (goals top goal slot : ℕ) (cache s : List ℕ) → CacheBytes goals top cache → goal < goals → slot < top + 2
+    → s ≡ slotAt (headerWith goals top) cache goal slot → 3 ≤ length s
+slot-room goals top goal slot cache s g k h e =
+    let n : length s ≡ goals + 3 = ap length e ∙ slot-length goals top goal slot cache g k h in
+    omega arith
+
+-- a cache stays one while it keeps its length
+pub same-bytes : (goals top : ℕ) (cache other : List ℕ) → CacheBytes goals top cache → length other ≡ length cache → CacheBytes goals top other
+same-bytes goals top cache other g e = record { few = g .few; low = g .low; whole = e ∙ g .whole }
 
 -- ---- a slot written
 pub copied-more : (d s now : List ℕ) (j : ℕ) → now ≡ paste d 3 s j → length d ≡ 3 + length s → j < length s → set now (3 + j) (getD s j 0) ≡ paste d 3 s (j + 1)

@@ -1,5 +1,5 @@
 -- What the contracts say of a cache with the definition's functions. These use only a header's number of goals and its top depth.
-use Prim.Native.Nat.{ℕ, _+_, _*_, _≤_, _<_}
+use Prim.Native.Nat.{ℕ, _≤_}
 use mathlib.Core.Path.{_≡_}
 use mathlib.Core.Bool.{Bool, false}
 use mathlib.Core.Option.{Option, none, some}
@@ -22,12 +22,11 @@ pub record Sizes (goals top : ℕ) : Type 0 where
   pub few : goals ≤ 64
   pub low : top ≤ 63
 
--- a cache of the right length, and a goal in it
-pub record GoalIn (goals top goal : ℕ) (cache : List ℕ) : Type 0 where
+-- and a cache of the right length for them
+pub record CacheBytes (goals top : ℕ) (cache : List ℕ) : Type 0 where
   pub few : goals ≤ 64
   pub low : top ≤ 63
-  pub known : goal < goals
-  pub whole : length cache ≡ goals * (top + 2) * (goals + 3)
+  pub whole : length cache ≡ cacheLength (headerWith goals top)
 
 -- a result to insert; its heads are not looked at
 abbrev pub evaluated : Bool → ℕ → NestedGoals → Answer → EvaluationResult

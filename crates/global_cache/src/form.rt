@@ -3,8 +3,8 @@ use crate::slot;
 ghost use mathlib.Core.Path.{_≡_};
 ghost use Prim.Native.Nat.{ℕ, _+_, _≤_, _<_};
 ghost use lib.ListN.{length};
-ghost use Rattle.definition.specs.CacheForm.{depthFits, slotFits, slotsFit, cacheFits, cacheLength};
-ghost use Rattle.global_cache.specs.Cache.{headerWith, Sizes, GoalIn};
+ghost use Rattle.definition.specs.CacheForm.{depthFits, slotFits, slotsFit, cacheFits};
+ghost use Rattle.global_cache.specs.Cache.{headerWith, CacheBytes};
 
 // Whether a required depth fits a goal's slot: any up to T the success slot, its own
 // number an overflow slot.
@@ -42,7 +42,7 @@ fn slot_fits(s: &[u8], top: usize, slot: usize) -> bool
 
 // Whether the slots of a goal fit.
 fn slots_fit(cache: &[u8], goals: usize, top: usize, goal: usize) -> bool
-    requires { ⌜ GoalIn goals top goal (now cache) ⌝ }
+    requires { ⌜ CacheBytes goals top (now cache) × (goal < goals) ⌝ }
     ensures { λ r. ⌜ r ≡ slotsFit (headerWith goals top) (now (cache .entry)) goal (top + 2) ⌝ }
 {
     let mut slot: usize = 0;
@@ -58,7 +58,7 @@ fn slots_fit(cache: &[u8], goals: usize, top: usize, goal: usize) -> bool
 
 // Whether every slot of a cache of the right length is in form.
 pub fn cache_fits(cache: &[u8], goals: usize, top: usize) -> bool
-    requires { ⌜ Sizes goals top × (length (now cache) ≡ cacheLength (headerWith goals top)) ⌝ }
+    requires { ⌜ CacheBytes goals top (now cache) ⌝ }
     ensures { λ r. ⌜ r ≡ cacheFits (headerWith goals top) (now (cache .entry)) ⌝ }
 {
     let mut goal: usize = 0;

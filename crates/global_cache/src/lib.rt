@@ -8,7 +8,7 @@ ghost use lib.ListN.{length};
 ghost use Rattle.definition.specs.declared.answers.Answer.{Answer};
 ghost use Rattle.definition.specs.GlobalCache.{slotAt, slotFor, cacheInsert};
 ghost use Rattle.definition.specs.CacheForm.{cacheLength};
-ghost use Rattle.global_cache.specs.Cache.{headerWith, Sizes, GoalIn, evaluated, inserted};
+ghost use Rattle.global_cache.specs.Cache.{headerWith, Sizes, CacheBytes, evaluated, inserted};
 
 pub mod form;
 pub mod slot;
@@ -36,7 +36,7 @@ fn start_of(goals: usize, top: usize, place: usize) -> usize
 
 // A goal's slot; nothing where it would lie past the end.
 pub fn slot_at(cache: &[u8], goals: usize, top: usize, goal: usize, slot: usize) -> &[u8]
-    requires { ⌜ GoalIn goals top goal (now cache) ⌝ }
+    requires { ⌜ CacheBytes goals top (now cache) × (goal < goals) ⌝ }
     ensures { λ r. ⌜ now r ≡ slotAt (headerWith goals top) (now (cache .entry)) goal slot ⌝ }
 {
     let first = goal * (top + 2);
@@ -71,7 +71,7 @@ pub fn insert(
     result: Answer,
     nested: &[u8],
 ) -> Insertion
-    requires { ⌜ GoalIn goals top goal (now cache) × (required ≤ top) × (length (now nested) ≡ goals) ⌝ }
+    requires { ⌜ CacheBytes goals top (now cache) × (goal < goals) × (required ≤ top) × (length (now nested) ≡ goals) ⌝ }
     ensures { λ r. ⌜ cacheInsert (headerWith goals top) (now (cache .entry)) goal (evaluated overflow required (now (nested .entry)) result) ≡ inserted r (now (cache .exit)) ⌝ }
     ensures unchanged { λ r. ⌜ (r ≡ Insertion.Conflict → now (cache .exit) ≡ now (cache .entry)) ⌝ }
 {

@@ -3,26 +3,19 @@ use Rattle.global_cache.proofs.Sizes.{slots-few, length-few}
 use borrow.Author.Needs.{needs}
 use Rattle.global_cache.proofs.cache_length.Statement.{statement}
 use Rattle.global_cache.proofs.cache_length.Tie as tie
-use Rattle.global_cache.proofs.cache_length.Reads as reads
-use Rattle.global_cache.proofs.cache_length.Lts as lts
 
--- src/lib.rt:24:14
 add-result : tie.Need-add-result
 add-result c = search needs
 
--- src/lib.rt:24:5
 mul-result : tie.Need-mul-result
 mul-result c = record { fits = omega (arith, slots-few (c .args .goals) (c .args .top) (c .pre .few) (c .pre .low)) }
 
--- src/lib.rt:24:26
 add-result-2 : tie.Need-add-result-2
 add-result-2 c = search needs
 
--- src/lib.rt:24:5
 mul-result-2 : tie.Need-mul-result-2
 mul-result-2 c = record { fits = omega (arith, length-few (c .args .goals) (c .args .top) (c .pre .few) (c .pre .low)) }
 
--- src/lib.rt:20:1
 returns : tie.Need-returns
 returns c = search needs
 

@@ -5,78 +5,58 @@ use Rattle.global_cache.proofs.Slots.{slot-beyond, part-slot}
 use borrow.Author.Needs.{needs}
 use Rattle.global_cache.proofs.slot_at.Statement.{statement}
 use Rattle.global_cache.proofs.slot_at.Tie as tie
-use Rattle.global_cache.proofs.slot_at.Reads as reads
-use Rattle.global_cache.proofs.slot_at.Lts as lts
-use Rattle.global_cache.proofs.start_of.Reads as start-of-reads
 
--- src/lib.rt:40:25
 add-first : tie.Need-add-first
 add-first c = search needs
 
--- src/lib.rt:40:17
 mul-first : tie.Need-mul-first
-mul-first c = let a = c .before .args in record { fits = omega (arith, slots-few (a .goal) (a .top) (omega arith) (c .before .pre .low)) }
+mul-first c = let a = c .before .args in record { fits = omega (arith, slots-few (a .goal) (a .top) (omega arith) (c .before .pre .0 .low)) }
 
--- src/lib.rt:41:24
 add-all : tie.Need-add-all
 add-all c = search needs
 
--- src/lib.rt:41:15
 mul-all : tie.Need-mul-all
 mul-all c = search needs
 
--- src/lib.rt:42:8
 sub-if1 : tie.Need-sub-if1
-sub-if1 c = let a = c .before .args in omega (arith, goal-in (a .goals) (a .top) (a .goal) (c .before .pre .known))
+sub-if1 c = let a = c .before .args in omega (arith, goal-in (a .goals) (a .top) (a .goal) (c .before .pre .1))
 
--- src/lib.rt:43:16
 sub-result : tie.Need-sub-result
 sub-result c = search needs
 
--- src/lib.rt:43:16
 part-result-start : tie.Need-part-result-start
 part-result-start c = search needs
 
--- src/lib.rt:43:16
 part-result-end : tie.Need-part-result-end
 part-result-end c = search needs
 
--- src/lib.rt:43:9
 returns : tie.Need-returns
 returns c =
     let s = c .before .before .before in
     let a = s .args in
-    slot-beyond (a .cache .now) (a .goals + 3) (a .goals * (a .top + 2)) (a .goal * (a .top + 2) + a .slot) (s .pre .whole) (omega arith)
+    slot-beyond (a .cache .now) (a .goals + 3) (a .goals * (a .top + 2)) (a .goal * (a .top + 2) + a .slot) (s .pre .0 .whole) (omega arith)
 
--- src/lib.rt:45:34
 add-start-of : tie.Need-add-start-of
 add-start-of c = search needs
 
--- src/lib.rt:45:9
 start-of-requires : tie.Need-start-of-requires
 start-of-requires c κs = search needs
 
--- src/lib.rt:46:18
 add-e : tie.Need-add-e
 add-e c = search needs
 
--- src/lib.rt:46:13
 add-e-2 : tie.Need-add-e-2
 add-e-2 c = search needs
 
--- src/lib.rt:47:5
 sub-result-2 : tie.Need-sub-result-2
 sub-result-2 c = search needs
 
--- src/lib.rt:47:5
 part-result-start-2 : tie.Need-part-result-start-2
 part-result-start-2 c = search needs
 
--- src/lib.rt:47:5
 part-result-end-2 : tie.Need-part-result-end-2
 part-result-end-2 c = search needs
 
--- src/lib.rt:36:1
 returns-2 : tie.Need-returns-2
 returns-2 c =
     let a = c .before .before .before .before .args in

@@ -3,18 +3,13 @@ use Rattle.global_cache.proofs.Slots.{for-overflow, for-success}
 use borrow.Author.Needs.{needs}
 use Rattle.global_cache.proofs.slot_for.Statement.{statement}
 use Rattle.global_cache.proofs.slot_for.Tie as tie
-use Rattle.global_cache.proofs.slot_for.Reads as reads
-use Rattle.global_cache.proofs.slot_for.Lts as lts
 
--- src/lib.rt:58:16
 add-result : tie.Need-add-result
 add-result c = search needs
 
--- src/lib.rt:58:9
 returns : tie.Need-returns
 returns c = (omega arith, λ nested result. for-overflow (c .before .args .overflow) (c .before .args .required) nested result (c .if1 .taken))
 
--- src/lib.rt:53:1
 returns-2 : tie.Need-returns-2
 returns-2 c = (omega arith, λ nested result. for-success (c .before .args .overflow) (c .before .args .required) nested result (c .if1 .left))
 

@@ -4,18 +4,13 @@ use Rattle.global_cache.proofs.Sizes.{place-in, length-few}
 use borrow.Author.Needs.{needs}
 use Rattle.global_cache.proofs.start_of.Statement.{statement}
 use Rattle.global_cache.proofs.start_of.Tie as tie
-use Rattle.global_cache.proofs.start_of.Reads as reads
-use Rattle.global_cache.proofs.start_of.Lts as lts
 
--- src/lib.rt:32:14
 add-result : tie.Need-add-result
 add-result c = search needs
 
--- src/lib.rt:32:5
 mul-result : tie.Need-mul-result
 mul-result c = record { fits = omega (arith, place-in (c .args .goals) (c .args .top) (c .args .place) (c .pre .1), length-few (c .args .goals) (c .args .top) (c .pre .0 .few) (c .pre .0 .low)) }
 
--- src/lib.rt:28:1
 returns : tie.Need-returns
 returns c =
     let a = c .args in

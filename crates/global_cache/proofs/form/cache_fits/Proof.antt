@@ -8,9 +8,6 @@ use Rattle.global_cache.specs.Cache.{headerWith}
 use Rattle.global_cache.proofs.Fits.{goals-fail, goals-more}
 use Rattle.global_cache.proofs.form.cache_fits.Statement.{statement}
 use Rattle.global_cache.proofs.form.cache_fits.Tie as tie
-use Rattle.global_cache.proofs.form.cache_fits.Reads as reads
-use Rattle.global_cache.proofs.form.cache_fits.Lts as lts
-use Rattle.global_cache.proofs.form.slots_fit.Reads as slots-fit-reads
 
 abbrev Inv-loop : tie.InvT-loop
 Inv-loop cache goals top goal₀ goal = (goal ≤ goals) × (true ≡ goalsFit (headerWith goals top) cache goal)
@@ -18,17 +15,14 @@ Inv-loop cache goals top goal₀ goal = (goal ≤ goals) × (true ≡ goalsFit (
 abbrev μ-loop : tie.MeasureT-loop
 μ-loop cache goals top goal₀ goal = goals - goal
 
--- src/form.rt:65:5
 loop-holds : tie.Need-loop-holds Inv-loop μ-loop
 loop-holds c = (omega arith, refl)
 
--- src/form.rt:66:13
 slots-fit-requires : tie.Need-slots-fit-requires Inv-loop μ-loop
 slots-fit-requires c κs =
     let s = c .before .before .before in
-    record { few = s .pre .0 .few; low = s .pre .0 .low; known = omega arith; whole = s .pre .1 }
+    (s .pre, omega arith)
 
--- src/form.rt:67:13
 returns : tie.Need-returns Inv-loop μ-loop
 returns c =
     let l = c .before .before .before in
@@ -36,24 +30,21 @@ returns c =
     goals-fail (headerWith (a .goals) (a .top)) (a .cache .now) (l .loop .goal) (c .before .slots-fit .result) (c .before .slots-fit .ensures) (a .goals) (omega arith)
     (not-true (c .before .slots-fit .result) (c .if1 .taken))
 
--- src/form.rt:69:16
 add-goal : tie.Need-add-goal Inv-loop μ-loop
 add-goal c = omega arith
 
--- src/form.rt:65:5
 loop-less : tie.Need-loop-less Inv-loop μ-loop
 loop-less c = omega arith
 
--- src/form.rt:65:5
 loop-again : tie.Need-loop-again Inv-loop μ-loop
 loop-again c =
     let l = c .before .before .before in
-    let a = l .before .before .args in
-    (omega arith,
-    goals-more (headerWith (a .goals) (a .top)) (a .cache .now) (l .loop .goal) (c .before .slots-fit .result) (c .before .slots-fit .ensures) (l .loop .inv .1)
-    (not-false (c .before .slots-fit .result) (c .if1 .left)))
+    let a = l .before .before .args in (
+      omega arith,
+      goals-more (headerWith (a .goals) (a .top)) (a .cache .now) (l .loop .goal) (c .before .slots-fit .result) (c .before .slots-fit .ensures) (l .loop .inv .1)
+          (not-false (c .before .slots-fit .result) (c .if1 .left)),
+    )
 
--- src/form.rt:60:1
 returns-2 : tie.Need-returns-2 Inv-loop μ-loop
 returns-2 c =
     let l = c .before in

@@ -2,18 +2,13 @@ use Rattle.global_cache.proofs.Fits.{any-depth, own-depth}
 use borrow.Author.Needs.{needs}
 use Rattle.global_cache.proofs.form.depth_fits.Statement.{statement}
 use Rattle.global_cache.proofs.form.depth_fits.Tie as tie
-use Rattle.global_cache.proofs.form.depth_fits.Reads as reads
-use Rattle.global_cache.proofs.form.depth_fits.Lts as lts
 
--- src/form.rt:16:9
 returns : tie.Need-returns
 returns c = λ goals. any-depth goals (c .before .args .top) (c .before .args .slot) (c .before .args .depth) (c .if1 .taken)
 
--- src/form.rt:18:5
 add-result : tie.Need-add-result
 add-result c = search needs
 
--- src/form.rt:11:1
 returns-2 : tie.Need-returns-2
 returns-2 c = λ goals. own-depth goals (c .before .args .top) (c .before .args .slot) (c .before .args .depth) (c .if1 .left)
 

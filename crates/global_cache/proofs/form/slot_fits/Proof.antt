@@ -6,89 +6,67 @@ use Rattle.global_cache.proofs.Fits.{vacant, not-held, no-result, no-de
 use borrow.Author.Needs.{needs}
 use Rattle.global_cache.proofs.form.slot_fits.Statement.{statement}
 use Rattle.global_cache.proofs.form.slot_fits.Tie as tie
-use Rattle.global_cache.proofs.form.slot_fits.Reads as reads
-use Rattle.global_cache.proofs.form.slot_fits.Lts as lts
-use Rattle.global_cache.proofs.form.depth_fits.Reads as depth-fits-reads
-use Rattle.global_cache.proofs.slot.flags_of.Reads as flags-of-reads
-use Rattle.global_cache.proofs.slot.wide.Reads as wide-reads
 
--- src/form.rt:27:33
 sub-flags-of : tie.Need-sub-flags-of
 sub-flags-of c = search needs
 
--- src/form.rt:27:33
 part-flags-of-start : tie.Need-part-flags-of-start
 part-flags-of-start c = search needs
 
--- src/form.rt:27:33
 part-flags-of-end : tie.Need-part-flags-of-end
 part-flags-of-end c = search needs
 
--- src/form.rt:27:9
 flags-of-requires : tie.Need-flags-of-requires
 flags-of-requires c κs = search needs
 
--- src/form.rt:28:8
 shared-slice-read-if1 : tie.Need-shared-slice-read-if1
 shared-slice-read-if1 c = search needs
 
--- src/form.rt:28:15
 shared-slice-read-if1-2 : tie.Need-shared-slice-read-if1-2
 shared-slice-read-if1-2 c = search needs
 
--- src/form.rt:28:22
 shared-slice-read-if1-3 : tie.Need-shared-slice-read-if1-3
 shared-slice-read-if1-3 c = search needs
 
--- src/form.rt:29:9
 returns : tie.Need-returns
 returns c =
     let f = c .before .before .before .before in
     let s = f .before .before .before in
     λ goals. vacant (headerWith goals (s .args .top)) (s .args .slot) (s .args .s .now) (s .pre) (f .flags-of .result) (part-tells (s .args .s .now) (f .flags-of .result) (f .flags-of .ensures)) (c .if1 .taken)
 
--- src/form.rt:31:8
 shared-slice-read-if2 : tie.Need-shared-slice-read-if2
 shared-slice-read-if2 c = search needs
 
--- src/form.rt:32:9
 returns-2 : tie.Need-returns-2
 returns-2 c =
     let f = c .before .before .before .before .before .before in
     let s = f .before .before .before in
     λ goals. not-held (headerWith goals (s .args .top)) (s .args .slot) (s .args .s .now) (s .pre) (f .flags-of .result) (part-tells (s .args .s .now) (f .flags-of .result) (f .flags-of .ensures)) (c .before .before .if1 .left) (c .if2 .taken)
 
--- src/form.rt:34:12
 shared-slice-read-if3 : tie.Need-shared-slice-read-if3
 shared-slice-read-if3 c = search needs
 
--- src/form.rt:35:9
 returns-3 : tie.Need-returns-3
 returns-3 c =
     let f = c .before .before .before .before .before .before .before .before in
     let s = f .before .before .before in
     λ goals. no-result (headerWith goals (s .args .top)) (s .args .slot) (s .args .s .now) (s .pre) (f .flags-of .result) (part-tells (s .args .s .now) (f .flags-of .result) (f .flags-of .ensures)) (c .before .before .before .before .if1 .left) (c .before .before .if2 .left) (c .if3 .taken)
 
--- src/form.rt:37:42
 shared-slice-read-wide : tie.Need-shared-slice-read-wide
 shared-slice-read-wide c = search needs
 
--- src/form.rt:37:31
 wide-requires : tie.Need-wide-requires
 wide-requires c κs = search needs
 
--- src/form.rt:37:9
 depth-fits-requires : tie.Need-depth-fits-requires
 depth-fits-requires c κs = search needs
 
--- src/form.rt:38:9
 returns-4 : tie.Need-returns-4
 returns-4 c =
     let f = c .before .before .before .before .before .before .before .before .before .before .before .before in
     let s = f .before .before .before in
     λ goals. no-depth (headerWith goals (s .args .top)) (s .args .slot) (s .args .s .now) (s .pre) (f .flags-of .result) (part-tells (s .args .s .now) (f .flags-of .result) (f .flags-of .ensures)) (c .before .before .before .before .before .before .before .before .if1 .left) (c .before .before .before .before .before .before .if2 .left) (c .before .before .before .before .if3 .left) (c .before .depth-fits .result) (c .before .depth-fits .ensures goals ∙ ap (depthFits (headerWith goals (s .args .top)) (s .args .slot)) (c .before .before .wide .ensures .0)) (not-true (c .before .depth-fits .result) (c .if4 .taken))
 
--- src/form.rt:23:1
 returns-5 : tie.Need-returns-5
 returns-5 c =
     let f = c .before .before .before .before .before .before .before .before .before .before .before .before in

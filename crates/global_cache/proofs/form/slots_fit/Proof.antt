@@ -3,17 +3,12 @@ use mathlib.Core.Bool.{true}
 use borrow.Author.Tests.{not-true, not-false}
 use Prim.Native.Nat.{_+_, _-_, _≤_}
 use native.Mathlib.Omega.{arith}
-use lib.ListN.{length}
 use Rattle.definition.specs.CacheForm.{slotsFit}
 use Rattle.global_cache.specs.Cache.{headerWith}
 use Rattle.global_cache.proofs.Fits.{slots-fail, slots-more}
-use Rattle.global_cache.proofs.Slots.{slot-length}
+use Rattle.global_cache.proofs.Slots.{slot-room}
 use Rattle.global_cache.proofs.form.slots_fit.Statement.{statement}
 use Rattle.global_cache.proofs.form.slots_fit.Tie as tie
-use Rattle.global_cache.proofs.form.slots_fit.Reads as reads
-use Rattle.global_cache.proofs.form.slots_fit.Lts as lts
-use Rattle.global_cache.proofs.form.slot_fits.Reads as slot-fits-reads
-use Rattle.global_cache.proofs.slot_at.Reads as slot-at-reads
 
 abbrev Inv-loop : tie.InvT-loop
 Inv-loop cache goals top goal slot₀ slot = (slot ≤ top + 2) × (true ≡ slotsFit (headerWith goals top) cache goal slot)
@@ -21,49 +16,41 @@ Inv-loop cache goals top goal slot₀ slot = (slot ≤ top + 2) × (true ≡ slo
 abbrev μ-loop : tie.MeasureT-loop
 μ-loop cache goals top goal slot₀ slot = top + 2 - slot
 
--- src/form.rt:49:5
 loop-holds : tie.Need-loop-holds Inv-loop μ-loop
 loop-holds c = (omega arith, refl)
 
--- src/form.rt:49:18
 add-loop : tie.Need-add-loop Inv-loop μ-loop
 add-loop c = omega arith
 
--- src/form.rt:50:13
 slot-at-requires : tie.Need-slot-at-requires Inv-loop μ-loop
 slot-at-requires c κs = c .before .before .before .pre
 
--- src/form.rt:51:13
 slot-fits-requires : tie.Need-slot-fits-requires Inv-loop μ-loop
 slot-fits-requires c κs =
     let l = c .before .before in
     let s = l .before .before in
-    omega (arith, ap length (c .slot-at .ensures), slot-length (s .args .goals) (s .args .top) (s .args .goal) (l .loop .slot) (s .args .cache .now) (s .pre) (omega arith))
+    slot-room (s .args .goals) (s .args .top) (s .args .goal) (l .loop .slot) (s .args .cache .now) (c .slot-at .result .now) (s .pre .0) (s .pre .1) (omega arith) (c .slot-at .ensures)
 
--- src/form.rt:52:13
 returns : tie.Need-returns Inv-loop μ-loop
 returns c =
     let l = c .before .before .before .before in
     let a = l .before .before .args in
     slots-fail (headerWith (a .goals) (a .top)) (a .cache .now) (a .goal) (l .loop .slot) (c .before .before .slot-at .result .now) (c .before .slot-fits .result) (c .before .before .slot-at .ensures) (c .before .slot-fits .ensures (a .goals)) (a .top + 2) (omega arith) (not-true (c .before .slot-fits .result) (c .if1 .taken))
 
--- src/form.rt:54:16
 add-slot : tie.Need-add-slot Inv-loop μ-loop
 add-slot c = omega arith
 
--- src/form.rt:49:5
 loop-less : tie.Need-loop-less Inv-loop μ-loop
 loop-less c = omega arith
 
--- src/form.rt:49:5
 loop-again : tie.Need-loop-again Inv-loop μ-loop
 loop-again c =
     let l = c .before .before .before .before in
-    let a = l .before .before .args in
-    (omega arith,
-    slots-more (headerWith (a .goals) (a .top)) (a .cache .now) (a .goal) (l .loop .slot) (c .before .before .slot-at .result .now) (c .before .slot-fits .result) (c .before .before .slot-at .ensures) (c .before .slot-fits .ensures (a .goals)) (l .loop .inv .1) (not-false (c .before .slot-fits .result) (c .if1 .left)))
+    let a = l .before .before .args in (
+      omega arith,
+      slots-more (headerWith (a .goals) (a .top)) (a .cache .now) (a .goal) (l .loop .slot) (c .before .before .slot-at .result .now) (c .before .slot-fits .result) (c .before .before .slot-at .ensures) (c .before .slot-fits .ensures (a .goals)) (l .loop .inv .1) (not-false (c .before .slot-fits .result) (c .if1 .left)),
+    )
 
--- src/form.rt:44:1
 returns-2 : tie.Need-returns-2 Inv-loop μ-loop
 returns-2 c =
     let l = c .before in

@@ -2,26 +2,18 @@ use Rattle.global_cache.proofs.Slots.{held-other, held-none}
 use borrow.Author.Needs.{needs}
 use Rattle.global_cache.proofs.slot.conflicts.Statement.{statement}
 use Rattle.global_cache.proofs.slot.conflicts.Tie as tie
-use Rattle.global_cache.proofs.slot.conflicts.Reads as reads
-use Rattle.global_cache.proofs.slot.conflicts.Lts as lts
-use Rattle.buffer.proofs.get.Reads as get-reads
-use Rattle.global_cache.proofs.slot.is_held.Reads as is-held-reads
 
--- src/slot.rt:71:8
 is-held-requires : tie.Need-is-held-requires
 is-held-requires c κs = search needs
 
--- src/slot.rt:72:16
 get-requires : tie.Need-get-requires
 get-requires c κs = search needs
 
--- src/slot.rt:72:9
 returns : tie.Need-returns
 returns c =
     let h = c .before .before in
     held-other (h .before .before .args .slot .now) (h .is-held .result) (c .get .result) (h .before .before .args .result) (h .is-held .ensures) (c .before .if1 .taken) (c .get .ensures)
 
--- src/slot.rt:68:1
 returns-2 : tie.Need-returns-2
 returns-2 c =
     let h = c .before in

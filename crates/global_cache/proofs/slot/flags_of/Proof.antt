@@ -8,8 +8,6 @@ use Rattle.definition.specs.CacheForm.{allAtMost}
 use Rattle.global_cache.proofs.Flags.{flags-first, flags-more, flags-all}
 use Rattle.global_cache.proofs.slot.flags_of.Statement.{statement}
 use Rattle.global_cache.proofs.slot.flags_of.Tie as tie
-use Rattle.global_cache.proofs.slot.flags_of.Reads as reads
-use Rattle.global_cache.proofs.slot.flags_of.Lts as lts
 
 abbrev Inv-loop : tie.InvT-loop
 Inv-loop s flags₀ i₀ flags i =
@@ -18,29 +16,23 @@ Inv-loop s flags₀ i₀ flags i =
 abbrev μ-loop : tie.MeasureT-loop
 μ-loop s flags₀ i₀ flags i = length s - i
 
--- src/slot.rt:53:5
 loop-holds : tie.Need-loop-holds Inv-loop μ-loop
 loop-holds c = (omega arith, flags-first (c .args .s .now))
 
--- src/slot.rt:54:25
 shared-slice-read-flags : tie.Need-shared-slice-read-flags Inv-loop μ-loop
 shared-slice-read-flags c = omega arith
 
--- src/slot.rt:55:13
 add-i : tie.Need-add-i Inv-loop μ-loop
 add-i c = omega arith
 
--- src/slot.rt:53:5
 loop-less : tie.Need-loop-less Inv-loop μ-loop
 loop-less c = omega arith
 
--- src/slot.rt:53:5
 loop-again : tie.Need-loop-again Inv-loop μ-loop
 loop-again c =
     let l = c .before .before in
     (omega arith, flags-more (l .before .args .s .now) (l .loop .flags) (l .loop .i) (l .loop .inv .1) (omega arith))
 
--- src/slot.rt:48:1
 returns : tie.Need-returns Inv-loop μ-loop
 returns c = flags-all (c .before .before .args .s .now) (c .before .loop .flags) (c .before .loop .i) (c .before .loop .inv .1) (c .loop-test .left)
 

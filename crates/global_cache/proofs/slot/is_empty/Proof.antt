@@ -3,15 +3,10 @@ use Rattle.global_cache.proofs.Flags.{leb-zero, empty-flags}
 use borrow.Author.Needs.{needs}
 use Rattle.global_cache.proofs.slot.is_empty.Statement.{statement}
 use Rattle.global_cache.proofs.slot.is_empty.Tie as tie
-use Rattle.global_cache.proofs.slot.is_empty.Reads as reads
-use Rattle.global_cache.proofs.slot.is_empty.Lts as lts
-use Rattle.global_cache.proofs.slot.flags_of.Reads as flags-of-reads
 
--- src/slot.rt:64:5
 flags-of-requires : tie.Need-flags-of-requires
 flags-of-requires c κs = search needs
 
--- src/slot.rt:61:1
 returns : tie.Need-returns
 returns c = sym (leb-zero (c .flags-of .result)) ∙ c .flags-of .ensures 0 ∙ empty-flags (c .before .before .args .nested .now)
 

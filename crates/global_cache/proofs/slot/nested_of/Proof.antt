@@ -5,38 +5,28 @@ use Rattle.global_cache.proofs.Slots.{part-from}
 use borrow.Author.Needs.{needs}
 use Rattle.global_cache.proofs.slot.nested_of.Statement.{statement}
 use Rattle.global_cache.proofs.slot.nested_of.Tie as tie
-use Rattle.global_cache.proofs.slot.nested_of.Reads as reads
-use Rattle.global_cache.proofs.slot.nested_of.Lts as lts
 
--- src/slot.rt:42:16
 sub-result : tie.Need-sub-result
 sub-result c = search needs
 
--- src/slot.rt:42:16
 part-result-start : tie.Need-part-result-start
 part-result-start c = search needs
 
--- src/slot.rt:42:16
 part-result-end : tie.Need-part-result-end
 part-result-end c = search needs
 
--- src/slot.rt:42:9
 returns : tie.Need-returns
 returns c = sym (drop-of-length-le (c .before .before .args .slot .now) {i = 3} (omega arith))
 
--- src/slot.rt:44:5
 sub-result-2 : tie.Need-sub-result-2
 sub-result-2 c = search needs
 
--- src/slot.rt:44:5
 part-result-start-2 : tie.Need-part-result-start-2
 part-result-start-2 c = search needs
 
--- src/slot.rt:44:5
 part-result-end-2 : tie.Need-part-result-end-2
 part-result-end-2 c = search needs
 
--- src/slot.rt:38:1
 returns-2 : tie.Need-returns-2
 returns-2 c = part-from 3 (c .before .before .args .slot .now)
 

@@ -5,31 +5,22 @@ use Rattle.global_cache.proofs.Slots.{held-bytes}
 use borrow.Author.Needs.{needs}
 use Rattle.global_cache.proofs.slot.write.Statement.{statement}
 use Rattle.global_cache.proofs.slot.write.Tie as tie
-use Rattle.global_cache.proofs.slot.write.Reads as reads
-use Rattle.global_cache.proofs.slot.write.Lts as lts
-use Rattle.global_cache.proofs.slot.write_nested.Reads as write-nested-reads
 
--- src/slot.rt:94:5
 slice-write-slot : tie.Need-slice-write-slot
 slice-write-slot c = search needs
 
--- src/slot.rt:95:5
 slice-write-slot-2 : tie.Need-slice-write-slot-2
 slice-write-slot-2 c = simp length-set (omega arith)
 
--- src/slot.rt:96:5
 slice-write-slot-3 : tie.Need-slice-write-slot-3
 slice-write-slot-3 c = simp length-set (omega arith)
 
--- src/slot.rt:97:5
 write-nested-requires : tie.Need-write-nested-requires
 write-nested-requires c κs = search needs
 
--- src/slot.rt:90:1
 same-length : tie.Need-same-length
 same-length c = c .before .before .write-nested .kept .0 ∙ simp length-set
 
--- src/slot.rt:90:1
 returns : tie.Need-returns
 returns c =
     let a = c .before .before .before .before .before .before in

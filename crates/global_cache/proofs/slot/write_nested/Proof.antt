@@ -6,8 +6,6 @@ use lib.Seq.{paste, paste-zero}
 use Rattle.global_cache.proofs.Slots.{copied-more, copied-all}
 use Rattle.global_cache.proofs.slot.write_nested.Statement.{statement}
 use Rattle.global_cache.proofs.slot.write_nested.Tie as tie
-use Rattle.global_cache.proofs.slot.write_nested.Reads as reads
-use Rattle.global_cache.proofs.slot.write_nested.Lts as lts
 
 abbrev Inv-loop : tie.InvT-loop
 Inv-loop slot₀ nested i₀ slot i = (i ≤ length nested) × (length slot ≡ length slot₀) × (slot ≡ paste slot₀ 3 nested i)
@@ -15,41 +13,32 @@ Inv-loop slot₀ nested i₀ slot i = (i ≤ length nested) × (length slot ≡ 
 abbrev μ-loop : tie.MeasureT-loop
 μ-loop slot₀ nested i₀ slot i = length nested - i
 
--- src/slot.rt:83:5
 loop-holds : tie.Need-loop-holds Inv-loop μ-loop
 loop-holds c = (omega arith, refl, paste-zero (c .args .slot .now) 3 (c .args .nested .now))
 
--- src/slot.rt:84:23
 shared-slice-read-slot : tie.Need-shared-slice-read-slot Inv-loop μ-loop
 shared-slice-read-slot c = omega arith
 
--- src/slot.rt:84:14
 add-slot : tie.Need-add-slot Inv-loop μ-loop
 add-slot c = omega arith
 
--- src/slot.rt:84:9
 slice-write-slot : tie.Need-slice-write-slot Inv-loop μ-loop
 slice-write-slot c = omega arith
 
--- src/slot.rt:85:13
 add-i : tie.Need-add-i Inv-loop μ-loop
 add-i c = omega arith
 
--- src/slot.rt:83:5
 loop-less : tie.Need-loop-less Inv-loop μ-loop
 loop-less c = omega arith
 
--- src/slot.rt:83:5
 loop-again : tie.Need-loop-again Inv-loop μ-loop
 loop-again c =
     let l = c .before .before in
     (omega arith, simp length-set (l .loop .inv .1), copied-more (l .before .args .slot .now) (l .before .args .nested .now) (l .loop .slot) (l .loop .i) (l .loop .inv .2) (l .before .pre) (omega arith))
 
--- src/slot.rt:78:1
 same-length : tie.Need-same-length Inv-loop μ-loop
 same-length c = c .before .loop .inv .1
 
--- src/slot.rt:78:1
 returns : tie.Need-returns Inv-loop μ-loop
 returns c =
     let l = c .before in
