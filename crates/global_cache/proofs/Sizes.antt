@@ -1,0 +1,25 @@
+-- How many slots and bytes there are.
+use mathlib.Core.Path.{_≡_}
+use Prim.Native.Nat.{ℕ, _+_, _*_, _≤_, _<_}
+use native.Mathlib.Nat.{mul-le-mul}
+use native.Mathlib.Omega.{arith}
+use Rattle.buffer.proofs.Tables.{apart}
+
+-- goals' slots
+pub slots-few : (n top : ℕ) → n ≤ 64 → top ≤ 63 → n * (top + 2) ≤ 4160
+slots-few n top a b = mul-le-mul {n₁ = n} {m₁ = top + 2} {n₂ = 64} {m₂ = 65} a (omega arith)
+
+-- slots' bytes
+pub bytes-few : (n goals : ℕ) → n ≤ 4160 → goals ≤ 64 → n * (goals + 3) ≤ 278720
+bytes-few n goals a b = mul-le-mul {n₁ = n} {m₁ = goals + 3} {n₂ = 4160} {m₂ = 67} a (omega arith)
+
+pub length-few : (goals top : ℕ) → goals ≤ 64 → top ≤ 63 → goals * (top + 2) * (goals + 3) ≤ 278720
+length-few goals top a b = bytes-few (goals * (top + 2)) goals (slots-few goals top a b) a
+
+-- a slot lies in the cache
+pub place-in : (goals top place : ℕ) → place < goals * (top + 2) → place * (goals + 3) + (goals + 3) ≤ goals * (top + 2) * (goals + 3)
+place-in goals top place h = apart place (goals * (top + 2)) (goals + 3) h
+
+-- a goal's slots are among all
+pub goal-in : (goals top goal : ℕ) → goal < goals → goal * (top + 2) + (top + 2) ≤ goals * (top + 2)
+goal-in goals top goal h = apart goal goals (top + 2) h

@@ -1,0 +1,135 @@
+-- A goal's slot in the cache's bytes.
+use mathlib.Core.Path.{_≡_, refl, sym, ap, ap₂, _∙_}
+use mathlib.Core.Bool.{Bool, true, false, not, _&&_}
+use mathlib.Core.List.{List, [], _∷_, _++_, append-nil}
+use mathlib.Core.Option.{Option, none, some}
+use Prim.Native.Nat.{ℕ, zero, suc, _+_, _*_, _-_, _≤_, _<_}
+use native.Mathlib.Nat.{mul-le-mul-right}
+use native.Mathlib.Numerals.{add-one}
+use native.Mathlib.Omega.{arith}
+use lib.Dec.{eqb}
+use lib.ListN.{length, getD, take, drop, set, drop-of-length-le, length-drop}
+use lib.Seq.{take-nil, take-all, take-length, drop-drop, paste, paste-suc}
+use Rattle.buffer.proofs.Regions.{length-region}
+use Rattle.definition.specs.declared.answers.Answer.{Answer}
+use Rattle.definition.specs.Answers.{answerNumber}
+use Rattle.definition.specs.GlobalCache.{slotAt, slotStart, slotHeld, slotNested, slotFor, cacheInsert}
+use Rattle.global_cache.specs.declared.Insertion.the-variants.{Kept, Conflict}
+use Rattle.global_cache.specs.Cache.{headerWith, CacheBytes, evaluated}
+use Rattle.global_cache.proofs.Sizes.{place-in, goal-in}
+
+-- past the end there is none
+pub slot-beyond : (cache : List ℕ) (size all place : ℕ) → length cache ≡ all * size → all ≤ place → [] ≡ take size (drop (place * size) cache)
+slot-beyond cache size all place e h =
+    let far = mul-le-mul-right size h in
+    sym (ap (take size) (drop-of-length-le cache {i = place * size} (omega arith)) ∙ take-nil size)
+
+-- a part `[a..a + size]` is a region
+pub part-slot : (cache : List ℕ) (a b size : ℕ) → a ≡ b → take (a + size - a) (drop a cache) ≡ take size (drop b cache)
+part-slot cache a b size e =
+    let n : a + size - a ≡ size = omega arith in
+    ap₂ (λ (m k : ℕ). take m (drop k cache)) n e
+
+-- a part `[n..]` is all that is left
+pub part-from : (n : ℕ) (s : List ℕ) → take (length s - n) (drop n s) ≡ drop n s
+part-from n s = take-all (length s - n) (drop n s) (omega (arith, length-drop n s))
+
+-- a slot of a known goal is as long as a slot is
+pub slot-length : (goals top goal slot : ℕ) (cache : List ℕ) → CacheBytes goals top cache → goal < goals → slot < top + 2
+    → length (slotAt (headerWith goals top) cache goal slot) ≡ goals + 3
+slot-length goals top goal slot cache g k h =
+    let inside = goal-in goals top goal k in
+    let room = place-in goals top (goal * (top + 2) + slot) (omega arith) in
+    let whole = g .whole in
+    length-region ((goal * (top + 2) + slot) * (goals + 3)) (goals + 3) cache (omega arith)
+
+pub slot-room : (goals top goal slot : ℕ) (cache s : List ℕ) → CacheBytes goals top cache → goal < goals → slot < top + 2
+    → s ≡ slotAt (headerWith goals top) cache goal slot → 3 ≤ length s
+slot-room goals top goal slot cache s g k h e =
+    let n : length s ≡ goals + 3 = ap length e ∙ slot-length goals top goal slot cache g k h in
+    omega arith
+
+-- and has a nested byte for each goal
+pub nested-length : (goals top goal slot : ℕ) (cache : List ℕ) → CacheBytes goals top cache → goal < goals → slot < top + 2
+    → length (slotNested (slotAt (headerWith goals top) cache goal slot)) ≡ goals
+nested-length goals top goal slot cache g k h =
+    let s : List ℕ = slotAt (headerWith goals top) cache goal slot in
+    omega (arith, length-drop 3 s, slot-length goals top goal slot cache g k h)
+
+-- a cache stays one while it keeps its length
+pub same-bytes : (goals top : ℕ) (cache other : List ℕ) → CacheBytes goals top cache → length other ≡ length cache → CacheBytes goals top other
+same-bytes goals top cache other g e = record { few = g .few; low = g .low; whole = e ∙ g .whole }
+
+-- ---- a slot written
+pub copied-more : (d s now : List ℕ) (j : ℕ) → now ≡ paste d 3 s j → length d ≡ 3 + length s → j < length s → set now (3 + j) (getD s j 0) ≡ paste d 3 s (j + 1)
+copied-more d s now j e len h =
+    ap (λ (l : List ℕ). set l (3 + j) (getD s j 0)) e ∙ paste-suc d 3 s j 0 (omega arith) h ∙ ap (paste d 3 s) (sym (add-one j))
+
+pub copied-all : (d s now : List ℕ) (j : ℕ) → now ≡ paste d 3 s j → length d ≡ 3 + length s → j ≡ length s → now ≡ take 3 d ++ s
+copied-all d s now j e len h =
+    e
+    ∙ ap (paste d 3 s) h
+    ∙ ap₂ (λ (l m : List ℕ). (take 3 d ++ l) ++ m) (take-length s) (drop-of-length-le d {i = 3 + length s} (omega arith))
+    ∙ append-nil (take 3 d ++ s)
+
+-- the three first bytes, then the nested goals
+pub held-bytes : (s ns : List ℕ) (x y z : ℕ) → length s ≡ 3 + length ns → take 3 (set (set (set s 0 x) 1 y) 2 z) ++ ns ≡ x ∷ y ∷ z ∷ ns
+held-bytes [] ns x y z h = absurd (omega arith)
+held-bytes (a ∷ []) ns x y z h = absurd (omega arith)
+held-bytes (a ∷ b ∷ []) ns x y z h = absurd (omega arith)
+held-bytes (a ∷ b ∷ c ∷ s) ns x y z h = refl
+
+-- ---- `conflicts`
+pub held-other : (s : List ℕ) (held : Bool) (n r : ℕ) → held ≡ slotHeld s → held ≡ true → n ≡ getD s 1 0 → not (eqb n r) ≡ (slotHeld s && not (eqb (getD s 1 0) r))
+held-other s held n r e t f =
+    ap (λ (m : ℕ). not (eqb m r)) f ∙ sym (ap (λ (b : Bool). b && not (eqb (getD s 1 0) r)) (sym e ∙ t))
+
+pub held-none : (s : List ℕ) (held : Bool) (r : ℕ) → held ≡ slotHeld s → held ≡ false → false ≡ (slotHeld s && not (eqb (getD s 1 0) r))
+held-none s held r e t = sym (ap (λ (b : Bool). b && not (eqb (getD s 1 0) r)) (sym e ∙ t))
+
+-- ---- `insert`
+pub kept-differs : Kept ≡ Conflict → ⊥
+kept-differs e = let z : _≡_ {A = ℕ} 0 1 = cc in omega arith
+
+pub for-overflow : (overflow : Bool) (required : ℕ) (nested : List ℕ) (result : Answer) → overflow ≡ true → required + 1 ≡ slotFor (evaluated overflow required nested result)
+for-overflow overflow required nested result e = sym (ap (λ (t : Bool). slotFor (evaluated t required nested result)) e)
+
+pub for-success : (overflow : Bool) (required : ℕ) (nested : List ℕ) (result : Answer) → overflow ≡ false → 0 ≡ slotFor (evaluated overflow required nested result)
+for-success overflow required nested result e = sym (ap (λ (t : Bool). slotFor (evaluated t required nested result)) e)
+
+module _ (goals top goal : ℕ) (cache : List ℕ) (overflow : Bool) (required : ℕ) (nested : List ℕ) (result : Answer)
+    (slot a n : ℕ) (is-slot : slot ≡ slotFor (evaluated overflow required nested result)) (is-start : a ≡ (goal * (top + 2) + slot) * (goals + 3))
+    (is-number : n ≡ answerNumber result) (t : Bool)
+    (told : t ≡ (slotHeld (take (a + (goals + 3) - a) (drop a cache)) && not (eqb (getD (take (a + (goals + 3) - a) (drop a cache)) 1 0) n))) where
+  abbrev place : ℕ
+  place = slotStart (headerWith goals top) goal (slotFor (evaluated overflow required nested result))
+
+  is-place : a ≡ place
+  is-place = is-start ∙ ap (λ (k : ℕ). (goal * (top + 2) + k) * (goals + 3)) is-slot
+
+  abbrev found : Bool → Option (List ℕ)
+  found b =
+      elim b [
+        | true ↦ none
+        | false ↦ some (take place cache ++ ((1 ∷ answerNumber result ∷ required ∷ nested) ++ drop (place + (goals + 3)) cache))
+      ]
+
+  found-told : cacheInsert (headerWith goals top) cache goal (evaluated overflow required nested result) ≡ found t
+  found-told =
+      ap found
+      (sym (told ∙ ap₂ (λ (l : List ℕ) (m : ℕ). slotHeld l && not (eqb (getD l 1 0) m)) (part-slot cache a place (goals + 3) is-place) is-number))
+
+  pub insert-conflict : t ≡ true → cacheInsert (headerWith goals top) cache goal (evaluated overflow required nested result) ≡ none
+  insert-conflict e = found-told ∙ ap found e
+
+  pub insert-kept : t ≡ false → (ys : List ℕ) → ys ≡ 1 ∷ n ∷ required ∷ nested
+      → cacheInsert (headerWith goals top) cache goal (evaluated overflow required nested result)
+      ≡ some (take a cache ++ (ys ++ drop (a + (goals + 3) - a) (drop a cache)))
+  insert-kept e ys f =
+      let size : a + (goals + 3) - a ≡ goals + 3 = omega arith in
+      found-told
+      ∙ ap found e
+      ∙ sym (ap some
+      (ap₂ (λ (l m : List ℕ). take a cache ++ (l ++ m)) (f ∙ ap (λ (k : ℕ). 1 ∷ k ∷ required ∷ nested) is-number)
+      (ap (λ (k : ℕ). drop k (drop a cache)) size ∙ drop-drop (goals + 3) a cache)
+      ∙ ap (λ (k : ℕ). take k cache ++ ((1 ∷ answerNumber result ∷ required ∷ nested) ++ drop (k + (goals + 3)) cache)) is-place))

@@ -1,0 +1,98 @@
+// A slot's bytes: held 0 or 1, result, required depth, then the nested goals, a byte
+// for each goal.
+use definition::answers::Answer;
+ghost use mathlib.Core.Path.{_≡_};
+ghost use mathlib.Core.Bool.{not, _&&_};
+ghost use mathlib.Core.List.{List, _∷_, _++_};
+ghost use Prim.Native.Nat.{ℕ, _+_, _-_, _^_, _<_};
+ghost use lib.Dec.{eqb, leb};
+ghost use lib.ListN.{length, getD, take};
+ghost use Rattle.definition.specs.GlobalCache.{slotHeld, slotResult, slotDepth, slotNested};
+ghost use Rattle.definition.specs.CacheForm.{allAtMost};
+ghost use Rattle.definition.specs.Nested.{nestedEmpty};
+
+pub fn wide(x: u8) -> usize
+    ensures { λ r. ⌜ (r ≡ x) × (r < 256) ⌝ }
+{
+    x as usize
+}
+
+pub fn is_held(slot: &[u8]) -> bool
+    ensures { λ r. ⌜ r ≡ slotHeld (now (slot .entry)) ⌝ }
+{
+    buffer::get(slot, 0) == 1
+}
+
+pub fn result_of(slot: &[u8]) -> Answer
+    ensures { λ r. ⌜ r ≡ slotResult (now (slot .entry)) ⌝ }
+{
+    Answer::from_number(buffer::get(slot, 1))
+}
+
+pub fn depth_of(slot: &[u8]) -> usize
+    ensures { λ r. ⌜ r ≡ slotDepth (now (slot .entry)) ⌝ }
+{
+    wide(buffer::get(slot, 2))
+}
+
+pub fn nested_of(slot: &[u8]) -> &[u8]
+    ensures { λ r. ⌜ now r ≡ slotNested (now (slot .entry)) ⌝ }
+{
+    if slot.len() < 3 {
+        return &slot[0..0];
+    }
+    &slot[3..]
+}
+
+// All flags of some bytes: they tell the bound 2 ^ k - 1 of every byte.
+pub fn flags_of(s: &[u8]) -> u8
+    ensures { λ r. ⌜ ((k : ℕ) → leb r (2 ^ k - 1) ≡ allAtMost (2 ^ k - 1) (now (s .entry))) ⌝ }
+{
+    let mut flags: u8 = 0;
+    let mut i: usize = 0;
+    while i < s.len() {
+        flags = flags | s[i];
+        i = i + 1;
+    }
+    flags
+}
+
+// Whether no goal is nested.
+pub fn is_empty(nested: &[u8]) -> bool
+    ensures { λ r. ⌜ r ≡ nestedEmpty (now (nested .entry)) ⌝ }
+{
+    flags_of(nested) == 0
+}
+
+// Whether the slot holds another result.
+pub fn conflicts(slot: &[u8], result: u8) -> bool
+    ensures { λ r. ⌜ r ≡ (slotHeld (now (slot .entry)) && not (eqb (getD (now (slot .entry)) 1 0) result)) ⌝ }
+{
+    if is_held(slot) {
+        return buffer::get(slot, 1) != result;
+    }
+    false
+}
+
+// The nested goals, behind the slot's first three bytes.
+fn write_nested(slot: &mut [u8], nested: &[u8])
+    requires { ⌜ length (now slot) ≡ 3 + length (now nested) ⌝ }
+    ensures { λ _. ⌜ now (slot .exit) ≡ take 3 (now (slot .entry)) ++ now (nested .entry) ⌝ }
+{
+    let mut i: usize = 0;
+    while i < nested.len() {
+        slot[3 + i] = nested[i];
+        i = i + 1;
+    }
+}
+
+// The bytes of a held slot.
+pub fn write(slot: &mut [u8], result: u8, required: u8, nested: &[u8])
+    requires { ⌜ length (now slot) ≡ 3 + length (now nested) ⌝ }
+    ensures { λ _. ⌜ now (slot .exit) ≡ 1 ∷ result ∷ required ∷ now (nested .entry) ⌝ }
+{
+    slot[0] = 1;
+    slot[1] = result;
+    slot[2] = required;
+    write_nested(slot, nested);
+}
