@@ -2,7 +2,7 @@
 use mathlib.Core.Path.{_≡_, refl, sym, ap, ap₂, _∙_, subst}
 use mathlib.Core.List.{List, [], _∷_, _++_}
 use Prim.Native.Nat.{ℕ, zero, suc, _+_, _*_, _-_, _≤_, _<_}
-use native.Mathlib.Nat.{zero-add, mul-le-mul-right}
+use native.Mathlib.Nat.{zero-add, add-zero, mul-le-mul-right}
 use native.Mathlib.Omega.{arith}
 use lib.ListN.{length, getD, set, drop}
 use Rattle.definition.specs.declared.usages.HeadUsages.{HeadUsages}
@@ -208,3 +208,50 @@ module _ (goals : ℕ) where
 -- ---- the workspace: the graph, then the merged usages
 pub work-length : (goals : ℕ) → workLength goals ≡ graphLength goals + goals * blockSize goals
 work-length goals = omega arith
+
+module _ (goals : ℕ) (work : List ℕ) (long : length work ≡ workLength goals) where
+  merged-room : (i : ℕ) → i < goals → mergedStart goals i + blockSize goals ≤ length work
+  merged-room i lt = room-of (blockSize goals) (graphLength goals) goals i lt (at-most (long ∙ work-length goals))
+    where
+      at-most : {m n : ℕ} → n ≡ m → m ≤ n
+      at-most e = omega arith
+
+  -- a write of the merged usages of frame i
+  module _ (i : ℕ) (ys : List ℕ) (lt : i < goals) (whole : length ys ≡ blockSize goals) where
+    fits-merged : mergedStart goals i + length ys ≤ length work
+    fits-merged = fit (mergedStart goals i) (merged-room i lt)
+      where
+        fit : (a : ℕ) {n : ℕ} → a + blockSize goals ≤ n → a + length ys ≤ n
+        fit a h = omega arith
+
+    pub merged-whole : mergedOf goals i (overwrite work (mergedStart goals i) ys) ≡ candidateOf goals ys
+    unfolding mergedOf
+    merged-whole = record-whole (candidateOf goals) (blockSize goals) (graphLength goals) work i ys whole (merged-room i lt)
+
+    pub merged-other : (j : ℕ) → (j ≡ i → ⊥) → mergedOf goals j (overwrite work (mergedStart goals i) ys) ≡ mergedOf goals j work
+    unfolding mergedOf
+    merged-other j ne =
+        ap (λ (x : ℕ). recordAt (candidateOf goals) (blockSize goals) (graphLength goals) (overwrite work x ys) j) (sym (add-zero (mergedStart goals i)))
+        ∙ record-other (candidateOf goals) (blockSize goals) (graphLength goals) work i 0 ys (at-most whole) (merged-room i lt) j ne
+      where
+        at-most : {n : ℕ} → length ys ≡ n → 0 + length ys ≤ n
+        at-most e = omega arith
+
+    -- the graph's bytes
+    pub merged-graph : region 0 (graphLength goals) (overwrite work (mergedStart goals i) ys) ≡ region 0 (graphLength goals) work
+    merged-graph = region-before work (mergedStart goals i) ys fits-merged 0 (graphLength goals) (up (graphLength goals) (i * blockSize goals))
+      where
+        up : (a x : ℕ) → 0 + a ≤ a + x
+        up a x = omega arith
+
+  -- a write in the graph's bytes
+  pub graph-merged : (a : ℕ) (ys : List ℕ) → a + length ys ≤ graphLength goals → (i : ℕ) → mergedOf goals i (overwrite work a ys) ≡ mergedOf goals i work
+  unfolding mergedOf
+  graph-merged a ys h i =
+      ap (candidateOf goals) (region-after work a ys (fit (graphLength goals) (goals * blockSize goals) h (long ∙ work-length goals)) (mergedStart goals i) (blockSize goals) (up (graphLength goals) (i * blockSize goals) h))
+    where
+      up : (g x : ℕ) → a + length ys ≤ g → a + length ys ≤ g + x
+      up g x h = omega arith
+
+      fit : (g x : ℕ) → a + length ys ≤ g → length work ≡ g + x → a + length ys ≤ length work
+      fit g x h e = omega arith
