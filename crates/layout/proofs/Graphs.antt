@@ -1,16 +1,15 @@
 -- A write in one frame, in one entry or in one block of merged usages changes that one only.
-use mathlib.Core.Path.{_≡_, refl, sym, ap, ap₂, _∙_, subst}
+use mathlib.Core.Path.{_≡_, sym, ap, ap₂, _∙_, subst}
 use mathlib.Core.List.{List, [], _∷_, _++_}
-use Prim.Native.Nat.{ℕ, zero, suc, _+_, _*_, _-_, _≤_, _<_}
+use Prim.Native.Nat.{ℕ, suc, _+_, _*_, _-_, _≤_, _<_}
 use native.Mathlib.Nat.{zero-add, add-zero, mul-le-mul-right}
 use native.Mathlib.Omega.{arith}
 use lib.ListN.{length, getD, set, drop}
-use Rattle.definition.specs.declared.usages.HeadUsages.{HeadUsages}
-use Rattle.definition.specs.Stack.{Frame, Stack}
-use Rattle.definition.specs.Graph.{Entry, Graph, withStack, withProvisionalCache}
+use Rattle.definition.specs.Stack.{Frame}
+use Rattle.definition.specs.Graph.{Entry, withStack, withProvisionalCache}
 use Rattle.definition.specs.Query.{workLength}
 use Rattle.buffer.specs.Regions.{region, overwrite}
-use Rattle.buffer.specs.Tables.{listUp, listDown, recordAt, table, tableDown}
+use Rattle.buffer.specs.Tables.{recordAt, table, tableDown}
 use Rattle.buffer.proofs.Regions.{region-before, region-after}
 use Rattle.buffer.proofs.Tables.{length-up, up-at, up-snoc, length-down, down-at, down-drop, apart, table-below, table-above, table-inside, table-whole, tableDown-below, tableDown-inside, tableDown-push, record-whole, record-other}
 use Rattle.layout.specs.Blocks.{blockSize, candidateOf}
@@ -204,6 +203,32 @@ module _ (goals : ℕ) where
         where
           up : (x : ℕ) {m n : ℕ} → m ≤ n → m ≤ n + x
           up x h = omega arith
+
+-- ---- the graph
+module _ (goals root : ℕ) (bs cache : List ℕ) (long : length bs ≡ graphLength goals) where
+  -- the top frame is written
+  pub graph-top : (i n : ℕ) (ys : List ℕ) → i < goals → length ys ≡ frameSize goals
+      → graphOf goals root (suc i) n (overwrite bs (frameStart goals i) ys) cache ≡ withStack (graphOf goals root i n bs cache) (frameOf goals ys ∷ stackOf goals i bs)
+  graph-top i n ys lt whole =
+      let es = stack-push goals bs long i ys lt whole in
+      let ee = entries-push goals bs long i ys lt whole n in
+      λ t. record { rootDepth = root; stack = es t; provisionalCache = ee t; globalCache = cache }
+
+  -- entry k is written
+  pub graph-entry : (h n k : ℕ) (ys : List ℕ) → h ≤ goals → k < n → n ≤ 2 * goals → length ys ≡ entrySize goals
+      → graphOf goals root h n (overwrite bs (entryStart goals k) ys) cache ≡ withProvisionalCache (graphOf goals root h n bs cache) (set (entriesOf goals n bs) k (entryOf goals ys))
+  graph-entry h n k ys le lt few whole =
+      let es = stack-entry-whole goals bs long k ys (omega arith) whole h le in
+      let ee = entries-whole goals bs long k ys (omega arith) whole n lt in
+      λ t. record { rootDepth = root; stack = es t; provisionalCache = ee t; globalCache = cache }
+
+  -- one entry more
+  pub graph-append : (h k : ℕ) (ys : List ℕ) → h ≤ goals → k < 2 * goals → length ys ≡ entrySize goals
+      → graphOf goals root h (suc k) (overwrite bs (entryStart goals k) ys) cache ≡ withProvisionalCache (graphOf goals root h k bs cache) (entriesOf goals k bs ++ (entryOf goals ys ∷ []))
+  graph-append h k ys le lt whole =
+      let es = stack-entry-whole goals bs long k ys lt whole h le in
+      let ee = entries-push-back goals bs long k ys lt whole in
+      λ t. record { rootDepth = root; stack = es t; provisionalCache = ee t; globalCache = cache }
 
 -- ---- the workspace: the graph, then the merged usages
 pub work-length : (goals : ℕ) → workLength goals ≡ graphLength goals + goals * blockSize goals

@@ -1,9 +1,9 @@
 -- The indices that have a head, as flags of the mask, and as places.
-use mathlib.Core.Path.{_≡_, refl, sym, ap, ap₂, _∙_}
+use mathlib.Core.Path.{_≡_, refl, sym, ap, _∙_}
 use mathlib.Core.Bool.{Bool, true, false}
 use mathlib.Core.List.{List, [], _∷_, _++_}
 use mathlib.Core.Option.{Option, none, some}
-use Prim.Native.Nat.{ℕ, zero, suc, _+_, _*_, _-_, _^_, _≤_, _<_}
+use Prim.Native.Nat.{ℕ, zero, suc, _+_, _*_, _^_, _≤_, _<_}
 use native.Mathlib.Omega.{arith}
 use native.Mathlib.Decide.{ℕ-discrete}
 use borrow.Author.Tests.{eq-eqb, ne-eqb}
@@ -18,8 +18,8 @@ use Rattle.bits.proofs.Places.{last-more, last-none, last-some}
 use Rattle.buffer.specs.Numbers.{numberOf}
 use Rattle.buffer.specs.Regions.{region}
 use Rattle.buffer.specs.Tables.{listUp}
-use Rattle.buffer.proofs.Tables.{up-at, length-up}
-use Rattle.layout.specs.Blocks.{flagAt, keptAt, headOf, headAt, headsOf, present}
+use Rattle.buffer.proofs.Tables.{up-at}
+use Rattle.layout.specs.Blocks.{flagAt, headOf, headAt, headsOf, present}
 use Rattle.layout.proofs.Blocks.{kept-set, kept-clear}
 
 -- a list's first flags
