@@ -1,3 +1,5 @@
 pub mod Counters
+pub mod Document
+pub mod Example
 pub mod Extensions
 pub mod Numbers

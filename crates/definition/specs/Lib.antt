@@ -3,3 +3,17 @@ pub mod Usages
 pub mod Answers
 pub mod Heads
 pub mod Nested
+pub mod Stack
+pub mod Graph
+pub mod Parent
+pub mod GlobalCache
+pub mod ProvisionalCache
+pub mod Lookup
+pub mod Candidates
+pub mod Task
+pub mod Part
+pub mod Evaluate
+pub mod Line
+pub mod Reader
+pub mod CacheForm
+pub mod Query

@@ -1,0 +1,79 @@
+-- Books written as lines of numbers, queries on them, and what a table of examples proves.
+use Prim.Native.Nat.{ℕ, zero, suc, _+_, _*_, _/_, _%_, _<_}
+use native.Mathlib.Nat.{not-suc-le-zero, le-of-suc-le-suc}
+use mathlib.Core.Path.{_≡_, refl}
+use mathlib.Core.Bool.{Bool, true, false, _&&_}
+use mathlib.Core.List.{List, [], _∷_, _++_}
+use lib.Dec.{eqb, leb, T, eqb→eq}
+use lib.ListN.{length, replicate, getD}
+use Rattle.definition.specs.Answers.{responseAnswer, responseRefusal}
+use Rattle.definition.specs.Query.{Reply, query, workLength}
+
+-- ---- a book's bytes
+
+-- a digit, or a space where no digit stands before it
+abbrev pub leading : ℕ → ℕ → ℕ
+leading before zero = elim (eqb before 0) [ true ↦ 32 | false ↦ 48 ]
+leading before (suc d) = 49 + d
+
+abbrev pub field : ℕ → List ℕ
+field n = leading 0 (n / 100) ∷ leading (n / 100) (n / 10 % 10) ∷ (48 + n % 10) ∷ []
+
+abbrev pub line : ℕ → ℕ → ℕ → ℕ → ℕ → List ℕ
+line a b c d e = field a ++ (field b ++ (field c ++ (field d ++ (field e ++ (10 ∷ [])))))
+
+abbrev pub book : List (List ℕ) → List ℕ
+book [] = []
+book (l ∷ ls) = l ++ book ls
+
+-- ---- a query on a cache of zeros: what it must come to
+pub record Example : Type 0 where
+  pub bytes : List ℕ
+  pub goals : ℕ
+  pub cacheLength : ℕ
+  pub goal : ℕ
+  pub depth : ℕ
+  pub answer : ℕ
+  pub refusal : ℕ
+
+-- the workspace holds anything
+abbrev pub workFor : ℕ → List ℕ
+workFor goals = replicate (workLength goals) 7
+
+abbrev pub replyTo : Example → Reply
+replyTo e = query (e .bytes) (replicate (e .cacheLength) 0) (workFor (e .goals)) (e .goal) (e .depth)
+
+pub record Right (e : Example) : Type 0 where
+  pub answered : responseAnswer (replyTo e .response) ≡ e .answer
+  pub refused : responseRefusal (replyTo e .response) ≡ e .refusal
+
+-- ---- from one computed test over a table to each of its examples
+abbrev pub right : Example → Bool
+right e = eqb (responseAnswer (replyTo e .response)) (e .answer) && eqb (responseRefusal (replyTo e .response)) (e .refusal)
+
+abbrev pub allRight : List Example → Bool
+allRight [] = true
+allRight (e ∷ es) = right e && allRight es
+
+left-of : (a b : Bool) → T (a && b) → T a
+left-of true b t = tt
+left-of false b t = t
+
+right-of : (a b : Bool) → T (a && b) → T b
+right-of true b t = t
+right-of false b t = absurd t
+
+is-right : (e : Example) → T (right e) → Right e
+is-right e t =
+    record {
+      answered = eqb→eq _ _ (left-of (eqb (responseAnswer (replyTo e .response)) (e .answer)) (eqb (responseRefusal (replyTo e .response)) (e .refusal)) t);
+      refused = eqb→eq _ _ (right-of (eqb (responseAnswer (replyTo e .response)) (e .answer)) (eqb (responseRefusal (replyTo e .response)) (e .refusal)) t);
+    }
+
+abbrev pub noExample : Example
+noExample = record { bytes = []; goals = 0; cacheLength = 0; goal = 0; depth = 0; answer = 0; refusal = 1 }
+
+pub each-right : (es : List Example) → T (allRight es) → (k : ℕ) → k < length es → Right (getD es k noExample)
+each-right [] t k h = absurd (not-suc-le-zero h)
+each-right (e ∷ es) t zero h = is-right e (left-of (right e) (allRight es) t)
+each-right (e ∷ es) t (suc k) h = each-right es (right-of (right e) (allRight es) t) k (le-of-suc-le-suc h)

@@ -1,0 +1,58 @@
+-- stack.rs. The top of the stack comes first, so a frame's index is the number of frames under it.
+use Prim.Native.Nat.{ℕ, zero, suc, _-_}
+use mathlib.Core.Bool.{Bool, true, false}
+use mathlib.Core.Option.{Option, none, some}
+use mathlib.Core.List.{List, [], _∷_}
+use lib.Dec.{eqb}
+use lib.ListN.{length, take}
+use Rattle.definition.specs.declared.paths.PathKind.{PathKind}
+use Rattle.definition.specs.declared.usages.HeadUsages.{HeadUsages}
+use Rattle.definition.specs.declared.answers.Answer.{Answer}
+use Rattle.definition.specs.Paths.{extendAll}
+use Rattle.definition.specs.Heads.{CycleHeads}
+use Rattle.definition.specs.Nested.{NestedGoals}
+
+-- StackEntry
+pub record Frame : Type 0 where
+  pub input : ℕ
+  pub stepKindFromParent : PathKind
+  pub availableDepth : ℕ
+  pub minReachedAvailableDepth : ℕ
+  pub provisionalResult : Option Answer
+  pub heads : CycleHeads
+  pub encounteredOverflow : Bool
+  pub usages : Option HeadUsages
+  pub candidateUsages : Option (List HeadUsages)
+  pub nestedGoals : NestedGoals
+
+-- StackEntry::required_depth
+abbrev pub requiredDepthOf : Frame → ℕ
+requiredDepthOf f = f .availableDepth - f .minReachedAvailableDepth
+
+abbrev pub Stack : Type 0
+Stack = List Frame
+
+abbrev pub stepKinds : Stack → List PathKind
+stepKinds [] = []
+stepKinds (f ∷ fs) = f .stepKindFromParent ∷ stepKinds fs
+
+-- the steps of the frames above a head
+abbrev pub cycleStepKinds : Stack → ℕ → List PathKind
+cycleStepKinds s head = stepKinds (take (length s - suc head) s)
+
+-- cycle_path_kind of mod.rs; the head's own step is left out
+abbrev pub cyclePathKind : Stack → PathKind → ℕ → PathKind
+cyclePathKind s stepKindToHead head = extendAll stepKindToHead (cycleStepKinds s head)
+
+-- Stack::find, with the provisional result of the frame that it finds. The goals on a stack are distinct, so there is at most one
+pub record OnStack : Type 0 where
+  pub index : ℕ
+  pub provisionalResult : Option Answer
+
+abbrev pub stackFind : Stack → ℕ → Option OnStack
+stackFind [] input = none
+stackFind (f ∷ fs) input =
+    elim (eqb (f .input) input) [
+      | true ↦ some (record { index = length fs; provisionalResult = f .provisionalResult })
+      | false ↦ stackFind fs input
+    ]

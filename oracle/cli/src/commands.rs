@@ -1,0 +1,192 @@
+//! One function for each command.
+
+use std::fs;
+use std::io::{Read, Write};
+use std::time::{Duration, Instant};
+
+use oracle_core::book::Book;
+use oracle_core::case::{Case, Expected, Query, read_cases, to_hex};
+use oracle_core::demand3::{self, Counts, Extent};
+use oracle_core::generate::{CLASSES, class_named};
+use oracle_core::{Limits, Outcome, WRONG_READINGS, reply_within, work_len};
+
+use crate::arguments::Arguments;
+
+type Done = Result<bool, String>;
+
+const CASE_FUEL: u64 = 1_000_000;
+
+pub fn ask(mut given: Arguments) -> Done {
+    let cache_file = given.option_word("--cache")?;
+    let (show_cache, marks) = (given.switch("--show-cache"), given.switch("--marks"));
+    let cap_entries = !given.switch("--uncapped");
+    let fuel = given.option("--fuel")?.unwrap_or(u64::MAX);
+    let book = read_file(&given.need("BOOKFILE")?)?;
+    given.end()?;
+    let header = Book::read(&book).ok().map(|book| book.header);
+    let mut cache = match cache_file {
+        Some(name) => read_file(&name)?,
+        None => vec![0; header.map_or(0, |h| h.cache_len())],
+    };
+    let limits = Limits { fuel, cap_entries, ..Limits::default() };
+    for (goal, depth) in read_queries(&read_input()?)? {
+        let mut work = vec![0; header.map_or(0, |h| work_len(h.goals))];
+        let report = reply_within(limits, &book, &mut cache, &mut work, goal, depth);
+        let mut line = match report.outcome {
+            Outcome::Replied { answer, refusal } => {
+                format!("{goal:>3}{depth:>3}{answer:>3}{refusal:>3}")
+            }
+            Outcome::TooLong => format!("{goal:>3}{depth:>3} too long"),
+            Outcome::Panicked | Outcome::FrameIsWrong(_) => format!("{goal:>3}{depth:>3} panic"),
+        };
+        if marks {
+            line += &format!(" entries {} runs {}", report.high_water, report.goal_runs);
+        }
+        say(&line)?;
+        if show_cache {
+            say(&to_hex(&cache))?;
+        }
+    }
+    Ok(true)
+}
+
+pub fn classes(given: Arguments) -> Done {
+    given.end()?;
+    for class in CLASSES {
+        say(&format!("{:<17} {}", class.name, class.what))?;
+    }
+    Ok(true)
+}
+
+pub fn readings(given: Arguments) -> Done {
+    given.end()?;
+    for (number, what) in WRONG_READINGS {
+        say(&format!("{number:>3} {what}"))?;
+    }
+    Ok(true)
+}
+
+pub fn generate(mut given: Arguments) -> Done {
+    let name = given.need("CLASS")?;
+    let class = class_named(&name).ok_or(format!("no class {name:?}; see `oracle classes`"))?;
+    let (seed, count) = (given.need_number("SEED")?, given.need_number("COUNT")?);
+    given.end()?;
+    (0..count).try_for_each(|number| print_case(&class.case(seed, number)))?;
+    Ok(true)
+}
+
+pub fn answer(given: Arguments) -> Done {
+    let (limits, cases) = limits_and_cases(given)?;
+    cases.iter().try_for_each(|case| print_case(&case.answered(limits)))?;
+    Ok(true)
+}
+
+pub fn verify(given: Arguments) -> Done {
+    let (limits, cases) = limits_and_cases(given)?;
+    let (mut queries, mut differences) = (0, 0);
+    for case in &cases {
+        for (query, reply) in case.queries.iter().zip(case.replies(limits)) {
+            queries += 1;
+            if query.expected != reply {
+                differences += 1;
+                say(&difference(case, query, &reply))?;
+            }
+        }
+    }
+    say(&format!("{} cases, {queries} queries, {differences} differences", cases.len()))?;
+    Ok(differences == 0)
+}
+
+fn difference(case: &Case, query: &Query, reply: &Option<Expected>) -> String {
+    let told = |reply: &Option<Expected>| match reply {
+        None => "nothing".to_string(),
+        Some(Expected::Panic) => "panic".to_string(),
+        Some(Expected::Reply { answer, refusal, cache }) => {
+            let cache = cache.as_ref().map_or("the same".to_string(), |c| to_hex(c));
+            format!("answer {answer}, refusal {refusal}, cache {cache}")
+        }
+    };
+    let Query { goal, depth, expected, .. } = query;
+    let name = &case.name;
+    format!("{name}: goal {goal}, depth {depth}: expected {}; is {}", told(expected), told(reply))
+}
+
+pub fn demand3(mut given: Arguments) -> Done {
+    let (lists, seconds) = (given.option("--lists")?, given.option("--seconds")?);
+    let seed = given.option("--seed")?.unwrap_or(1);
+    given.end()?;
+    let seconds = seconds.unwrap_or(if lists.is_some() { 1_000_000 } else { 10 });
+    let time = Duration::from_secs(seconds);
+    let start = Instant::now();
+    let (counts, violation) = demand3::run(Extent { lists: lists.unwrap_or(u64::MAX), time, seed });
+    print_counts(&counts, start.elapsed())?;
+    match violation {
+        None => Ok(true),
+        Some(violation) => {
+            say(&format!("WRONG: {}", violation.what))?;
+            print_case(&violation.case)?;
+            Ok(false)
+        }
+    }
+}
+
+fn print_counts(counts: &Counts, time: Duration) -> Result<(), String> {
+    let rate = counts.queries as f64 / time.as_secs_f64();
+    say(&format!("lists {}, demand 3 speaks of {}", counts.lists, counts.measured))?;
+    say(&format!("queries {} ({rate:.0} a second)", counts.queries))?;
+    say(&format!("accepted {}", counts.accepted))?;
+    for (number, count) in counts.refused.iter().enumerate().filter(|(_, count)| **count != 0) {
+        say(&format!("refused by {number}: {count}"))?;
+    }
+    let [no, yes, undecided, overflow] = counts.answers;
+    say(&format!("no {no}\nyes {yes}\nundecided {undecided}\noverflow {overflow}"))?;
+    say(&format!("too long {}\npanics {}", counts.too_long, counts.panics))?;
+    say(&format!("goal runs {}, most in one query {}", counts.goal_runs, counts.longest))?;
+    say(&format!("most live entries {}", counts.high_water))
+}
+
+fn limits_and_cases(mut given: Arguments) -> Result<(Limits, Vec<Case>), String> {
+    let fuel = given.option("--fuel")?.unwrap_or(CASE_FUEL);
+    given.end()?;
+    Ok((Limits { fuel, ..Limits::default() }, read_cases(&read_input()?)?))
+}
+
+fn print_case(case: &Case) -> Result<(), String> {
+    let mut text = String::new();
+    case.write(&mut text);
+    say(text.trim_end_matches('\n'))?;
+    say("")
+}
+
+/// Prints a line; ends quietly when nobody reads on.
+fn say(line: &str) -> Result<(), String> {
+    match writeln!(std::io::stdout(), "{line}") {
+        Err(error) if error.kind() == std::io::ErrorKind::BrokenPipe => std::process::exit(0),
+        other => other.map_err(|error| format!("cannot write: {error}")),
+    }
+}
+
+fn read_file(name: &str) -> Result<Vec<u8>, String> {
+    fs::read(name).map_err(|error| format!("{name}: {error}"))
+}
+
+fn read_input() -> Result<String, String> {
+    let mut text = String::new();
+    let read = std::io::stdin().read_to_string(&mut text);
+    read.map_err(|error| format!("cannot read the standard input: {error}"))?;
+    Ok(text)
+}
+
+/// Lines of a goal and a depth.
+fn read_queries(text: &str) -> Result<Vec<(usize, usize)>, String> {
+    let mut queries = Vec::new();
+    for (i, line) in text.lines().enumerate() {
+        let words: Vec<&str> = line.split_whitespace().collect();
+        match words.iter().map(|w| w.parse()).collect::<Result<Vec<usize>, _>>().as_deref() {
+            Ok([]) => {}
+            Ok([goal, depth]) => queries.push((*goal, *depth)),
+            _ => return Err(format!("query line {}: expected `goal depth`: {line:?}", i + 1)),
+        }
+    }
+    Ok(queries)
+}

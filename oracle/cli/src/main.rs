@@ -1,0 +1,90 @@
+//! The program `oracle`: queries answered by the original.
+
+mod arguments;
+mod commands;
+
+use std::process::ExitCode;
+
+use arguments::Arguments;
+
+const HELP: &str = "\
+oracle: document 01's queries, answered by the original search graph
+
+  oracle ask BOOKFILE [options] < queries
+      Reads lines `goal depth`, keeps one cache, and prints for each line goal, depth, answer
+      and refusal, three columns each; `panic` where the original panics, `too long` where
+      the fuel ends.
+      --cache FILE    the cache to begin with (its bytes); else zeros
+      --show-cache    prints the cache after each query, in hexadecimal
+      --marks         adds the most live provisional entries and the goal runs
+      --uncapped      gives no refusal 10
+      --fuel N        ends a query after N goal runs (default: never)
+  oracle classes
+      Lists the classes of generated cases.
+  oracle gen CLASS SEED COUNT
+      Prints COUNT cases without replies.
+  oracle answer [--fuel N] < cases
+      Prints the cases with the replies filled in. Queries that use more than N goal runs
+      (default 1000000) are left out.
+  oracle verify [--fuel N] < cases
+      Replays the cases and compares; exit status 1 if something differs.
+  oracle demand3 [--lists N] [--seconds S] [--seed K]
+      Checks demand 3, panics and the state after each frame on random lists (default: 10
+      seconds, seed 1); exit status 1 with a small book if something is wrong.
+  oracle readings
+      Lists the wrong readings that this build knows (feature wrong_readings).
+  oracle help
+
+  --mutant N, with any command, switches on wrong reading N (feature wrong_readings).
+";
+
+fn main() -> ExitCode {
+    oracle_core::silence_panics();
+    match run() {
+        Ok(true) => ExitCode::SUCCESS,
+        Ok(false) => ExitCode::from(1),
+        Err(message) => {
+            eprintln!("oracle: {message}");
+            eprintln!("Try `oracle help`.");
+            ExitCode::from(2)
+        }
+    }
+}
+
+/// True if all is well, false if a comparison failed, an error on bad usage.
+fn run() -> Result<bool, String> {
+    let mut given = Arguments::new();
+    if let Some(number) = given.option("--mutant")? {
+        read_wrongly(number)?;
+    }
+    match given.next().as_deref() {
+        Some("ask") => commands::ask(given),
+        Some("classes") => commands::classes(given),
+        Some("gen") => commands::generate(given),
+        Some("answer") => commands::answer(given),
+        Some("verify") => commands::verify(given),
+        Some("demand3") => commands::demand3(given),
+        Some("readings") => commands::readings(given),
+        Some("help" | "--help" | "-h") => {
+            print!("{HELP}");
+            Ok(true)
+        }
+        Some(other) => Err(format!("no command {other:?}")),
+        None => Err("a command is missing".to_string()),
+    }
+}
+
+#[cfg(feature = "wrong_readings")]
+fn read_wrongly(number: u64) -> Result<(), String> {
+    let known = oracle_core::WRONG_READINGS.iter().any(|(n, _)| u64::from(*n) == number);
+    if number != 0 && !known {
+        return Err(format!("no wrong reading {number}; see `oracle readings`"));
+    }
+    oracle_core::read_wrongly(number as u32);
+    Ok(())
+}
+
+#[cfg(not(feature = "wrong_readings"))]
+fn read_wrongly(_: u64) -> Result<(), String> {
+    Err("this build has no wrong readings; build with --features wrong_readings".to_string())
+}
