@@ -1,13 +1,22 @@
 -- The part that bytes start with.
 use mathlib.Core.Path.{_≡_}
 use Prim.Native.Nat.{ℕ, zero, suc}
-use mathlib.Core.Bool.{Bool, true, false}
+use mathlib.Core.Bool.{Bool, true, false, _&&_}
 use mathlib.Core.Option.{Option, none, some}
 use mathlib.Core.List.{List, [], _∷_}
+use lib.Dec.{leb}
 use Rattle.definition.specs.declared.book.Line.{Line}
 use Rattle.definition.specs.Part.{Part, Parts, UndecidedLine, End}
 use Rattle.definition.specs.Reader.{TakenPart, TakenParts, readPart, readParts, nestingLimit}
 use Rattle.book.specs.Lines.{linesIn}
+
+-- how many parts stand below a part's first line
+abbrev pub countIf : Bool → ℕ → ℕ
+countIf true n = n
+countIf false n = 0
+
+abbrev pub partsBelow : Line → ℕ
+partsBelow l = countIf (leb 3 (l .code) && leb (l .code) 5) (l .first)
 
 -- ---- one part, of a book with so many goals; `inPick`: it stands inside a pick
 unfoldable pub partRead : ℕ → Bool → List ℕ → Option TakenPart

@@ -7,8 +7,8 @@ ghost use mathlib.Core.Bool.{Bool};
 ghost use Prim.Native.Nat.{ℕ, _≤_, _<_};
 ghost use lib.ListN.{length, getD, drop};
 ghost use Rattle.definition.specs.Paths.{kindOf};
-ghost use Rattle.book.specs.Lines.{linesIn};
-ghost use Rattle.book.specs.Parts.{Reads, restIn, StartsPart};
+ghost use Rattle.book.specs.Lines.{lineIn, linesIn};
+ghost use Rattle.book.specs.Parts.{partsBelow, Reads, restIn, StartsPart};
 ghost use Rattle.book.specs.Calls.{callOf};
 
 // A call line.
@@ -27,6 +27,18 @@ pub fn of_goal<'a>(book: &'a [u8], starts: &[u16], goal: usize) -> &'a [u8]
     &book[at..]
 }
 
+// How many parts stand below the first line.
+fn below(part: &[u8]) -> usize
+    requires { ⌜ 16 ≤ length (now part) ⌝ }
+    ensures { λ r. ⌜ (r ≡ partsBelow (lineIn (now (part .entry)))) × (r < 65536) ⌝ }
+{
+    let code = line::field(part[0], part[1], part[2]);
+    match code {
+        3..=5 => line::field(part[3], part[4], part[5]) as usize,
+        0..=2 | 6..=65535 => 0,
+    }
+}
+
 // Passes over the part that the bytes start with, and hands back the rest.
 pub fn skip(part: &[u8]) -> &[u8]
     requires { ⌜ StartsPart (now part) ⌝ }
@@ -35,15 +47,7 @@ pub fn skip(part: &[u8]) -> &[u8]
     let mut t = part;
     let mut pending: usize = 1;
     while 0 < pending {
-        let code = line::field(t[0], t[1], t[2]);
-        let count = line::field(t[3], t[4], t[5]) as usize;
-        pending = pending - 1;
-        match code {
-            3..=5 => {
-                pending = pending + count;
-            }
-            0..=2 | 6..=65535 => {}
-        }
+        pending = pending - 1 + below(t);
         t = &t[16..];
     }
     t

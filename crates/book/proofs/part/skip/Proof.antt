@@ -1,86 +1,66 @@
+use borrow.Author.Needs.{needs}
+use Prim.Native.Nat.{_+_, _≤_, _<_}
+use native.Mathlib.Omega.{arith}
+use lib.ListN.{length}
+use Rattle.book.proofs.Lines.{shorter}
+use Rattle.book.proofs.Skips.{PendingAfter, skip-starts, skip-ends, skip-room, skip-line, skip-turn}
 use Rattle.book.proofs.part.skip.Statement.{statement}
 use Rattle.book.proofs.part.skip.Tie as tie
 use Rattle.book.proofs.part.skip.Reads as reads
 use Rattle.book.proofs.part.skip.Lts as lts
-use Rattle.book.proofs.line.field.Reads as field-reads
+use Rattle.book.proofs.part.below.Reads as below-reads
 
 abbrev Inv-loop : tie.InvT-loop
-Inv-loop part t₀ pending₀ t pending = ?
+Inv-loop part t₀ pending₀ t pending =
+    (length t ≤ length part) × ((length t < length part + pending) × PendingAfter part pending t)
 
 abbrev μ-loop : tie.MeasureT-loop
-μ-loop part t₀ pending₀ t pending = ?
+μ-loop part t₀ pending₀ t pending = length t
 
--- src/part.rt:37:5
+-- src/part.rt:49:5
 loop-holds : tie.Need-loop-holds Inv-loop μ-loop
-loop-holds c = ?
+loop-holds c = (omega arith, (omega arith, skip-starts (c .before .args .part .now)))
 
--- src/part.rt:38:32
-shared-slice-read-field : tie.Need-shared-slice-read-field Inv-loop μ-loop
-shared-slice-read-field c = ?
-
--- src/part.rt:38:38
-shared-slice-read-field-2 : tie.Need-shared-slice-read-field-2 Inv-loop μ-loop
-shared-slice-read-field-2 c = ?
-
--- src/part.rt:38:44
-shared-slice-read-field-3 : tie.Need-shared-slice-read-field-3 Inv-loop μ-loop
-shared-slice-read-field-3 c = ?
-
--- src/part.rt:38:13
-field-requires : tie.Need-field-requires Inv-loop μ-loop
-field-requires c κs = ?
-
--- src/part.rt:39:33
-shared-slice-read-field-4 : tie.Need-shared-slice-read-field-4 Inv-loop μ-loop
-shared-slice-read-field-4 c = ?
-
--- src/part.rt:39:39
-shared-slice-read-field-5 : tie.Need-shared-slice-read-field-5 Inv-loop μ-loop
-shared-slice-read-field-5 c = ?
-
--- src/part.rt:39:45
-shared-slice-read-field-6 : tie.Need-shared-slice-read-field-6 Inv-loop μ-loop
-shared-slice-read-field-6 c = ?
-
--- src/part.rt:39:21
-field-requires-2 : tie.Need-field-requires-2 Inv-loop μ-loop
-field-requires-2 c κs = ?
-
--- src/part.rt:39:21
-cast-count : tie.Need-cast-count Inv-loop μ-loop
-cast-count c = ?
-
--- src/part.rt:40:19
+-- src/part.rt:50:19
 sub-pending : tie.Need-sub-pending Inv-loop μ-loop
-sub-pending c = ?
+sub-pending c = search needs
 
--- src/part.rt:43:27
+-- src/part.rt:50:33
+below-requires : tie.Need-below-requires Inv-loop μ-loop
+below-requires c κs = let l = c .before .loop in skip-line (c .before .before .before .args .part .now) (l .pending) (l .t .now) (l .inv .1 .1) (c .before .before .before .pre) (c .loop-test .taken)
+
+-- src/part.rt:50:19
 add-pending : tie.Need-add-pending Inv-loop μ-loop
-add-pending c = ?
+add-pending c = let l = c .before .before .loop in
+    let r = skip-room (c .before .before .before .before .args .part .now) (l .pending) (l .t .now) (l .inv .1 .1) (c .before .before .before .before .pre) in
+    omega (arith, r, l .inv .0, c .below .ensures .1, c .before .before .before .before .good .0 .0)
 
--- src/part.rt:47:13
+-- src/part.rt:51:13
 sub-t : tie.Need-sub-t Inv-loop μ-loop
-sub-t c = ?
+sub-t c = let l = c .before .before .loop in skip-line (c .before .before .before .before .args .part .now) (l .pending) (l .t .now) (l .inv .1 .1) (c .before .before .before .before .pre) (c .before .loop-test .taken)
 
--- src/part.rt:47:13
+-- src/part.rt:51:13
 part-t-start : tie.Need-part-t-start Inv-loop μ-loop
-part-t-start c = ?
+part-t-start c = sub-t c
 
--- src/part.rt:47:13
+-- src/part.rt:51:13
 part-t-end : tie.Need-part-t-end Inv-loop μ-loop
-part-t-end c = ?
+part-t-end c = search needs
 
--- src/part.rt:37:5
+-- src/part.rt:49:5
 loop-less : tie.Need-loop-less Inv-loop μ-loop
-loop-less c = ?
+loop-less c = let l = c .before .before .before .loop in shorter (l .t .now) (skip-line (c .before .before .before .before .before .args .part .now) (l .pending) (l .t .now) (l .inv .1 .1) (c .before .before .before .before .before .pre) (c .before .before .loop-test .taken))
 
--- src/part.rt:37:5
+-- src/part.rt:49:5
 loop-again : tie.Need-loop-again Inv-loop μ-loop
-loop-again c = ?
+loop-again c = let l = c .before .before .before .loop in
+    let s = shorter (l .t .now) (skip-line (c .before .before .before .before .before .args .part .now) (l .pending) (l .t .now) (l .inv .1 .1) (c .before .before .before .before .before .pre) (c .before .before .loop-test .taken)) in
+    (omega (arith, s, l .inv .0), (omega (arith, s, l .inv .0), skip-turn (c .before .before .before .before .before .args .part .now) (l .pending) (l .t .now) (l .inv .1 .1) (c .before .before .before .before .before .pre) (c .before .before .loop-test .taken) (c .before .below .result) (c .before .below .ensures .0)))
 
--- src/part.rt:31:1
+-- src/part.rt:43:1
 returns : tie.Need-returns Inv-loop μ-loop
-returns c = ?
+returns c = let l = c .before .loop in
+    (skip-ends (c .before .before .before .args .part .now) (l .pending) (l .t .now) (l .inv .1 .1) (c .loop-test .left), omega (arith, l .inv .1 .0, c .loop-test .left))
 
 pub skip-spec : {M : Type 1} → statement M
 skip-spec =
@@ -89,16 +69,8 @@ skip-spec =
     Inv-loop
     μ-loop
     loop-holds
-    shared-slice-read-field
-    shared-slice-read-field-2
-    shared-slice-read-field-3
-    field-requires
-    shared-slice-read-field-4
-    shared-slice-read-field-5
-    shared-slice-read-field-6
-    field-requires-2
-    cast-count
     sub-pending
+    below-requires
     add-pending
     sub-t
     part-t-start

@@ -1,0 +1,81 @@
+use borrow.Author.Needs.{needs}
+use Rattle.book.proofs.read.Statement.{statement}
+use Rattle.book.proofs.read.Tie as tie
+use Rattle.book.proofs.read.Reads as reads
+use Rattle.book.proofs.read.Lts as lts
+use Rattle.book.proofs.header.in_range.Reads as in-range-reads
+use Rattle.book.proofs.header.of_line.Reads as of-line-reads
+use Rattle.book.proofs.length_fits.Reads as length-fits-reads
+use Rattle.book.proofs.line.all_fit.Reads as all-fit-reads
+use Rattle.book.proofs.line.first.Reads as first-reads
+use Rattle.book.proofs.read_body.Reads as read-body-reads
+
+-- src/lib.rt:59:9
+length-fits-requires : tie.Need-length-fits-requires
+length-fits-requires c κs = search needs
+
+-- src/lib.rt:60:9
+returns : tie.Need-returns
+returns c = ?
+
+-- src/lib.rt:62:9
+all-fit-requires : tie.Need-all-fit-requires
+all-fit-requires c κs = search needs
+
+-- src/lib.rt:63:9
+returns-2 : tie.Need-returns-2
+returns-2 c = ?
+
+-- src/lib.rt:65:9
+first-requires : tie.Need-first-requires
+first-requires c κs = ?
+
+-- src/lib.rt:66:9
+in-range-requires : tie.Need-in-range-requires
+in-range-requires c κs = search needs
+
+-- src/lib.rt:67:9
+returns-3 : tie.Need-returns-3
+returns-3 c = ?
+
+-- src/lib.rt:69:9
+of-line-requires : tie.Need-of-line-requires
+of-line-requires c κs = search needs
+
+-- src/lib.rt:71:9
+read-body-requires : tie.Need-read-body-requires
+read-body-requires c κs = ?
+
+-- src/lib.rt:72:9
+same-length : tie.Need-same-length
+same-length c = search needs
+
+-- src/lib.rt:72:9
+returns-4 : tie.Need-returns-4
+returns-4 c = ?
+
+-- src/lib.rt:55:1
+same-length-2 : tie.Need-same-length-2
+same-length-2 c = search needs
+
+-- src/lib.rt:55:1
+returns-5 : tie.Need-returns-5
+returns-5 c = ?
+
+pub read-spec : {M : Type 1} → statement M
+read-spec =
+    tie.close
+    (tie.spec
+    length-fits-requires
+    returns
+    all-fit-requires
+    returns-2
+    first-requires
+    in-range-requires
+    returns-3
+    of-line-requires
+    read-body-requires
+    same-length
+    returns-4
+    same-length-2
+    returns-5)
