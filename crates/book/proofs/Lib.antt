@@ -4,3 +4,6 @@ pub mod Sizes
 pub mod Views
 pub mod Walk
 pub mod Skips
+pub mod Heads
+pub mod Bodies
+pub mod Books

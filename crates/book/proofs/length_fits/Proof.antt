@@ -1,3 +1,4 @@
+use Rattle.book.proofs.Heads.{no-lines, short-book, long-book}
 use Rattle.book.proofs.length_fits.Statement.{statement}
 use Rattle.book.proofs.length_fits.Tie as tie
 use Rattle.book.proofs.length_fits.Reads as reads
@@ -5,15 +6,15 @@ use Rattle.book.proofs.length_fits.Lts as lts
 
 -- src/lib.rt:26:9
 returns : tie.Need-returns
-returns c = ?
+returns c = no-lines (c .before .args .n) (c .if1 .taken)
 
 -- src/lib.rt:29:9
 returns-2 : tie.Need-returns-2
-returns-2 c = ?
+returns-2 c = short-book (c .before .before .args .n) (c .before .if1 .left) (c .if2 .taken)
 
 -- src/lib.rt:22:1
 returns-3 : tie.Need-returns-3
-returns-3 c = ?
+returns-3 c = long-book (c .before .before .args .n) (c .before .if1 .left) (c .if2 .left)
 
 pub length-fits-spec : {M : Type 1} → statement M
 length-fits-spec = tie.close (tie.spec returns returns-2 returns-3)

@@ -1,3 +1,10 @@
+use mathlib.Core.Path.{_≡_, sym, ap, _∙_}
+use native.Mathlib.Omega.{arith}
+use Rattle.definition.specs.Reader.{linesOf}
+use Rattle.book.specs.Lines.{linesIn, linesIf}
+use Rattle.book.proofs.Tests.{held}
+use Rattle.book.proofs.Heads.{goals-fit}
+use Rattle.book.proofs.Books.{length-fits, wrong-length, wrong-line, wrong-header, wrong-body, whole-book}
 use borrow.Author.Needs.{needs}
 use Rattle.book.proofs.read.Statement.{statement}
 use Rattle.book.proofs.read.Tie as tie

@@ -1,3 +1,5 @@
+use lib.ListN.{getD}
+use Rattle.book.proofs.Lines.{part-from}
 use borrow.Author.Needs.{needs}
 use Rattle.book.proofs.part.of_goal.Statement.{statement}
 use Rattle.book.proofs.part.of_goal.Tie as tie
@@ -30,7 +32,7 @@ part-result-end c = search needs
 
 -- src/part.rt:22:1
 returns : tie.Need-returns
-returns c = ?
+returns c = let a = c .before .before .args in part-from (getD (a .starts .now) (a .goal) 0) (a .book .now)
 
 pub of-goal-spec : {M : Type 1} → statement M
 of-goal-spec =

@@ -1,3 +1,4 @@
+use lib.Dec.{eqb}
 use borrow.Author.Needs.{needs}
 use Rattle.book.proofs.part.Call.of_line.Statement.{statement}
 use Rattle.book.proofs.part.Call.of_line.Tie as tie
@@ -15,7 +16,7 @@ cast-t3 c = search needs
 
 -- src/part.rt:65:5
 returns : tie.Need-returns
-returns c = ?
+returns c = let l = c .before .before .before .args .l in λ i. record { goal = l .first; step = c .before .before .kind .ensures i; lower = eqb (l .third) 1 }
 
 pub of-line-spec : {M : Type 1} → statement M
 of-line-spec = tie.close (tie.spec kind-requires cast-t3 returns)

@@ -1,0 +1,99 @@
+-- A book, read: the definition's refusals at each way through the code.
+use mathlib.Core.Path.{_≡_, refl, sym, ap, _∙_, subst}
+use mathlib.Core.Bool.{Bool, true, false, not, _&&_}
+use mathlib.Core.Option.{Option, none, some}
+use mathlib.Core.List.{List, [], _∷_}
+use Prim.Native.Nat.{ℕ, zero, suc, _+_, _%_, _≤_, _<_}
+use native.Mathlib.Omega.{arith}
+use lib.ListN.{length, drop}
+use lib.Dec.{eqb, leb}
+use borrow.Author.Tests.{leb-true, not-true, not-false}
+use Rattle.definition.specs.declared.book.Line.{Line}
+use Rattle.definition.specs.declared.book.Header.{Header}
+use Rattle.definition.specs.declared.query.Refusal.the-variants.{BookLength, BookLine, BookHeader, BookBody}
+use Rattle.definition.specs.Reader.{TakenGoals, readGoals, endOfBody, readBody, headerInRange, headerOf, readHeader, lengthInRange, linesOf, readBook}
+use Rattle.definition.specs.Reader as reader
+use Rattle.book.specs.declared.BookRead.{BookRead}
+use Rattle.book.specs.declared.BookRead.the-variants.{Accepted, Rejected}
+use Rattle.book.specs.Lines.{lineIn, linesIn, linesIf}
+use Rattle.book.specs.Read.{headerRead, Started, StartedIf, noLine, wholeBody, StartedBy}
+use Rattle.book.proofs.Tests.{refused, held}
+use Rattle.book.proofs.Lines.{lines-cons}
+
+-- a length in range
+pub length-fits : (n : ℕ) → lengthInRange n ≡ true → (48 ≤ n) × (n ≤ 16000)
+length-fits n e = let t = tests (eqb (n % 16) 0) (leb 48 n) (leb n 16000) e in (leb-true 48 n (t .0), leb-true n 16000 (t .1))
+  where
+    tests : (a b c : Bool) → a && b && c ≡ true → (b ≡ true) × (c ≡ true)
+    tests true true true e = (refl, refl)
+    tests true true false e = (refl, e)
+    tests true false c e = let z : _≡_ {A = ℕ} 0 1 = cc in absurd (omega arith)
+    tests false b c e = let z : _≡_ {A = ℕ} 0 1 = cc in absurd (omega arith)
+
+-- what is to be shown of `read`
+abbrev pub ReadTo : List ℕ → List ℕ → BookRead → Type 0
+ReadTo book starts r = (r ≡ headerRead (readBook book)) × StartedIf (readBook book) book starts
+
+module _ (book starts : List ℕ) where
+  to : (x : reader.BookRead) → readBook book ≡ x → (r : BookRead) → r ≡ headerRead x → StartedIf x book starts → ReadTo book starts r
+  to x e r a b = (a ∙ ap headerRead (sym e), subst (λ (y : reader.BookRead). StartedIf y book starts) (sym e) b)
+
+  abbrev byLength : Bool → Option (List Line) → reader.BookRead
+  byLength b x = elim b [ false ↦ reader.Rejected BookLength | true ↦ elim x [ none ↦ reader.Rejected BookLine | some ls ↦ readHeader ls ] ]
+
+  abbrev byHeader : Bool → Line → List Line → reader.BookRead
+  byHeader b l ls = elim b [ true ↦ readBody (headerOf l) ls | false ↦ reader.Rejected BookHeader ]
+
+  abbrev byGoals : Header → Option TakenGoals → reader.BookRead
+  byGoals h x = elim x [ none ↦ reader.Rejected BookBody | some ps ↦ endOfBody h ps (ps .rest) ]
+
+  pub wrong-length : (b : Bool) → b ≡ lengthInRange (length book) → not b ≡ true → ReadTo book starts (Rejected BookLength)
+  wrong-length b e h = to (reader.Rejected BookLength) (ap (λ (x : Bool). byLength x (linesOf book)) (refused e h)) _ refl tt
+
+  module _ (long : lengthInRange (length book) ≡ true) where
+    pub wrong-line : (b : Bool) → linesOf book ≡ linesIf b book → not b ≡ true → ReadTo book starts (Rejected BookLine)
+    wrong-line b e h = to (reader.Rejected BookLine) (ap (λ (x : Bool). byLength x (linesOf book)) long ∙ ap (byLength true) (e ∙ ap (λ (x : Bool). linesIf x book) (not-true b h))) _ refl tt
+
+    module _ (fit : linesOf book ≡ some (linesIn book)) (l : Line) (is : l ≡ lineIn book) where
+      in-lines : readBook book ≡ byHeader (headerInRange l) l (linesIn (drop 16 book))
+      in-lines =
+          let room : 16 ≤ length book = (let r = length-fits (length book) long in omega arith) in
+          ap (λ (x : Bool). byLength x (linesOf book)) long
+          ∙ ap (byLength true) fit
+          ∙ ap readHeader (lines-cons book room)
+          ∙ ap (λ (x : Line). byHeader (headerInRange x) x (linesIn (drop 16 book))) (sym is)
+
+      pub wrong-header : (b : Bool) → b ≡ headerInRange l → not b ≡ true → ReadTo book starts (Rejected BookHeader)
+      wrong-header b e h = to (reader.Rejected BookHeader) (in-lines ∙ ap (λ (x : Bool). byHeader x l (linesIn (drop 16 book))) (refused e h)) _ refl tt
+
+      module _ (good : headerInRange l ≡ true) where
+        taken : Option TakenGoals
+        taken = readGoals (l .first) 0 (l .first) (linesIn (drop 16 book))
+
+        in-body : readBook book ≡ byGoals (headerOf l) taken
+        unfolding taken
+        in-body = in-lines ∙ ap (λ (x : Bool). byHeader x l (linesIn (drop 16 book))) good
+
+        not-whole : (x : Option TakenGoals) → wholeBody x ≡ false → byGoals (headerOf l) x ≡ reader.Rejected BookBody
+        not-whole none e = refl
+        not-whole (some t) e = left (t .rest) e
+          where
+            left : (ls : List Line) → noLine ls ≡ false → endOfBody (headerOf l) t ls ≡ reader.Rejected BookBody
+            left [] e = let z : _≡_ {A = ℕ} 0 1 = cc in absurd (omega arith)
+            left (k ∷ ls) e = refl
+
+        pub wrong-body : (b : Bool) → b ≡ wholeBody (readGoals (l .first) 0 (l .first) (linesIn (drop 16 book))) → not b ≡ true → ReadTo book starts (Rejected BookBody)
+        unfolding taken
+        wrong-body b e h = to (reader.Rejected BookBody) (in-body ∙ not-whole taken (refused e h)) _ refl tt
+
+        whole : (x : Option TakenGoals) → readBook book ≡ byGoals (headerOf l) x → wholeBody x ≡ true → StartedBy x (l .first) book starts → (h : Header) → h ≡ headerOf l → ReadTo book starts (Accepted h)
+        whole none q e s h k = let z : _≡_ {A = ℕ} 0 1 = cc in absurd (omega arith)
+        whole (some t) q e s h k = to (reader.Accepted (record { header = headerOf l; parts = t .parts })) (q ∙ left (t .rest) e) (Accepted h) (ap Accepted k) s
+          where
+            left : (ls : List Line) → noLine ls ≡ true → endOfBody (headerOf l) t ls ≡ reader.Accepted (record { header = headerOf l; parts = t .parts })
+            left [] e = refl
+            left (k ∷ ls) e = let z : _≡_ {A = ℕ} 0 1 = cc in absurd (omega arith)
+
+        pub whole-book : (b : Bool) → b ≡ wholeBody (readGoals (l .first) 0 (l .first) (linesIn (drop 16 book))) → not b ≡ false → StartedBy (readGoals (l .first) 0 (l .first) (linesIn (drop 16 book))) (l .first) book starts → (h : Header) → h ≡ headerOf l → ReadTo book starts (Accepted h)
+        unfolding taken
+        whole-book b e n s h k = whole taken in-body (held e n) s h k
