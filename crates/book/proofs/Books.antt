@@ -82,9 +82,12 @@ module _ (book starts : List ℕ) where
             left [] e = let z : _≡_ {A = ℕ} 0 1 = cc in absurd (omega arith)
             left (k ∷ ls) e = refl
 
-        pub wrong-body : (b : Bool) → b ≡ wholeBody (readGoals (l .first) 0 (l .first) (linesIn (drop 16 book))) → not b ≡ true → ReadTo book starts (Rejected BookBody)
+        abbrev goalsOf : Header → Option TakenGoals
+        goalsOf h = readGoals (h .goals) 0 (h .goals) (linesIn (drop 16 book))
+
+        pub wrong-body : (h : Header) → h ≡ headerOf l → (b : Bool) → b ≡ wholeBody (readGoals (h .goals) 0 (h .goals) (linesIn (drop 16 book))) → not b ≡ true → ReadTo book starts (Rejected BookBody)
         unfolding taken
-        wrong-body b e h = to (reader.Rejected BookBody) (in-body ∙ not-whole taken (refused e h)) _ refl tt
+        wrong-body h k b e n = to (reader.Rejected BookBody) (in-body ∙ not-whole taken (refused (e ∙ ap (λ (x : Header). wholeBody (goalsOf x)) k) n)) _ refl tt
 
         whole : (x : Option TakenGoals) → readBook book ≡ byGoals (headerOf l) x → wholeBody x ≡ true → StartedBy x (l .first) book starts → (h : Header) → h ≡ headerOf l → ReadTo book starts (Accepted h)
         whole none q e s h k = let z : _≡_ {A = ℕ} 0 1 = cc in absurd (omega arith)
@@ -94,6 +97,6 @@ module _ (book starts : List ℕ) where
             left [] e = refl
             left (k ∷ ls) e = let z : _≡_ {A = ℕ} 0 1 = cc in absurd (omega arith)
 
-        pub whole-book : (b : Bool) → b ≡ wholeBody (readGoals (l .first) 0 (l .first) (linesIn (drop 16 book))) → not b ≡ false → StartedBy (readGoals (l .first) 0 (l .first) (linesIn (drop 16 book))) (l .first) book starts → (h : Header) → h ≡ headerOf l → ReadTo book starts (Accepted h)
+        pub whole-book : (h : Header) → h ≡ headerOf l → (b : Bool) → b ≡ wholeBody (readGoals (h .goals) 0 (h .goals) (linesIn (drop 16 book))) → not b ≡ false → StartedBy (readGoals (h .goals) 0 (h .goals) (linesIn (drop 16 book))) (h .goals) book starts → ReadTo book starts (Accepted h)
         unfolding taken
-        whole-book b e n s h k = whole taken in-body (held e n) s h k
+        whole-book h k b e n s = whole taken in-body (held (e ∙ ap (λ (x : Header). wholeBody (goalsOf x)) k) n) (subst (λ (x : Header). StartedBy (goalsOf x) (x .goals) book starts) k s) h k

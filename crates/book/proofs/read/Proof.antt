@@ -1,3 +1,10 @@
+use Prim.Native.Nat.{ℕ}
+use mathlib.Core.Bool.{Bool, true, false, not}
+use mathlib.Core.Option.{some}
+use mathlib.Core.List.{List}
+use borrow.Author.Tests.{not-false}
+use lib.ListN.{length}
+use Rattle.definition.specs.declared.book.Header.{Header}
 use mathlib.Core.Path.{_≡_, sym, ap, _∙_}
 use native.Mathlib.Omega.{arith}
 use Rattle.definition.specs.Reader.{linesOf}
@@ -17,13 +24,16 @@ use Rattle.book.proofs.line.all_fit.Reads as all-fit-reads
 use Rattle.book.proofs.line.first.Reads as first-reads
 use Rattle.book.proofs.read_body.Reads as read-body-reads
 
+fitting : (b : Bool) (book : List ℕ) → linesOf book ≡ linesIf b book → not b ≡ false → linesOf book ≡ some (linesIn book)
+fitting b book e n = e ∙ ap (λ (x : Bool). linesIf x book) (not-false b n)
+
 -- src/lib.rt:59:9
 length-fits-requires : tie.Need-length-fits-requires
 length-fits-requires c κs = search needs
 
 -- src/lib.rt:60:9
 returns : tie.Need-returns
-returns c = ?
+returns c = let a = c .before .before .before .before .args in wrong-length (a .book .now) (a .starts .now) (c .before .length-fits .result) (c .before .length-fits .ensures) (c .if1 .taken)
 
 -- src/lib.rt:62:9
 all-fit-requires : tie.Need-all-fit-requires
@@ -31,11 +41,12 @@ all-fit-requires c κs = search needs
 
 -- src/lib.rt:63:9
 returns-2 : tie.Need-returns-2
-returns-2 c = ?
+returns-2 c = let a = c .before .before .before .before .before .before .args in
+    wrong-line (a .book .now) (a .starts .now) (held (c .before .before .before .length-fits .ensures) (c .before .before .if1 .left)) (c .before .all-fit .result) (c .before .all-fit .ensures) (c .if2 .taken)
 
 -- src/lib.rt:65:9
 first-requires : tie.Need-first-requires
-first-requires c κs = ?
+first-requires c κs = let r = length-fits (length (c .before .before .before .before .before .before .args .book .now)) (held (c .before .before .before .length-fits .ensures) (c .before .before .if1 .left)) in omega (arith, r .0)
 
 -- src/lib.rt:66:9
 in-range-requires : tie.Need-in-range-requires
@@ -43,7 +54,8 @@ in-range-requires c κs = search needs
 
 -- src/lib.rt:67:9
 returns-3 : tie.Need-returns-3
-returns-3 c = ?
+returns-3 c = let a = c .before .before .before .before .before .before .before .before .before .args in
+    wrong-header (a .book .now) (a .starts .now) (held (c .before .before .before .before .before .before .length-fits .ensures) (c .before .before .before .before .before .if1 .left)) (fitting (c .before .before .before .before .all-fit .result) (a .book .now) (c .before .before .before .before .all-fit .ensures) (c .before .before .before .if2 .left)) (c .before .before .first .result) (c .before .before .first .ensures) (c .before .in-range .result) (c .before .in-range .ensures) (c .if3 .taken)
 
 -- src/lib.rt:69:9
 of-line-requires : tie.Need-of-line-requires
@@ -51,7 +63,10 @@ of-line-requires c κs = search needs
 
 -- src/lib.rt:71:9
 read-body-requires : tie.Need-read-body-requires
-read-body-requires c κs = ?
+read-body-requires c κs = let r = length-fits (length (c .before .before .before .before .before .before .before .before .before .before .before .args .book .now)) (held (c .before .before .before .before .before .before .before .before .length-fits .ensures) (c .before .before .before .before .before .before .before .if1 .left)) in
+    let g = goals-fit (c .before .before .before .before .first .result) (held (c .before .before .before .in-range .ensures) (c .before .before .if3 .left)) in
+    let e = ap (λ (x : Header). x .goals) (c .before .of-line .ensures) in
+    (omega (arith, r .0), (r .1, omega (arith, g, e, c .before .before .before .before .before .before .before .before .before .before .before .pre)))
 
 -- src/lib.rt:72:9
 same-length : tie.Need-same-length
@@ -59,7 +74,8 @@ same-length c = search needs
 
 -- src/lib.rt:72:9
 returns-4 : tie.Need-returns-4
-returns-4 c = ?
+returns-4 c = let a = c .before .before .before .before .before .before .before .before .before .before .before .before .before .before .before .args in
+    wrong-body (a .book .now) (c .before .before .before .read-body .last .1 .0) (held (c .before .before .before .before .before .before .before .before .before .before .before .before .length-fits .ensures) (c .before .before .before .before .before .before .before .before .before .before .before .if1 .left)) (fitting (c .before .before .before .before .before .before .before .before .before .before .all-fit .result) (a .book .now) (c .before .before .before .before .before .before .before .before .before .before .all-fit .ensures) (c .before .before .before .before .before .before .before .before .before .if2 .left)) (c .before .before .before .before .before .before .before .before .first .result) (c .before .before .before .before .before .before .before .before .first .ensures) (held (c .before .before .before .before .before .before .before .in-range .ensures) (c .before .before .before .before .before .before .if3 .left)) (c .before .before .before .before .before .of-line .result) (c .before .before .before .before .before .of-line .ensures) (c .before .before .before .read-body .result) (c .before .before .before .read-body .ensures .0) (c .if4 .taken)
 
 -- src/lib.rt:55:1
 same-length-2 : tie.Need-same-length-2
@@ -67,7 +83,8 @@ same-length-2 c = search needs
 
 -- src/lib.rt:55:1
 returns-5 : tie.Need-returns-5
-returns-5 c = ?
+returns-5 c = let a = c .before .before .before .before .before .before .before .before .before .before .before .before .before .before .before .args in
+    whole-book (a .book .now) (c .before .before .before .read-body .last .1 .0) (held (c .before .before .before .before .before .before .before .before .before .before .before .before .length-fits .ensures) (c .before .before .before .before .before .before .before .before .before .before .before .if1 .left)) (fitting (c .before .before .before .before .before .before .before .before .before .before .all-fit .result) (a .book .now) (c .before .before .before .before .before .before .before .before .before .before .all-fit .ensures) (c .before .before .before .before .before .before .before .before .before .if2 .left)) (c .before .before .before .before .before .before .before .before .first .result) (c .before .before .before .before .before .before .before .before .first .ensures) (held (c .before .before .before .before .before .before .before .in-range .ensures) (c .before .before .before .before .before .before .if3 .left)) (c .before .before .before .before .before .of-line .result) (c .before .before .before .before .before .of-line .ensures) (c .before .before .before .read-body .result) (c .before .before .before .read-body .ensures .0) (c .if4 .left) (c .before .before .before .read-body .ensures .1)
 
 pub read-spec : {M : Type 1} → statement M
 read-spec =
