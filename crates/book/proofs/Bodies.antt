@@ -135,7 +135,7 @@ body-starts goals book starts h =
       within = h;
       count = omega arith;
       places = λ i l. absurd (omega arith);
-      whole = front-none _ ∙ ap (λ (n : ℕ). readGoals goals 0 n (linesIn (drop 16 book))) e
+      whole = front-none _ ∙ ap (λ (n : ℕ). readGoals goals 0 n (linesIn (drop 16 book))) e;
     }
 
 module _ (goals : ℕ) (book starts : List ℕ) (at g : ℕ) (b : Body goals book starts at g) where
@@ -150,8 +150,8 @@ module _ (goals : ℕ) (book starts : List ℕ) (at g : ℕ) (b : Body goals boo
     body-none z =
         sym (b .whole)
         ∙ ap (withFront (startParts goals book starts g)) (
-          ap (λ (n : ℕ). readGoals goals g n (linesIn (drop at book))) left
-          ∙ goals-none goals g (goals - (g + 1)) (linesIn (drop at book)) (no-goal (readGoal goals g (linesIn (drop at book))) (ap (λ (n : ℕ). afterBytes n (drop at book)) (sym z) ∙ said′))
+        ap (λ (n : ℕ). readGoals goals g n (linesIn (drop at book))) left
+        ∙ goals-none goals g (goals - (g + 1)) (linesIn (drop at book)) (no-goal (readGoal goals g (linesIn (drop at book))) (ap (λ (n : ℕ). afterBytes n (drop at book)) (sym z) ∙ said′))
         )
 
     pub body-bad : (now : List ℕ) → r ≡ 0 → (false ≡ wholeBody (readGoals goals 0 goals (linesIn (drop 16 book)))) × StartedBy (readGoals goals 0 goals (linesIn (drop 16 book))) goals book now
@@ -200,14 +200,14 @@ module _ (goals : ℕ) (book starts : List ℕ) (at g : ℕ) (b : Body goals boo
               count = omega arith;
               places = next-place;
               whole =
-                ap (λ (ps : List Part). withFront ps (readGoals goals (g + 1) (goals - (g + 1)) (linesIn (drop (at + r) book)))) next-parts
-                ∙ front-front (startParts goals book starts g) (goal .taken .part ∷ []) (readGoals goals (g + 1) (goals - (g + 1)) (linesIn (drop (at + r) book)))
-                ∙ ap (withFront (startParts goals book starts g)) (
+                  ap (λ (ps : List Part). withFront ps (readGoals goals (g + 1) (goals - (g + 1)) (linesIn (drop (at + r) book)))) next-parts
+                  ∙ front-front (startParts goals book starts g) (goal .taken .part ∷ []) (readGoals goals (g + 1) (goals - (g + 1)) (linesIn (drop (at + r) book)))
+                  ∙ ap (withFront (startParts goals book starts g)) (
                   (λ k. withFront (goal .taken .part ∷ []) (readGoals goals (add-one g k) (goals - (g + 1)) (sym (goal .after) k)))
                   ∙ sym (goals-some goals g (goals - (g + 1)) (linesIn (drop at book)) (goal .taken) (goal .is))
                   ∙ ap (λ (n : ℕ). readGoals goals g n (linesIn (drop at book))) (sym left)
-                )
-                ∙ b .whole
+                  )
+                  ∙ b .whole;
             }
 
   module _ (end : goals ≤ g) where

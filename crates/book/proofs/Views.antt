@@ -283,7 +283,7 @@ module _ (inner : Bool → List Line → Option TakenPart) (l : Line) (ls : List
         inside = true;
         taken = record { parts = End; rest = ls };
         read = ap (λ (n : ℕ). readParts (inner true) n ls) z;
-        rest = ap (λ (x : TakenPart). x .rest) e
+        rest = ap (λ (x : TakenPart). x .rest) e;
       }
 
   node-below : (p : Part) (q : Bool) (ps : TakenParts) → partsBelow l ≡ l .first → readParts (inner q) (l .first) ls ≡ some ps → record { part = p; rest = ps .rest } ≡ t → Below inner l ls t

@@ -71,9 +71,9 @@ module _ (goals : ℕ) (p : Bool) (bytes : List ℕ) (l : Line) (is : l ≡ line
       → (partIn goals p bytes ≡ Node op (partsIn goals q (l .first) (drop 16 bytes))) × ReadsParts goals q (l .first) (drop 16 bytes)
   unfolding whole partsRead
   node op q n = (
-        ap (λ (t : TakenPart). t .part) (sym (n .is)) ∙ ap (Node op) (sym (parts-are goals q (l .first) (drop 16 bytes) (n .taken) (n .read))),
-        reads-parts goals q (l .first) (drop 16 bytes) (n .taken) (n .read),
-      )
+    ap (λ (t : TakenPart). t .part) (sym (n .is)) ∙ ap (Node op) (sym (parts-are goals q (l .first) (drop 16 bytes) (n .taken) (n .read))),
+    reads-parts goals q (l .first) (drop 16 bytes) (n .taken) (n .read),
+  )
 
   pub a-line : 16 ≤ length bytes
   unfolding whole

@@ -1,8 +1,8 @@
 // A book: lines of 16 bytes, each of five fields of three columns and a newline. A
 // header, then for each goal in order a line and its part.
-pub mod line;
 mod grammar;
 mod header;
+pub mod line;
 pub mod part;
 
 use definition::book::Header;

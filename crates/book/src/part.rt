@@ -1,7 +1,7 @@
 // The parts of a book that was read.
+use crate::line;
 use definition::book::Line;
 use definition::paths::PathKind;
-use crate::line;
 ghost use mathlib.Core.Path.{_≡_};
 ghost use mathlib.Core.Bool.{Bool};
 ghost use Prim.Native.Nat.{ℕ, _≤_, _<_};
