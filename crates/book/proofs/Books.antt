@@ -10,15 +10,18 @@ use lib.Dec.{eqb, leb}
 use borrow.Author.Tests.{leb-true, not-true, not-false}
 use Rattle.definition.specs.declared.book.Line.{Line}
 use Rattle.definition.specs.declared.book.Header.{Header}
+use Rattle.definition.specs.declared.query.Refusal.{Refusal}
+use Rattle.definition.specs.Part.{Part, Book}
 use Rattle.definition.specs.declared.query.Refusal.the-variants.{BookLength, BookLine, BookHeader, BookBody}
 use Rattle.definition.specs.Reader.{TakenGoals, readGoals, endOfBody, readBody, headerInRange, headerOf, readHeader, lengthInRange, linesOf, readBook}
 use Rattle.definition.specs.Reader as reader
 use Rattle.book.specs.declared.BookRead.{BookRead}
 use Rattle.book.specs.declared.BookRead.the-variants.{Accepted, Rejected}
 use Rattle.book.specs.Lines.{lineIn, linesIn, linesIf}
-use Rattle.book.specs.Read.{headerRead, Started, StartedIf, noLine, wholeBody, StartedBy}
+use Rattle.book.specs.Read.{headerRead, Started, StartedIf, noLine, wholeBody, StartedBy, HeaderInRange, IsBook, bookOr, bookIn}
 use Rattle.book.proofs.Tests.{refused, held}
 use Rattle.book.proofs.Lines.{lines-cons}
+use Rattle.book.proofs.Heads.{in-range}
 
 -- a length in range
 pub length-fits : (n : ℕ) → lengthInRange n ≡ true → (48 ≤ n) × (n ≤ 16000)
@@ -30,6 +33,15 @@ length-fits n e = let t = tests (eqb (n % 16) 0) (leb 48 n) (leb n 16000) e in (
     tests true false c e = let z : _≡_ {A = ℕ} 0 1 = cc in absurd (omega arith)
     tests false b c e = let z : _≡_ {A = ℕ} 0 1 = cc in absurd (omega arith)
 
+abbrev byLength : Bool → Option (List Line) → reader.BookRead
+byLength b x = elim b [ false ↦ reader.Rejected BookLength | true ↦ elim x [ none ↦ reader.Rejected BookLine | some ls ↦ readHeader ls ] ]
+
+abbrev byHeader : Bool → Line → List Line → reader.BookRead
+byHeader b l ls = elim b [ true ↦ readBody (headerOf l) ls | false ↦ reader.Rejected BookHeader ]
+
+abbrev byGoals : Header → Option TakenGoals → reader.BookRead
+byGoals h x = elim x [ none ↦ reader.Rejected BookBody | some ps ↦ endOfBody h ps (ps .rest) ]
+
 -- what is to be shown of `read`
 abbrev pub ReadTo : List ℕ → List ℕ → BookRead → Type 0
 ReadTo book starts r = (r ≡ headerRead (readBook book)) × StartedIf (readBook book) book starts
@@ -37,15 +49,6 @@ ReadTo book starts r = (r ≡ headerRead (readBook book)) × StartedIf (readBook
 module _ (book starts : List ℕ) where
   to : (x : reader.BookRead) → readBook book ≡ x → (r : BookRead) → r ≡ headerRead x → StartedIf x book starts → ReadTo book starts r
   to x e r a b = (a ∙ ap headerRead (sym e), subst (λ (y : reader.BookRead). StartedIf y book starts) (sym e) b)
-
-  abbrev byLength : Bool → Option (List Line) → reader.BookRead
-  byLength b x = elim b [ false ↦ reader.Rejected BookLength | true ↦ elim x [ none ↦ reader.Rejected BookLine | some ls ↦ readHeader ls ] ]
-
-  abbrev byHeader : Bool → Line → List Line → reader.BookRead
-  byHeader b l ls = elim b [ true ↦ readBody (headerOf l) ls | false ↦ reader.Rejected BookHeader ]
-
-  abbrev byGoals : Header → Option TakenGoals → reader.BookRead
-  byGoals h x = elim x [ none ↦ reader.Rejected BookBody | some ps ↦ endOfBody h ps (ps .rest) ]
 
   pub wrong-length : (b : Bool) → b ≡ lengthInRange (length book) → not b ≡ true → ReadTo book starts (Rejected BookLength)
   wrong-length b e h = to (reader.Rejected BookLength) (ap (λ (x : Bool). byLength x (linesOf book)) (refused e h)) _ refl tt
@@ -100,3 +103,52 @@ module _ (book starts : List ℕ) where
         pub whole-book : (h : Header) → h ≡ headerOf l → (b : Bool) → b ≡ wholeBody (readGoals (h .goals) 0 (h .goals) (linesIn (drop 16 book))) → not b ≡ false → StartedBy (readGoals (h .goals) 0 (h .goals) (linesIn (drop 16 book))) (h .goals) book starts → ReadTo book starts (Accepted h)
         unfolding taken
         whole-book h k b e n s = whole taken in-body (held (e ∙ ap (λ (x : Header). wholeBody (goalsOf x)) k) n) (subst (λ (x : Header). StartedBy (goalsOf x) (x .goals) book starts) k s) h k
+
+-- ---- a book that was accepted
+module _ (b : Book) where
+  wrong : {A : Type 0} {r : Refusal} → reader.Rejected r ≡ reader.Accepted b → A
+  wrong e = let z : _≡_ {A = ℕ} 0 1 = cc in absurd (omega arith)
+
+  same : {a : Book} → reader.Accepted a ≡ reader.Accepted b → a ≡ b
+  same e = cc
+
+  by-rest : (h : Header) → HeaderInRange h → (t : TakenGoals) (ls : List Line) → endOfBody h t ls ≡ reader.Accepted b → HeaderInRange (b .header)
+  by-rest h r t [] e = subst (λ (x : Book). HeaderInRange (x .header)) (same e) r
+  by-rest h r t (l ∷ ls) e = wrong e
+
+  by-goals : (h : Header) → HeaderInRange h → (x : Option TakenGoals) → byGoals h x ≡ reader.Accepted b → HeaderInRange (b .header)
+  by-goals h r none e = wrong e
+  by-goals h r (some t) e = by-rest h r t (t .rest) e
+
+  by-header : (l : Line) (ls : List Line) (c : Bool) → headerInRange l ≡ c → byHeader c l ls ≡ reader.Accepted b → HeaderInRange (b .header)
+  by-header l ls true k e = by-goals (headerOf l) (in-range l k) (readGoals (l .first) 0 (l .first) ls) e
+  by-header l ls false k e = wrong e
+
+  by-lines : (x : Option (List Line)) → byLength true x ≡ reader.Accepted b → HeaderInRange (b .header)
+  by-lines none e = wrong e
+  by-lines (some []) e = wrong e
+  by-lines (some (l ∷ ls)) e = by-header l ls (headerInRange l) refl e
+
+  by-length : (c : Bool) (x : Option (List Line)) → byLength c x ≡ reader.Accepted b → HeaderInRange (b .header)
+  by-length true x e = by-lines x e
+  by-length false x e = wrong e
+
+  pub accepted-range : (bytes : List ℕ) → readBook bytes ≡ reader.Accepted b → HeaderInRange (b .header)
+  accepted-range bytes e = by-length (lengthInRange (length bytes)) (linesOf bytes) e
+
+-- what `read` tells where it accepts
+pub is-book : (bytes starts : List ℕ) (h : Header) → Accepted h ≡ headerRead (readBook bytes) → StartedIf (readBook bytes) bytes starts → IsBook bytes starts h
+unfolding bookIn
+is-book bytes starts h e s = go (readBook bytes) refl e s
+  where
+    go : (x : reader.BookRead) → readBook bytes ≡ x → Accepted h ≡ headerRead x → StartedIf x bytes starts → IsBook bytes starts h
+    go (reader.Rejected r) q e s = let z : _≡_ {A = ℕ} 0 1 = cc in absurd (omega arith)
+    go (reader.Accepted b) q e s =
+        let i : b ≡ bookIn bytes = ap bookOr (sym q) in
+        let k : b .header ≡ h = cc in
+        record {
+          accepted = q ∙ ap reader.Accepted i;
+          header = ap (λ (x : Book). x .header) (sym i) ∙ k;
+          in-range = subst HeaderInRange k (accepted-range b bytes q);
+          started = subst (λ (n : ℕ). Started n (bookIn bytes .parts) bytes starts) (ap (λ (x : Header). x .goals) k) (subst (λ (ps : List Part). Started (b .header .goals) ps bytes starts) (ap (λ (x : Book). x .parts) i) s);
+        }

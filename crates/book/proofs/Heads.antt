@@ -8,7 +8,8 @@ use borrow.Author.Tests.{leb-true, le-leb, lt-leb, eq-eqb, ne-eqb}
 use Rattle.definition.specs.declared.book.Line.{Line}
 use Rattle.definition.specs.declared.paths.PathKind.the-variants.{ForcedAmbiguity}
 use Rattle.definition.specs.Paths.{kindOf}
-use Rattle.definition.specs.Reader.{headerInRange, lengthInRange}
+use Rattle.definition.specs.Reader.{headerInRange, headerOf, lengthInRange}
+use Rattle.book.specs.Read.{HeaderInRange}
 
 pub other-kind : (n : ℕ) → (n ≡ 0 → ⊥) → (n ≡ 1 → ⊥) → (n ≡ 2 → ⊥) → ForcedAmbiguity ≡ kindOf n
 other-kind zero a b c = absurd (a refl)
@@ -55,12 +56,29 @@ module _ (l : Line) where
             pub divisor-left : 1 ≤ l .fourth → leb (l .fourth) 99 ≡ headerInRange l
             divisor-left h = rw (le-leb (l .code) 1 a, le-leb 1 (l .first) b, le-leb (l .first) 64 c, le-leb (l .second) 63 d, le-leb (l .third) 99 e, le-leb 1 (l .fourth) h)
 
--- a header in range has at most 64 goals
-pub goals-fit : (l : Line) → headerInRange l ≡ true → l .first ≤ 64
-goals-fit l e = leb-true (l .first) 64 (third (leb (l .code) 1) (leb 1 (l .first)) (leb (l .first) 64) (leb (l .second) 63) (leb (l .third) 99) (leb 1 (l .fourth)) (leb (l .fourth) 99) e)
+-- what its tests say
+pub in-range : (l : Line) → headerInRange l ≡ true → HeaderInRange (headerOf l)
+in-range l e =
+    let t = tests (leb (l .code) 1) (leb 1 (l .first)) (leb (l .first) 64) (leb (l .second) 63) (leb (l .third) 99) (leb 1 (l .fourth)) (leb (l .fourth) 99) e in
+    record {
+      some-goals = leb-true 1 (l .first) (t .0);
+      few-goals = leb-true (l .first) 64 (t .1 .0);
+      top-fits = leb-true (l .second) 63 (t .1 .1 .0);
+      limit-fits = leb-true (l .third) 99 (t .1 .1 .1 .0);
+      divides = leb-true 1 (l .fourth) (t .1 .1 .1 .1 .0);
+      divisor-fits = leb-true (l .fourth) 99 (t .1 .1 .1 .1 .1);
+    }
   where
-    third : (a b c d e f g : Bool) → a && b && c && d && e && f && g ≡ true → c ≡ true
-    third true true true d e f g h = refl
-    third true true false d e f g h = h
-    third true false c d e f g h = let z : _≡_ {A = ℕ} 0 1 = cc in absurd (omega arith)
-    third false b c d e f g h = let z : _≡_ {A = ℕ} 0 1 = cc in absurd (omega arith)
+    both : (a b : Bool) → a && b ≡ true → (a ≡ true) × (b ≡ true)
+    both true true e = (refl, refl)
+    both true false e = (refl, e)
+    both false b e = (e, let z : _≡_ {A = ℕ} 0 1 = cc in absurd (omega arith))
+
+    tests : (a b c d e f g : Bool) → a && b && c && d && e && f && g ≡ true → (b ≡ true) × ((c ≡ true) × ((d ≡ true) × ((e ≡ true) × ((f ≡ true) × (g ≡ true)))))
+    tests a b c d e f g h =
+        let s6 = both (a && b && c && d && e && f) g h in
+        let s5 = both (a && b && c && d && e) f (s6 .0) in
+        let s4 = both (a && b && c && d) e (s5 .0) in
+        let s3 = both (a && b && c) d (s4 .0) in
+        let s2 = both (a && b) c (s3 .0) in
+        (both a b (s2 .0) .1, (s2 .1, (s3 .1, (s4 .1, (s5 .1, s6 .1)))))

@@ -6,7 +6,8 @@ use mathlib.Core.Option.{Option, none, some}
 use mathlib.Core.List.{List, [], _∷_}
 use lib.ListN.{length, getD, drop}
 use Rattle.definition.specs.declared.book.Line.{Line}
-use Rattle.definition.specs.Part.{Part, partAt}
+use Rattle.definition.specs.declared.book.Header.{Header}
+use Rattle.definition.specs.Part.{Part, Book, partAt}
 use Rattle.definition.specs.Reader.{TakenGoals}
 use Rattle.definition.specs.Reader as reader
 use Rattle.book.specs.declared.BookRead.{BookRead}
@@ -48,3 +49,28 @@ wholeBody (some t) = noLine (t .rest)
 abbrev pub StartedBy : Option TakenGoals → ℕ → List ℕ → List ℕ → Type 0
 StartedBy none goals book starts = Unit {0}
 StartedBy (some t) goals book starts = Started goals (t .parts) book starts
+
+-- ---- a book that was accepted
+abbrev pub bookOr : reader.BookRead → Book
+bookOr (reader.Accepted b) = b
+bookOr (reader.Rejected r) =
+    record { header = record { provisional = false; goals = 0; top = 0; limit = 0; divisor = 0 }; parts = [] }
+
+-- the book that bytes say
+unfoldable pub bookIn : List ℕ → Book
+bookIn bytes = bookOr (reader.readBook bytes)
+
+pub record HeaderInRange (h : Header) : Type 0 where
+  pub some-goals : 1 ≤ h .goals
+  pub few-goals : h .goals ≤ 64
+  pub top-fits : h .top ≤ 63
+  pub limit-fits : h .limit ≤ 99
+  pub divides : 1 ≤ h .divisor
+  pub divisor-fits : h .divisor ≤ 99
+
+-- bytes say a book with this header, and the places of its goals' parts are in `starts`
+pub record IsBook (bytes starts : List ℕ) (h : Header) : Type 0 where
+  pub accepted : reader.readBook bytes ≡ reader.Accepted (bookIn bytes)
+  pub header : bookIn bytes .header ≡ h
+  pub in-range : HeaderInRange h
+  pub started : Started (h .goals) (bookIn bytes .parts) bytes starts

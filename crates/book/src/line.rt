@@ -1,11 +1,11 @@
 // A line of a book: 16 bytes, five fields of three columns and a newline.
 use definition::book::Line;
 ghost use mathlib.Core.Path.{_≡_};
-ghost use Prim.Native.Nat.{_≤_};
+ghost use Prim.Native.Nat.{_+_, _≤_, _<_};
 ghost use lib.ListN.{length};
 ghost use Rattle.definition.specs.Line.{isDigit, isLeadingDigit, isField, digitValue, fieldValue};
 ghost use Rattle.definition.specs.Reader.{linesOf};
-ghost use Rattle.book.specs.Lines.{lineIn, lineFits, linesIf};
+ghost use Rattle.book.specs.Lines.{fieldIn, lineIn, fieldFits, lineFits, linesIf};
 
 fn is_digit(c: u8) -> bool
     ensures { λ r. ⌜ r ≡ isDigit c ⌝ }
@@ -62,18 +62,34 @@ pub fn field(x: u8, y: u8, z: u8) -> u16
     digit(x) * 100 + digit(y) * 10 + digit(z)
 }
 
+// The number of the field whose first column is at place i.
+pub fn field_at(s: &[u8], i: usize) -> u16
+    requires { ⌜ i + 2 < length (now s) ⌝ }
+    ensures { λ r. ⌜ r ≡ fieldIn (now (s .entry)) i ⌝ }
+{
+    field(s[i], s[i + 1], s[i + 2])
+}
+
 // The numbers of the first line.
 pub fn first(s: &[u8]) -> Line
     requires { ⌜ 16 ≤ length (now s) ⌝ }
     ensures { λ r. ⌜ r ≡ lineIn (now (s .entry)) ⌝ }
 {
     Line {
-        code: field(s[0], s[1], s[2]),
-        first: field(s[3], s[4], s[5]),
-        second: field(s[6], s[7], s[8]),
-        third: field(s[9], s[10], s[11]),
-        fourth: field(s[12], s[13], s[14]),
+        code: field_at(s, 0),
+        first: field_at(s, 3),
+        second: field_at(s, 6),
+        third: field_at(s, 9),
+        fourth: field_at(s, 12),
     }
+}
+
+// Whether a field stands at place i.
+fn fits_at(s: &[u8], i: usize) -> bool
+    requires { ⌜ i + 2 < length (now s) ⌝ }
+    ensures { λ r. ⌜ r ≡ fieldFits (now (s .entry)) i ⌝ }
+{
+    is_field(s[i], s[i + 1], s[i + 2])
 }
 
 // Whether the first line is well-formed.
@@ -81,19 +97,19 @@ fn first_fits(s: &[u8]) -> bool
     requires { ⌜ 16 ≤ length (now s) ⌝ }
     ensures { λ r. ⌜ r ≡ lineFits (now (s .entry)) ⌝ }
 {
-    if !is_field(s[0], s[1], s[2]) {
+    if !fits_at(s, 0) {
         return false;
     }
-    if !is_field(s[3], s[4], s[5]) {
+    if !fits_at(s, 3) {
         return false;
     }
-    if !is_field(s[6], s[7], s[8]) {
+    if !fits_at(s, 6) {
         return false;
     }
-    if !is_field(s[9], s[10], s[11]) {
+    if !fits_at(s, 9) {
         return false;
     }
-    if !is_field(s[12], s[13], s[14]) {
+    if !fits_at(s, 12) {
         return false;
     }
     s[15] == 10

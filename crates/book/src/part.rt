@@ -32,9 +32,9 @@ fn below(part: &[u8]) -> usize
     requires { ⌜ 16 ≤ length (now part) ⌝ }
     ensures { λ r. ⌜ (r ≡ partsBelow (lineIn (now (part .entry)))) × (r < 65536) ⌝ }
 {
-    let code = line::field(part[0], part[1], part[2]);
+    let code = line::field_at(part, 0);
     match code {
-        3..=5 => line::field(part[3], part[4], part[5]) as usize,
+        3..=5 => line::field_at(part, 3) as usize,
         0..=2 | 6..=65535 => 0,
     }
 }

@@ -1,18 +1,13 @@
 use Rattle.book.proofs.Heads.{no-lines, short-book, long-book}
 use Rattle.book.proofs.length_fits.Statement.{statement}
 use Rattle.book.proofs.length_fits.Tie as tie
-use Rattle.book.proofs.length_fits.Reads as reads
-use Rattle.book.proofs.length_fits.Lts as lts
 
--- src/lib.rt:26:9
 returns : tie.Need-returns
 returns c = no-lines (c .before .args .n) (c .if1 .taken)
 
--- src/lib.rt:29:9
 returns-2 : tie.Need-returns-2
 returns-2 c = short-book (c .before .before .args .n) (c .before .if1 .left) (c .if2 .taken)
 
--- src/lib.rt:22:1
 returns-3 : tie.Need-returns-3
 returns-3 c = long-book (c .before .before .args .n) (c .before .if1 .left) (c .if2 .left)
 

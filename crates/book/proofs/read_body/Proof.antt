@@ -7,9 +7,6 @@ use Rattle.book.proofs.Sizes.{further}
 use Rattle.book.proofs.Bodies.{Body, body-starts, body-bad, line-room, body-good, body-ends}
 use Rattle.book.proofs.read_body.Statement.{statement}
 use Rattle.book.proofs.read_body.Tie as tie
-use Rattle.book.proofs.read_body.Reads as reads
-use Rattle.book.proofs.read_body.Lts as lts
-use Rattle.book.proofs.grammar.goal_size.Reads as goal-size-reads
 
 abbrev Inv-loop : tie.InvT-loop
 Inv-loop book starts₀ goals at₀ g₀ starts at g = Body goals book starts at g × (length starts ≡ length starts₀)
@@ -30,79 +27,61 @@ beyond c = further (c .before .before .before .before .loop .at) (c .before .bef
 slot : (c : tie.Else1 Inv-loop μ-loop) → c .before .before .before .before .loop .g < length (c .before .before .before .before .loop .starts)
 slot c = omega (arith, c .before .before .before .before .loop .inv .1, c .before .before .before .before .before .before .before .pre .1 .1, c .before .before .before .loop-test .taken)
 
--- src/lib.rt:42:5
 loop-holds : tie.Need-loop-holds Inv-loop μ-loop
 loop-holds c = let a = c .before .before .args in (body-starts (a .goals) (a .book .now) (a .starts .now) (c .before .before .pre .0), refl)
 
--- src/lib.rt:43:36
 sub-goal-size : tie.Need-sub-goal-size Inv-loop μ-loop
 sub-goal-size c = c .before .loop .inv .0 .within
 
--- src/lib.rt:43:36
 part-goal-size-start : tie.Need-part-goal-size-start Inv-loop μ-loop
 part-goal-size-start c = c .before .loop .inv .0 .within
 
--- src/lib.rt:43:36
 part-goal-size-end : tie.Need-part-goal-size-end Inv-loop μ-loop
 part-goal-size-end c = search needs
 
--- src/lib.rt:43:13
 goal-size-requires : tie.Need-goal-size-requires Inv-loop μ-loop
 goal-size-requires c κs = search needs
 
--- src/lib.rt:45:13
 same-length : tie.Need-same-length Inv-loop μ-loop
 same-length c = c .before .before .before .before .loop .inv .1
 
--- src/lib.rt:45:13
 returns : tie.Need-returns Inv-loop μ-loop
 returns c = let a = c .before .before .before .before .before .before .before .args in
     let l = c .before .before .before .before .loop in
     body-bad (a .goals) (a .book .now) (l .starts) (l .at) (l .g) (l .inv .0) (c .before .before .before .loop-test .taken) (c .before .goal-size .result) (c .before .goal-size .ensures .0) (l .starts) (c .if1 .taken)
 
--- src/lib.rt:47:22
 add-starts : tie.Need-add-starts Inv-loop μ-loop
 add-starts c = omega (arith, room c, c .before .before .before .before .before .before .before .pre .1 .0)
 
--- src/lib.rt:47:21
 cast-starts : tie.Need-cast-starts Inv-loop μ-loop
 cast-starts c = omega (arith, room c, c .before .before .before .before .before .before .before .pre .1 .0)
 
--- src/lib.rt:47:9
 mul-starts : tie.Need-mul-starts Inv-loop μ-loop
 mul-starts c = omega (arith, slot c, c .before .before .before .before .before .before .before .good .1 .0)
 
--- src/lib.rt:47:9
 slice-write-starts : tie.Need-slice-write-starts Inv-loop μ-loop
 slice-write-starts c = slot c
 
--- src/lib.rt:48:14
 add-at : tie.Need-add-at Inv-loop μ-loop
 add-at c = omega (arith, beyond c, c .before .before .before .before .before .before .before .pre .1 .0)
 
--- src/lib.rt:49:13
 add-g : tie.Need-add-g Inv-loop μ-loop
 add-g c = omega arith
 
--- src/lib.rt:42:5
 loop-less : tie.Need-loop-less Inv-loop μ-loop
 loop-less c = omega arith
 
--- src/lib.rt:42:5
 loop-again : tie.Need-loop-again Inv-loop μ-loop
 loop-again c = let a = c .before .before .before .before .before .before .before .args in
     let l = c .before .before .before .before .loop in
     (body-good (a .goals) (a .book .now) (l .starts) (l .at) (l .g) (l .inv .0) (c .before .before .before .loop-test .taken) (c .before .goal-size .result) (c .before .goal-size .ensures .0) (c .if1 .left) (c .before .goal-size .ensures .1) (slot c), length-set (l .starts) (l .g) _ ∙ l .inv .1)
 
--- src/lib.rt:51:5
 sub-result : tie.Need-sub-result Inv-loop μ-loop
 sub-result c = c .before .loop .inv .0 .within
 
--- src/lib.rt:36:1
 same-length-2 : tie.Need-same-length-2 Inv-loop μ-loop
 same-length-2 c = c .before .loop .inv .1
 
--- src/lib.rt:36:1
 returns-2 : tie.Need-returns-2 Inv-loop μ-loop
 returns-2 c = let a = c .before .before .before .before .args in
     let l = c .before .loop in

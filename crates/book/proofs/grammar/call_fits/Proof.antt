@@ -1,27 +1,20 @@
-use Rattle.book.proofs.Sizes.{no-goal, no-kind, no-lower, rest-left}
 use borrow.Author.Needs.{needs}
+use Rattle.book.proofs.Sizes.{no-goal, no-kind, no-lower, rest-left}
 use Rattle.book.proofs.grammar.call_fits.Statement.{statement}
 use Rattle.book.proofs.grammar.call_fits.Tie as tie
-use Rattle.book.proofs.grammar.call_fits.Reads as reads
-use Rattle.book.proofs.grammar.call_fits.Lts as lts
 
--- src/grammar.rt:39:16
 cast-goal : tie.Need-cast-goal
 cast-goal c = search needs
 
--- src/grammar.rt:41:9
 returns : tie.Need-returns
 returns c = let a = c .before .before .args in no-goal (a .l) (a .goals) (c .if1 .taken)
 
--- src/grammar.rt:44:9
 returns-2 : tie.Need-returns-2
 returns-2 c = let a = c .before .before .before .before .args in no-kind (a .l) (a .goals) (c .before .before .if1 .left) (c .if2 .taken)
 
--- src/grammar.rt:47:9
 returns-3 : tie.Need-returns-3
 returns-3 c = let a = c .before .before .before .before .before .before .args in no-lower (a .l) (a .goals) (c .before .before .before .before .if1 .left) (c .before .before .if2 .left) (c .if3 .taken)
 
--- src/grammar.rt:36:1
 returns-4 : tie.Need-returns-4
 returns-4 c = let a = c .before .before .before .before .before .before .before .args in rest-left (a .l) (a .goals) (c .before .before .before .before .before .if1 .left) (c .before .before .before .if2 .left) (c .before .if3 .left)
 

@@ -1,29 +1,21 @@
+use borrow.Author.Needs.{needs}
 use mathlib.Core.Path.{_∙_}
 use Rattle.book.proofs.Sizes.{no-goal-code, other-goal, this-goal}
-use borrow.Author.Needs.{needs}
 use Rattle.book.proofs.grammar.is_goal_line.Statement.{statement}
 use Rattle.book.proofs.grammar.is_goal_line.Tie as tie
-use Rattle.book.proofs.grammar.is_goal_line.Reads as reads
-use Rattle.book.proofs.grammar.is_goal_line.Lts as lts
-use Rattle.book.proofs.grammar.uses_first.Reads as uses-first-reads
 
--- src/grammar.rt:127:9
 returns : tie.Need-returns
 returns c = let a = c .before .before .args in no-goal-code (a .l) (a .goal) (c .if1 .taken)
 
--- src/grammar.rt:129:18
 cast-number : tie.Need-cast-number
 cast-number c = search needs
 
--- src/grammar.rt:131:9
 returns-2 : tie.Need-returns-2
 returns-2 c = let a = c .before .before .before .before .args in other-goal (a .l) (a .goal) (c .before .before .if1 .left) (c .if2 .taken)
 
--- src/grammar.rt:133:5
 uses-first-requires : tie.Need-uses-first-requires
 uses-first-requires c κs = search needs
 
--- src/grammar.rt:123:1
 returns-3 : tie.Need-returns-3
 returns-3 c = let a = c .before .before .before .before .before .args in c .uses-first .ensures ∙ this-goal (a .l) (a .goal) (c .before .before .before .if1 .left) (c .before .if2 .left)
 

@@ -1,72 +1,51 @@
-use Rattle.book.proofs.Sizes.{call-line, group-line, pick-line, undecided-line, low-code, high-code}
 use borrow.Author.Needs.{needs}
+use Rattle.book.proofs.Sizes.{call-line, group-line, pick-line, undecided-line, low-code, high-code}
 use Rattle.book.proofs.grammar.opened_by.Statement.{statement}
 use Rattle.book.proofs.grammar.opened_by.Tie as tie
-use Rattle.book.proofs.grammar.opened_by.Reads as reads
-use Rattle.book.proofs.grammar.opened_by.Lts as lts
-use Rattle.book.proofs.grammar.call_fits.Reads as call-fits-reads
-use Rattle.book.proofs.grammar.opened_if.Reads as opened-if-reads
-use Rattle.book.proofs.grammar.pick_fits.Reads as pick-fits-reads
-use Rattle.book.proofs.grammar.undecided_fits.Reads as undecided-fits-reads
-use Rattle.book.proofs.grammar.uses_first.Reads as uses-first-reads
 
--- src/grammar.rt:85:24
 call-fits-requires : tie.Need-call-fits-requires
 call-fits-requires c κs = search needs
 
--- src/grammar.rt:85:14
 opened-if-requires : tie.Need-opened-if-requires
 opened-if-requires c κs = search needs
 
--- src/grammar.rt:87:24
 pick-fits-requires : tie.Need-pick-fits-requires
 pick-fits-requires c κs = search needs
 
--- src/grammar.rt:87:14
 opened-if-requires-2 : tie.Need-opened-if-requires-2
 opened-if-requires-2 c κs = search needs
 
--- src/grammar.rt:88:24
 undecided-fits-requires : tie.Need-undecided-fits-requires
 undecided-fits-requires c κs = search needs
 
--- src/grammar.rt:88:14
 opened-if-requires-3 : tie.Need-opened-if-requires-3
 opened-if-requires-3 c κs = search needs
 
--- src/grammar.rt:86:28
 uses-first-requires : tie.Need-uses-first-requires
 uses-first-requires c κs = search needs
 
--- src/grammar.rt:86:18
 opened-if-requires-4 : tie.Need-opened-if-requires-4
 opened-if-requires-4 c κs = search needs
 
--- src/grammar.rt:80:1
 returns : tie.Need-returns
 returns c = λ inner ls. let a = c .before .before .before .args in
     call-line (a .goals) (a .in-pick) inner (a .l) ls (c .opened-if .result) (c .before .call-fits .result) (c .opened-if .ensures) (c .before .call-fits .ensures) (c .before .before .match .keys1)
 
--- src/grammar.rt:80:1
 returns-2 : tie.Need-returns-2
 returns-2 c = λ inner ls. let a = c .before .before .before .args in
     pick-line (a .goals) (a .in-pick) inner (a .l) ls (c .opened-if2 .result) (c .before .pick-fits .result) (c .opened-if2 .ensures) (c .before .pick-fits .ensures) (c .before .before .match .keys2)
 
--- src/grammar.rt:80:1
 returns-3 : tie.Need-returns-3
 returns-3 c = λ inner ls. let a = c .before .before .before .args in
     undecided-line (a .goals) (a .in-pick) inner (a .l) ls (c .opened-if3 .result) (c .before .undecided-fits .result) (c .opened-if3 .ensures) (c .before .undecided-fits .ensures) (c .before .before .match .keys3)
 
--- src/grammar.rt:80:1
 returns-4 : tie.Need-returns-4
 returns-4 c = λ inner ls. let a = c .before .before .before .before .before .args in
     group-line (a .goals) (a .in-pick) inner (a .l) ls (c .opened-if4 .result) (c .before .uses-first .result) (c .opened-if4 .ensures) (c .before .uses-first .ensures) (c .before .before .before .before .match .rest .0 .0 .1) (c .before .before .before .if1 .left) (c .before .before .if2 .taken)
 
--- src/grammar.rt:80:1
 returns-5 : tie.Need-returns-5
 returns-5 c = λ inner ls. let a = c .before .before .args in low-code (a .goals) (a .in-pick) inner (a .l) ls (a .l .code) (c .if1 .taken)
 
--- src/grammar.rt:80:1
 returns-6 : tie.Need-returns-6
 returns-6 c = λ inner ls. let a = c .before .before .before .args in
     high-code (a .goals) (a .in-pick) inner (a .l) ls (a .l .code) (c .if2 .left) (c .before .before .match .rest .0 .1) (c .before .before .match .rest .1)

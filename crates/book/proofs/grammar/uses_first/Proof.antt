@@ -1,18 +1,13 @@
 use Rattle.book.proofs.Sizes.{second-used, third-used, fourth-left}
 use Rattle.book.proofs.grammar.uses_first.Statement.{statement}
 use Rattle.book.proofs.grammar.uses_first.Tie as tie
-use Rattle.book.proofs.grammar.uses_first.Reads as reads
-use Rattle.book.proofs.grammar.uses_first.Lts as lts
 
--- src/grammar.rt:28:9
 returns : tie.Need-returns
 returns c = second-used (c .before .before .args .l) (c .if1 .taken)
 
--- src/grammar.rt:31:9
 returns-2 : tie.Need-returns-2
 returns-2 c = third-used (c .before .before .before .before .args .l) (c .before .before .if1 .left) (c .if2 .taken)
 
--- src/grammar.rt:24:1
 returns-3 : tie.Need-returns-3
 returns-3 c = fourth-left (c .before .before .before .before .before .args .l) (c .before .before .before .if1 .left) (c .before .if2 .left)
 

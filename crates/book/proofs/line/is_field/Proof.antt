@@ -3,48 +3,35 @@ use mathlib.Core.Path.{sym, _∙_}
 use Rattle.book.proofs.Tests.{refused, held, no-last, filled, unfilled, one-column, two-columns}
 use Rattle.book.proofs.line.is_field.Statement.{statement}
 use Rattle.book.proofs.line.is_field.Tie as tie
-use Rattle.book.proofs.line.is_field.Reads as reads
-use Rattle.book.proofs.line.is_field.Lts as lts
-use Rattle.book.proofs.line.is_digit.Reads as is-digit-reads
-use Rattle.book.proofs.line.is_leading_digit.Reads as is-leading-digit-reads
 
--- src/line.rt:33:9
 is-digit-requires : tie.Need-is-digit-requires
 is-digit-requires c κs = search needs
 
--- src/line.rt:34:9
 returns : tie.Need-returns
 returns c = let a = c .before .before .args in
     no-last (a .x) (a .y) (a .z) (refused (c .before .is-digit .ensures) (c .if1 .taken))
 
--- src/line.rt:37:12
 is-leading-digit-requires : tie.Need-is-leading-digit-requires
 is-leading-digit-requires c κs = search needs
 
--- src/line.rt:38:13
 is-digit-requires-2 : tie.Need-is-digit-requires-2
 is-digit-requires-2 c κs = search needs
 
--- src/line.rt:38:13
 returns-2 : tie.Need-returns-2
 returns-2 c = let a = c .before .before .before .before .before .before .args in
     c .is-digit2 .ensures ∙ filled (a .x) (a .y) (a .z) (held (c .before .before .before .before .before .is-digit .ensures) (c .before .before .before .before .if1 .left)) (c .before .before .before .if2 .taken) (sym (c .before .before .is-leading-digit .ensures) ∙ c .before .if3 .taken)
 
--- src/line.rt:40:9
 returns-3 : tie.Need-returns-3
 returns-3 c = let a = c .before .before .before .before .before .args in
     unfilled (a .x) (a .y) (a .z) (held (c .before .before .before .before .is-digit .ensures) (c .before .before .before .if1 .left)) (c .before .before .if2 .taken) (sym (c .before .is-leading-digit .ensures) ∙ c .if3 .left)
 
--- src/line.rt:43:9
 returns-4 : tie.Need-returns-4
 returns-4 c = let a = c .before .before .before .before .args in
     one-column (a .x) (a .y) (a .z) (held (c .before .before .before .is-digit .ensures) (c .before .before .if1 .left)) (c .before .if2 .left) (c .if4 .taken)
 
--- src/line.rt:45:5
 is-leading-digit-requires-2 : tie.Need-is-leading-digit-requires-2
 is-leading-digit-requires-2 c κs = search needs
 
--- src/line.rt:30:1
 returns-5 : tie.Need-returns-5
 returns-5 c = let a = c .before .before .before .before .before .args in
     c .is-leading-digit2 .ensures ∙ two-columns (a .x) (a .y) (a .z) (held (c .before .before .before .before .is-digit .ensures) (c .before .before .before .if1 .left)) (c .before .before .if2 .left) (c .before .if4 .left)

@@ -1,23 +1,17 @@
-use Rattle.book.proofs.Heads.{other-kind}
 use borrow.Author.Needs.{needs}
+use Rattle.book.proofs.Heads.{other-kind}
 use Rattle.book.proofs.part.kind.Statement.{statement}
 use Rattle.book.proofs.part.kind.Tie as tie
-use Rattle.book.proofs.part.kind.Reads as reads
-use Rattle.book.proofs.part.kind.Lts as lts
 
--- src/part.rt:53:1
 returns : tie.Need-returns
 returns c = search needs
 
--- src/part.rt:53:1
 returns-2 : tie.Need-returns-2
 returns-2 c = search needs
 
--- src/part.rt:53:1
 returns-3 : tie.Need-returns-3
 returns-3 c = search needs
 
--- src/part.rt:53:1
 returns-4 : tie.Need-returns-4
 returns-4 c = other-kind (c .before .args .number) (c .match .rest .0 .0 .1) (c .match .rest .0 .1) (c .match .rest .1)
 
