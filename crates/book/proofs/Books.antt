@@ -1,0 +1,154 @@
+-- A book, read: the definition's refusals at each way through the code.
+use mathlib.Core.Path.{_≡_, refl, sym, ap, _∙_, subst}
+use mathlib.Core.Bool.{Bool, true, false, not, _&&_}
+use mathlib.Core.Option.{Option, none, some}
+use mathlib.Core.List.{List, [], _∷_}
+use Prim.Native.Nat.{ℕ, zero, suc, _+_, _%_, _≤_, _<_}
+use native.Mathlib.Omega.{arith}
+use lib.ListN.{length, drop}
+use lib.Dec.{eqb, leb}
+use borrow.Author.Tests.{leb-true, not-true, not-false}
+use Rattle.definition.specs.declared.book.Line.{Line}
+use Rattle.definition.specs.declared.book.Header.{Header}
+use Rattle.definition.specs.declared.query.Refusal.{Refusal}
+use Rattle.definition.specs.Part.{Part, Book}
+use Rattle.definition.specs.declared.query.Refusal.the-variants.{BookLength, BookLine, BookHeader, BookBody}
+use Rattle.definition.specs.Reader.{TakenGoals, readGoals, endOfBody, readBody, headerInRange, headerOf, readHeader, lengthInRange, linesOf, readBook}
+use Rattle.definition.specs.Reader as reader
+use Rattle.book.specs.declared.BookRead.{BookRead}
+use Rattle.book.specs.declared.BookRead.the-variants.{Accepted, Rejected}
+use Rattle.book.specs.Lines.{lineIn, linesIn, linesIf}
+use Rattle.book.specs.Read.{headerRead, Started, StartedIf, noLine, wholeBody, StartedBy, HeaderInRange, IsBook, bookOr, bookIn}
+use Rattle.book.proofs.Tests.{refused, held}
+use Rattle.book.proofs.Lines.{lines-cons}
+use Rattle.book.proofs.Heads.{in-range}
+
+-- a length in range
+pub length-fits : (n : ℕ) → lengthInRange n ≡ true → (48 ≤ n) × (n ≤ 16000)
+length-fits n e = let t = tests (eqb (n % 16) 0) (leb 48 n) (leb n 16000) e in (leb-true 48 n (t .0), leb-true n 16000 (t .1))
+  where
+    tests : (a b c : Bool) → a && b && c ≡ true → (b ≡ true) × (c ≡ true)
+    tests true true true e = (refl, refl)
+    tests true true false e = (refl, e)
+    tests true false c e = let z : _≡_ {A = ℕ} 0 1 = cc in absurd (omega arith)
+    tests false b c e = let z : _≡_ {A = ℕ} 0 1 = cc in absurd (omega arith)
+
+abbrev byLength : Bool → Option (List Line) → reader.BookRead
+byLength b x = elim b [ false ↦ reader.Rejected BookLength | true ↦ elim x [ none ↦ reader.Rejected BookLine | some ls ↦ readHeader ls ] ]
+
+abbrev byHeader : Bool → Line → List Line → reader.BookRead
+byHeader b l ls = elim b [ true ↦ readBody (headerOf l) ls | false ↦ reader.Rejected BookHeader ]
+
+abbrev byGoals : Header → Option TakenGoals → reader.BookRead
+byGoals h x = elim x [ none ↦ reader.Rejected BookBody | some ps ↦ endOfBody h ps (ps .rest) ]
+
+-- what is to be shown of `read`
+abbrev pub ReadTo : List ℕ → List ℕ → BookRead → Type 0
+ReadTo book starts r = (r ≡ headerRead (readBook book)) × StartedIf (readBook book) book starts
+
+module _ (book starts : List ℕ) where
+  to : (x : reader.BookRead) → readBook book ≡ x → (r : BookRead) → r ≡ headerRead x → StartedIf x book starts → ReadTo book starts r
+  to x e r a b = (a ∙ ap headerRead (sym e), subst (λ (y : reader.BookRead). StartedIf y book starts) (sym e) b)
+
+  pub wrong-length : (b : Bool) → b ≡ lengthInRange (length book) → not b ≡ true → ReadTo book starts (Rejected BookLength)
+  wrong-length b e h = to (reader.Rejected BookLength) (ap (λ (x : Bool). byLength x (linesOf book)) (refused e h)) _ refl tt
+
+  module _ (long : lengthInRange (length book) ≡ true) where
+    pub wrong-line : (b : Bool) → linesOf book ≡ linesIf b book → not b ≡ true → ReadTo book starts (Rejected BookLine)
+    wrong-line b e h = to (reader.Rejected BookLine) (ap (λ (x : Bool). byLength x (linesOf book)) long ∙ ap (byLength true) (e ∙ ap (λ (x : Bool). linesIf x book) (not-true b h))) _ refl tt
+
+    module _ (fit : linesOf book ≡ some (linesIn book)) (l : Line) (is : l ≡ lineIn book) where
+      in-lines : readBook book ≡ byHeader (headerInRange l) l (linesIn (drop 16 book))
+      in-lines =
+          let room : 16 ≤ length book = (let r = length-fits (length book) long in omega arith) in
+          ap (λ (x : Bool). byLength x (linesOf book)) long
+          ∙ ap (byLength true) fit
+          ∙ ap readHeader (lines-cons book room)
+          ∙ ap (λ (x : Line). byHeader (headerInRange x) x (linesIn (drop 16 book))) (sym is)
+
+      pub wrong-header : (b : Bool) → b ≡ headerInRange l → not b ≡ true → ReadTo book starts (Rejected BookHeader)
+      wrong-header b e h = to (reader.Rejected BookHeader) (in-lines ∙ ap (λ (x : Bool). byHeader x l (linesIn (drop 16 book))) (refused e h)) _ refl tt
+
+      module _ (good : headerInRange l ≡ true) where
+        taken : Option TakenGoals
+        taken = readGoals (l .first) 0 (l .first) (linesIn (drop 16 book))
+
+        in-body : readBook book ≡ byGoals (headerOf l) taken
+        unfolding taken
+        in-body = in-lines ∙ ap (λ (x : Bool). byHeader x l (linesIn (drop 16 book))) good
+
+        not-whole : (x : Option TakenGoals) → wholeBody x ≡ false → byGoals (headerOf l) x ≡ reader.Rejected BookBody
+        not-whole none e = refl
+        not-whole (some t) e = left (t .rest) e
+          where
+            left : (ls : List Line) → noLine ls ≡ false → endOfBody (headerOf l) t ls ≡ reader.Rejected BookBody
+            left [] e = let z : _≡_ {A = ℕ} 0 1 = cc in absurd (omega arith)
+            left (k ∷ ls) e = refl
+
+        abbrev goalsOf : Header → Option TakenGoals
+        goalsOf h = readGoals (h .goals) 0 (h .goals) (linesIn (drop 16 book))
+
+        pub wrong-body : (h : Header) → h ≡ headerOf l → (b : Bool) → b ≡ wholeBody (readGoals (h .goals) 0 (h .goals) (linesIn (drop 16 book))) → not b ≡ true → ReadTo book starts (Rejected BookBody)
+        unfolding taken
+        wrong-body h k b e n = to (reader.Rejected BookBody) (in-body ∙ not-whole taken (refused (e ∙ ap (λ (x : Header). wholeBody (goalsOf x)) k) n)) _ refl tt
+
+        whole : (x : Option TakenGoals) → readBook book ≡ byGoals (headerOf l) x → wholeBody x ≡ true → StartedBy x (l .first) book starts → (h : Header) → h ≡ headerOf l → ReadTo book starts (Accepted h)
+        whole none q e s h k = let z : _≡_ {A = ℕ} 0 1 = cc in absurd (omega arith)
+        whole (some t) q e s h k = to (reader.Accepted (record { header = headerOf l; parts = t .parts })) (q ∙ left (t .rest) e) (Accepted h) (ap Accepted k) s
+          where
+            left : (ls : List Line) → noLine ls ≡ true → endOfBody (headerOf l) t ls ≡ reader.Accepted (record { header = headerOf l; parts = t .parts })
+            left [] e = refl
+            left (k ∷ ls) e = let z : _≡_ {A = ℕ} 0 1 = cc in absurd (omega arith)
+
+        pub whole-book : (h : Header) → h ≡ headerOf l → (b : Bool) → b ≡ wholeBody (readGoals (h .goals) 0 (h .goals) (linesIn (drop 16 book))) → not b ≡ false → StartedBy (readGoals (h .goals) 0 (h .goals) (linesIn (drop 16 book))) (h .goals) book starts → ReadTo book starts (Accepted h)
+        unfolding taken
+        whole-book h k b e n s = whole taken in-body (held (e ∙ ap (λ (x : Header). wholeBody (goalsOf x)) k) n) (subst (λ (x : Header). StartedBy (goalsOf x) (x .goals) book starts) k s) h k
+
+-- ---- a book that was accepted
+module _ (b : Book) where
+  wrong : {A : Type 0} {r : Refusal} → reader.Rejected r ≡ reader.Accepted b → A
+  wrong e = let z : _≡_ {A = ℕ} 0 1 = cc in absurd (omega arith)
+
+  same : {a : Book} → reader.Accepted a ≡ reader.Accepted b → a ≡ b
+  same e = cc
+
+  by-rest : (h : Header) → HeaderInRange h → (t : TakenGoals) (ls : List Line) → endOfBody h t ls ≡ reader.Accepted b → HeaderInRange (b .header)
+  by-rest h r t [] e = subst (λ (x : Book). HeaderInRange (x .header)) (same e) r
+  by-rest h r t (l ∷ ls) e = wrong e
+
+  by-goals : (h : Header) → HeaderInRange h → (x : Option TakenGoals) → byGoals h x ≡ reader.Accepted b → HeaderInRange (b .header)
+  by-goals h r none e = wrong e
+  by-goals h r (some t) e = by-rest h r t (t .rest) e
+
+  by-header : (l : Line) (ls : List Line) (c : Bool) → headerInRange l ≡ c → byHeader c l ls ≡ reader.Accepted b → HeaderInRange (b .header)
+  by-header l ls true k e = by-goals (headerOf l) (in-range l k) (readGoals (l .first) 0 (l .first) ls) e
+  by-header l ls false k e = wrong e
+
+  by-lines : (x : Option (List Line)) → byLength true x ≡ reader.Accepted b → HeaderInRange (b .header)
+  by-lines none e = wrong e
+  by-lines (some []) e = wrong e
+  by-lines (some (l ∷ ls)) e = by-header l ls (headerInRange l) refl e
+
+  by-length : (c : Bool) (x : Option (List Line)) → byLength c x ≡ reader.Accepted b → HeaderInRange (b .header)
+  by-length true x e = by-lines x e
+  by-length false x e = wrong e
+
+  pub accepted-range : (bytes : List ℕ) → readBook bytes ≡ reader.Accepted b → HeaderInRange (b .header)
+  accepted-range bytes e = by-length (lengthInRange (length bytes)) (linesOf bytes) e
+
+-- what `read` tells where it accepts
+pub is-book : (bytes starts : List ℕ) (h : Header) → Accepted h ≡ headerRead (readBook bytes) → StartedIf (readBook bytes) bytes starts → IsBook bytes starts h
+unfolding bookIn
+is-book bytes starts h e s = go (readBook bytes) refl e s
+  where
+    go : (x : reader.BookRead) → readBook bytes ≡ x → Accepted h ≡ headerRead x → StartedIf x bytes starts → IsBook bytes starts h
+    go (reader.Rejected r) q e s = let z : _≡_ {A = ℕ} 0 1 = cc in absurd (omega arith)
+    go (reader.Accepted b) q e s =
+        let i : b ≡ bookIn bytes = ap bookOr (sym q) in
+        let k : b .header ≡ h = cc in
+        record {
+          accepted = q ∙ ap reader.Accepted i;
+          header = ap (λ (x : Book). x .header) (sym i) ∙ k;
+          in-range = subst HeaderInRange k (accepted-range b bytes q);
+          started = subst (λ (n : ℕ). Started n (bookIn bytes .parts) bytes starts) (ap (λ (x : Header). x .goals) k) (subst (λ (ps : List Part). Started (b .header .goals) ps bytes starts) (ap (λ (x : Book). x .parts) i) s);
+        }

@@ -1,0 +1,9 @@
+pub mod Tests
+pub mod Lines
+pub mod Sizes
+pub mod Views
+pub mod Walk
+pub mod Skips
+pub mod Heads
+pub mod Bodies
+pub mod Books

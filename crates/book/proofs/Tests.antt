@@ -1,0 +1,83 @@
+-- Tests in a row, and the tests on a column of a line.
+use mathlib.Core.Path.{_≡_, refl, sym, ap, _∙_}
+use mathlib.Core.Bool.{Bool, true, false, _&&_, _||_, not}
+use Prim.Native.Nat.{ℕ, _≤_, _<_}
+use native.Mathlib.Omega.{arith}
+use native.Mathlib.Decide.{ℕ-discrete}
+use lib.Dec.{eqb, leb}
+use borrow.Author.Tests.{le-leb, lt-leb, eq-eqb, ne-eqb, not-true, not-false}
+use Rattle.definition.specs.Line.{isDigit, isSpace, isLeadingDigit, isField}
+
+pub stop : (a b : Bool) → a ≡ false → false ≡ a && b
+stop a b e = rw e
+
+pub pass : (a b r : Bool) → a ≡ true → r ≡ b → r ≡ a && b
+pass a b r e h = rw e h
+
+-- what a test `if !f(..)` says, where f's result is x
+pub refused : {r x : Bool} → r ≡ x → not r ≡ true → x ≡ false
+refused {r} e t = sym e ∙ not-true r t
+
+pub held : {r x : Bool} → r ≡ x → not r ≡ false → x ≡ true
+held {r} e t = sym e ∙ not-false r t
+
+-- ---- a column
+pub below-digits : (c : ℕ) → c < 48 → false ≡ isDigit c
+below-digits c h = stop _ _ (lt-leb 48 c h)
+
+pub from-digits : (c : ℕ) → 48 ≤ c → leb c 57 ≡ isDigit c
+from-digits c h = pass _ _ _ (le-leb 48 c h) refl
+
+pub below-leading : (c : ℕ) → c < 49 → false ≡ isLeadingDigit c
+below-leading c h =
+    elim (ℕ-discrete c 48) [
+      | yes e ↦ ap isLeadingDigit (sym e)
+      | no ne ↦ let l : c < 48 = omega arith in stop _ _ (sym (below-digits c l))
+    ]
+
+pub from-leading : (c : ℕ) → 49 ≤ c → leb c 57 ≡ isLeadingDigit c
+from-leading c h =
+    let l : 48 ≤ c = omega arith in
+    let ne : c ≡ 48 → ⊥ = λ e. omega arith in
+    last (leb c 57) (isDigit c) (not (eqb c 48)) (from-digits c l) (ap not (ne-eqb c 48 ne))
+  where
+    last : (r a b : Bool) → r ≡ a → b ≡ true → r ≡ a && b
+    last true a b e f = rw (← e, f)
+    last false a b e f = rw (← e)
+
+-- ---- a field
+module _ (x y z : ℕ) where
+  pub no-last : isDigit z ≡ false → false ≡ isField x y z
+  no-last e = stop _ _ e
+
+  module _ (last : isDigit z ≡ true) where
+    three : (r : Bool) → r ≡ (isSpace x && (isSpace y || isLeadingDigit y)) || (isLeadingDigit x && isDigit y) → r ≡ isField x y z
+    three r e = pass _ _ r last e
+
+    pub filled : (x ≡ 32 → ⊥) → isLeadingDigit x ≡ true → isDigit y ≡ isField x y z
+    filled ne e = three (isDigit y) (go (isSpace x) (isSpace y || isLeadingDigit y) (isLeadingDigit x) (isDigit y) (ne-eqb x 32 ne) e)
+      where
+        go : (a b c d : Bool) → a ≡ false → c ≡ true → d ≡ (a && b) || (c && d)
+        go a b c d e f = rw (e, f)
+
+    pub unfilled : (x ≡ 32 → ⊥) → isLeadingDigit x ≡ false → false ≡ isField x y z
+    unfilled ne e = three false (go (isSpace x) (isSpace y || isLeadingDigit y) (isLeadingDigit x) (isDigit y) (ne-eqb x 32 ne) e)
+      where
+        go : (a b c d : Bool) → a ≡ false → c ≡ false → false ≡ (a && b) || (c && d)
+        go a b c d e f = rw (e, f)
+
+    spaced : x ≡ 32 → (isSpace y || isLeadingDigit y) ≡ isField x y z
+    spaced e = three (isSpace y || isLeadingDigit y) (go (isSpace x) (isSpace y || isLeadingDigit y) (isLeadingDigit x) (isDigit y) (eq-eqb x 32 e) (ap isLeadingDigit e))
+      where
+        go : (a b c d : Bool) → a ≡ true → c ≡ false → b ≡ (a && b) || (c && d)
+        go a true c d e f = rw e
+        go a false c d e f = rw (e, f)
+
+    pub one-column : x ≡ 32 → y ≡ 32 → true ≡ isField x y z
+    one-column e f = ap (λ (n : ℕ). isSpace n || isLeadingDigit n) (sym f) ∙ spaced e
+
+    pub two-columns : x ≡ 32 → (y ≡ 32 → ⊥) → isLeadingDigit y ≡ isField x y z
+    two-columns e f = go (isSpace y) (isLeadingDigit y) (ne-eqb y 32 f) ∙ spaced e
+      where
+        go : (a b : Bool) → a ≡ false → b ≡ a || b
+        go a b e = rw e

@@ -1,0 +1,138 @@
+-- A part of a book is walked by its first line, and the parts below it one by one.
+use mathlib.Core.Path.{_≡_, refl, sym, ap, _∙_}
+use mathlib.Core.Bool.{Bool, true, false, _&&_}
+use mathlib.Core.Option.{Option, none, some}
+use mathlib.Core.List.{List, [], _∷_}
+use mathlib.Core.Logic.{_⊎_, inl, inr}
+use Prim.Native.Nat.{ℕ, zero, suc, _+_, _-_, _/_, _≤_, _<_}
+use native.Mathlib.Omega.{arith}
+use native.Mathlib.Numerals.{sub-one}
+use native.Mathlib.Decide.{decLt}
+use lib.ListN.{length, getD, take, drop}
+use lib.Dec.{eqb, leb, ltb}
+use borrow.Author.Tests.{ltb-true}
+use Rattle.definition.specs.declared.book.Line.{Line}
+use Rattle.definition.specs.Paths.{kindOf}
+use Rattle.definition.specs.Part.{Op, All, Any, Pick, Part, Parts, Call, Node, UndecidedLine, Then, End}
+use Rattle.definition.specs.Reader.{TakenPart, TakenParts, readParts, readByCode, readFirst, readPart}
+use Rattle.book.specs.Lines.{lineIn, linesIn}
+use Rattle.book.specs.Grammar.{callFits}
+use Rattle.book.specs.Parts.{partRead, takenOr, partIn, restIn, Reads, partsRead, takenPartsOr, partsIn, restAfter, ReadsParts}
+use Rattle.book.proofs.Lines.{lines-cons, lines-none}
+use Rattle.book.proofs.Views.{never, of-some, First, uncons, View, call, all, any, pick, undecided, callTaken, view, Noded, as-call, as-all, as-any, as-pick, as-undecided, a-code, Looser, looser-refl, Within, part-within, parts-within}
+
+-- ---- what was read
+module _ (goals : ℕ) (p : Bool) (bytes : List ℕ) (t : TakenPart) (e : partRead goals p bytes ≡ some t) where
+  pub part-is : partIn goals p bytes ≡ t .part
+  unfolding partIn
+  part-is = ap (λ (x : Option TakenPart). takenOr x .part) e
+
+  pub rest-is : restIn goals p bytes ≡ t .rest
+  unfolding restIn
+  rest-is = ap (λ (x : Option TakenPart). takenOr x .rest) e
+
+  pub reads : Reads goals p bytes
+  reads = e ∙ λ i. some (record { part = sym part-is i; rest = sym rest-is i })
+
+module _ (goals : ℕ) (p : Bool) (n : ℕ) (bytes : List ℕ) (t : TakenParts) (e : partsRead goals p n bytes ≡ some t) where
+  parts-are : partsIn goals p n bytes ≡ t .parts
+  unfolding partsIn
+  parts-are = ap (λ (x : Option TakenParts). takenPartsOr x .parts) e
+
+  after-is : restAfter goals p n bytes ≡ t .rest
+  unfolding restAfter
+  after-is = ap (λ (x : Option TakenParts). takenPartsOr x .rest) e
+
+  reads-parts : ReadsParts goals p n bytes
+  reads-parts = e ∙ λ i. some (record { parts = sym parts-are i; rest = sym after-is i })
+
+-- ---- by the first line
+module _ (goals : ℕ) (p : Bool) (bytes : List ℕ) (t : TakenPart) (e : partRead goals p bytes ≡ some t) where
+  pub has-line : 16 ≤ length bytes
+  unfolding partRead
+  has-line = elim (decLt (length bytes) 16) [ yes h ↦ never (sym (ap (readPart goals 8 p) (lines-none bytes h)) ∙ e) | no h ↦ omega arith ]
+
+  pub by-line : readByCode goals (lineIn bytes .code) p (readPart goals 7) (lineIn bytes) (linesIn (drop 16 bytes)) ≡ some t
+  unfolding partRead
+  by-line = sym (ap (readPart goals 8 p) (lines-cons bytes has-line)) ∙ e
+
+  pub viewed : View goals p (readPart goals 7) (lineIn bytes) (linesIn (drop 16 bytes)) t
+  viewed = view goals p (readPart goals 7) (lineIn bytes) (linesIn (drop 16 bytes)) t by-line
+
+module _ (goals : ℕ) (p : Bool) (bytes : List ℕ) (l : Line) (is : l ≡ lineIn bytes) (h : Reads goals p bytes) where
+  whole : TakenPart
+  whole = record { part = partIn goals p bytes; rest = restIn goals p bytes }
+
+  seen : View goals p (readPart goals 7) l (linesIn (drop 16 bytes)) whole
+  unfolding whole
+  seen = rw is (viewed goals p bytes whole h)
+
+  node : (op : Op) (q : Bool) → Noded op (readPart goals 7 q) (l .first) (linesIn (drop 16 bytes)) whole
+      → (partIn goals p bytes ≡ Node op (partsIn goals q (l .first) (drop 16 bytes))) × ReadsParts goals q (l .first) (drop 16 bytes)
+  unfolding whole partsRead
+  node op q n = (
+    ap (λ (t : TakenPart). t .part) (sym (n .is)) ∙ ap (Node op) (sym (parts-are goals q (l .first) (drop 16 bytes) (n .taken) (n .read))),
+    reads-parts goals q (l .first) (drop 16 bytes) (n .taken) (n .read),
+  )
+
+  pub a-line : 16 ≤ length bytes
+  unfolding whole
+  a-line = has-line goals p bytes whole h
+
+  pub known-code : (2 ≤ l .code) × (l .code ≤ 6)
+  known-code = a-code seen
+
+  pub is-call : l .code ≡ 2 → (partIn goals p bytes ≡ Call (l .first) (kindOf (l .second)) (eqb (l .third) 1)) × (l .first < goals)
+  unfolding whole
+  is-call k = let v = as-call seen k in (ap (λ (t : TakenPart). t .part) (sym (v .1)), ltb-true _ _ (first-test _ _ _ _ (v .0)))
+    where
+      first-test : (a b c d : Bool) → a && b && c && d ≡ true → a ≡ true
+      first-test true b c d e = refl
+      first-test false b c d e = e
+
+  pub is-all : l .code ≡ 3 → (partIn goals p bytes ≡ Node All (partsIn goals p (l .first) (drop 16 bytes))) × ReadsParts goals p (l .first) (drop 16 bytes)
+  is-all k = node All p (as-all seen k)
+
+  pub is-any : l .code ≡ 4 → (partIn goals p bytes ≡ Node Any (partsIn goals p (l .first) (drop 16 bytes))) × ReadsParts goals p (l .first) (drop 16 bytes)
+  is-any k = node Any p (as-any seen k)
+
+  pub is-pick : l .code ≡ 5 → (p ≡ false) × ((partIn goals p bytes ≡ Node Pick (partsIn goals true (l .first) (drop 16 bytes))) × ReadsParts goals true (l .first) (drop 16 bytes))
+  is-pick k = let v = as-pick seen k in (v .0, node Pick true (v .1))
+
+  pub is-undecided : l .code ≡ 6 → partIn goals p bytes ≡ UndecidedLine
+  unfolding whole
+  is-undecided k = ap (λ (t : TakenPart). t .part) (sym (as-undecided seen k))
+
+-- ---- the parts below it, one by one
+module _ (goals : ℕ) (p : Bool) (n : ℕ) (bytes : List ℕ) (h : ReadsParts goals p n bytes) where
+  pub no-parts : n ≤ 0 → partsIn goals p n bytes ≡ End
+  unfolding partsRead
+  no-parts z = let e : n ≡ 0 = omega arith in ap (λ (m : ℕ). partsIn goals p m bytes) e ∙ parts-are goals p 0 bytes (record { parts = End; rest = linesIn bytes }) refl
+
+  module _ (pos : 0 < n) where
+    one-more : n ≡ suc (n - 1)
+    one-more = omega arith
+
+    split : First (readPart goals 7 p) (n - 1) (linesIn bytes) (record { parts = partsIn goals p n bytes; rest = restAfter goals p n bytes })
+    unfolding partsRead
+    split = uncons (readPart goals 7 p) (n - 1) (linesIn bytes) _ (ap (λ (m : ℕ). readParts (readPart goals 7 p) m (linesIn bytes)) (sym one-more) ∙ h)
+
+    first-read : partRead goals p bytes ≡ some (split .one)
+    unfolding partRead
+    first-read = part-within goals 7 8 (omega arith) p p (looser-refl p) (linesIn bytes) (split .one) (split .one-is)
+
+    pub first-reads : Reads goals p bytes
+    first-reads = reads goals p bytes (split .one) first-read
+
+    module _ (rest : List ℕ) (r : linesIn rest ≡ restIn goals p bytes) where
+      others : partsRead goals p (n - 1) rest ≡ some (split .others)
+      unfolding partsRead
+      others = ap (readParts (readPart goals 7 p) (n - 1)) (r ∙ rest-is goals p bytes (split .one) first-read) ∙ split .others-are
+
+      pub others-read : ReadsParts goals p (n - 1) rest
+      others-read = reads-parts goals p (n - 1) rest (split .others) others
+
+      pub first-then : partsIn goals p n bytes ≡ Then (partIn goals p bytes) (partsIn goals p (n - 1) rest)
+      first-then =
+          ap (λ (t : TakenParts). t .parts) (sym (split .all-are))
+          ∙ λ i. Then (sym (part-is goals p bytes (split .one) first-read) i) (sym (parts-are goals p (n - 1) rest (split .others) others) i)

@@ -1,0 +1,64 @@
+-- The part that bytes start with.
+use mathlib.Core.Path.{_≡_}
+use Prim.Native.Nat.{ℕ, zero, suc}
+use mathlib.Core.Bool.{Bool, true, false, _&&_}
+use mathlib.Core.Option.{Option, none, some}
+use mathlib.Core.List.{List, [], _∷_}
+use lib.Dec.{leb}
+use Rattle.definition.specs.declared.book.Line.{Line}
+use Rattle.definition.specs.Part.{Part, Parts, UndecidedLine, End}
+use Rattle.definition.specs.Reader.{TakenPart, TakenParts, readPart, readParts, nestingLimit}
+use Rattle.book.specs.Lines.{linesIn}
+
+-- how many parts stand below a part's first line
+abbrev pub countIf : Bool → ℕ → ℕ
+countIf true n = n
+countIf false n = 0
+
+abbrev pub partsBelow : Line → ℕ
+partsBelow l = countIf (leb 3 (l .code) && leb (l .code) 5) (l .first)
+
+-- ---- one part, of a book with so many goals; `inPick`: it stands inside a pick
+unfoldable pub partRead : ℕ → Bool → List ℕ → Option TakenPart
+partRead goals inPick bytes = readPart goals nestingLimit inPick (linesIn bytes)
+
+abbrev pub takenOr : Option TakenPart → TakenPart
+takenOr none = record { part = UndecidedLine; rest = [] }
+takenOr (some t) = t
+
+unfoldable pub partIn : ℕ → Bool → List ℕ → Part
+partIn goals inPick bytes = takenOr (partRead goals inPick bytes) .part
+
+-- the lines after it
+unfoldable pub restIn : ℕ → Bool → List ℕ → List Line
+restIn goals inPick bytes = takenOr (partRead goals inPick bytes) .rest
+
+-- the bytes do start with a part
+abbrev pub Reads : ℕ → Bool → List ℕ → Type 0
+Reads goals inPick bytes =
+    partRead goals inPick bytes ≡ some (record { part = partIn goals inPick bytes; rest = restIn goals inPick bytes })
+
+-- for some book
+pub record StartsPart (bytes : List ℕ) : Type 0 where
+  pub goals : ℕ
+  pub inPick : Bool
+  pub reads : Reads goals inPick bytes
+
+-- ---- the parts below a part's first line
+unfoldable pub partsRead : ℕ → Bool → ℕ → List ℕ → Option TakenParts
+partsRead goals inPick n bytes = readParts (readPart goals 7 inPick) n (linesIn bytes)
+
+abbrev pub takenPartsOr : Option TakenParts → TakenParts
+takenPartsOr none = record { parts = End; rest = [] }
+takenPartsOr (some t) = t
+
+unfoldable pub partsIn : ℕ → Bool → ℕ → List ℕ → Parts
+partsIn goals inPick n bytes = takenPartsOr (partsRead goals inPick n bytes) .parts
+
+unfoldable pub restAfter : ℕ → Bool → ℕ → List ℕ → List Line
+restAfter goals inPick n bytes = takenPartsOr (partsRead goals inPick n bytes) .rest
+
+-- the bytes do start with n parts
+abbrev pub ReadsParts : ℕ → Bool → ℕ → List ℕ → Type 0
+ReadsParts goals inPick n bytes =
+    partsRead goals inPick n bytes ≡ some (record { parts = partsIn goals inPick n bytes; rest = restAfter goals inPick n bytes })
