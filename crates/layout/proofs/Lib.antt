@@ -1,3 +1,5 @@
-pub mod Written
 pub mod Blocks
+pub mod Frames
+pub mod Graphs
 pub mod Present
+pub mod Written

@@ -1,0 +1,257 @@
+-- A write in one frame, in one entry or in one block of merged usages changes that one only.
+use mathlib.Core.Path.{_≡_, refl, sym, ap, ap₂, _∙_, subst}
+use mathlib.Core.List.{List, [], _∷_, _++_}
+use Prim.Native.Nat.{ℕ, zero, suc, _+_, _*_, _-_, _≤_, _<_}
+use native.Mathlib.Nat.{zero-add, add-zero, mul-le-mul-right}
+use native.Mathlib.Omega.{arith}
+use lib.ListN.{length, getD, set, drop}
+use Rattle.definition.specs.declared.usages.HeadUsages.{HeadUsages}
+use Rattle.definition.specs.Stack.{Frame, Stack}
+use Rattle.definition.specs.Graph.{Entry, Graph, withStack, withProvisionalCache}
+use Rattle.definition.specs.Query.{workLength}
+use Rattle.buffer.specs.Regions.{region, overwrite}
+use Rattle.buffer.specs.Tables.{listUp, listDown, recordAt, table, tableDown}
+use Rattle.buffer.proofs.Regions.{region-before, region-after}
+use Rattle.buffer.proofs.Tables.{length-up, up-at, up-snoc, length-down, down-at, down-drop, apart, table-below, table-above, table-inside, table-whole, tableDown-below, tableDown-inside, tableDown-push, record-whole, record-other}
+use Rattle.layout.specs.Blocks.{blockSize, candidateOf}
+use Rattle.layout.specs.Frame.{frameSize, frameOf}
+use Rattle.layout.specs.Entry.{entrySize, entryOf}
+use Rattle.layout.specs.Work.{frameStart, entriesStart, entryStart, graphLength, mergedStart, stackOf, entriesOf, mergedOf, graphOf}
+
+-- ---- a table that starts at 0, the last record first
+module _ {A : Type 0} (dec : List ℕ → A) (size : ℕ) where
+  down-unfold : (i : ℕ) (bs : List ℕ) → tableDown dec size 0 (suc i) bs ≡ dec (region (i * size) size bs) ∷ tableDown dec size 0 i bs
+  down-unfold i bs = ap (λ (x : ℕ). dec (region x size bs) ∷ tableDown dec size 0 i bs) (zero-add (i * size))
+
+  module _ (bs : List ℕ) (i : ℕ) (room : i * size + size ≤ length bs) where
+    room-zero : 0 + i * size + size ≤ length bs
+    room-zero = omega arith
+
+    down-inside : (k : ℕ) (ys : List ℕ) → k + length ys ≤ size → (h : ℕ) → i < h
+        → tableDown dec size 0 h (overwrite bs (i * size + k) ys) ≡ set (tableDown dec size 0 h bs) (h - suc i) (dec (overwrite (region (i * size) size bs) k ys))
+    down-inside k ys inner h lt =
+        subst (λ (x : ℕ). tableDown dec size 0 h (overwrite bs (x + k) ys) ≡ set (tableDown dec size 0 h bs) (h - suc i) (dec (overwrite (region x size bs) k ys))) (zero-add (i * size))
+        (tableDown-inside dec size 0 bs i k ys inner room-zero h lt)
+
+    down-push : (ys : List ℕ) → length ys ≡ size → tableDown dec size 0 (suc i) (overwrite bs (i * size) ys) ≡ dec ys ∷ tableDown dec size 0 i bs
+    down-push ys e =
+        subst (λ (x : ℕ). tableDown dec size 0 (suc i) (overwrite bs x ys) ≡ dec ys ∷ tableDown dec size 0 i bs) (zero-add (i * size)) (tableDown-push dec size 0 bs i ys e room-zero)
+
+-- record i of n lies in the bytes
+room-of : (size base n i : ℕ) {len : ℕ} → i < n → base + n * size ≤ len → base + i * size + size ≤ len
+room-of size base n i lt h = omega (arith, apart i n size lt)
+
+-- ---- the stack
+module _ (goals : ℕ) where
+  pub length-stack : (h : ℕ) (bs : List ℕ) → length (stackOf goals h bs) ≡ h
+  unfolding stackOf
+  length-stack h bs = length-down (recordAt (frameOf goals) (frameSize goals) 0 bs) h
+
+  pub stack-unfold : (i : ℕ) (bs : List ℕ) → stackOf goals (suc i) bs ≡ frameOf goals (region (frameStart goals i) (frameSize goals) bs) ∷ stackOf goals i bs
+  unfolding stackOf
+  stack-unfold i bs = down-unfold (frameOf goals) (frameSize goals) i bs
+
+  pub stack-at : (d : Frame) (h i : ℕ) (bs : List ℕ) → i < h → getD (stackOf goals h bs) (h - suc i) d ≡ frameOf goals (region (frameStart goals i) (frameSize goals) bs)
+  unfolding stackOf
+  stack-at d h i bs lt =
+      down-at d (recordAt (frameOf goals) (frameSize goals) 0 bs) h i lt ∙ ap (λ (x : ℕ). frameOf goals (region x (frameSize goals) bs)) (zero-add (frameStart goals i))
+
+  -- the lower frames
+  pub stack-drop : (k h : ℕ) (bs : List ℕ) → drop k (stackOf goals (k + h) bs) ≡ stackOf goals h bs
+  unfolding stackOf
+  stack-drop k h bs = down-drop (recordAt (frameOf goals) (frameSize goals) 0 bs) k h
+
+  -- a write above the frames
+  pub stack-below : (h : ℕ) (bs : List ℕ) (a : ℕ) (ys : List ℕ) → frameStart goals h ≤ a → a + length ys ≤ length bs → stackOf goals h (overwrite bs a ys) ≡ stackOf goals h bs
+  unfolding stackOf
+  stack-below h bs a ys up fits = tableDown-below (frameOf goals) (frameSize goals) 0 bs a ys fits h (subst (λ (x : ℕ). x ≤ a) (sym (zero-add (frameStart goals h))) up)
+
+  -- ---- the entries
+  pub length-entries : (n : ℕ) (bs : List ℕ) → length (entriesOf goals n bs) ≡ n
+  unfolding entriesOf
+  length-entries n bs = length-up (recordAt (entryOf goals) (entrySize goals) (entriesStart goals) bs) n
+
+  pub entries-snoc : (n : ℕ) (bs : List ℕ) → entriesOf goals (suc n) bs ≡ entriesOf goals n bs ++ (entryOf goals (region (entryStart goals n) (entrySize goals) bs) ∷ [])
+  unfolding entriesOf
+  entries-snoc n bs = up-snoc (recordAt (entryOf goals) (entrySize goals) (entriesStart goals) bs) n
+
+  pub entries-at : (d : Entry) (n k : ℕ) (bs : List ℕ) → k < n → getD (entriesOf goals n bs) k d ≡ entryOf goals (region (entryStart goals k) (entrySize goals) bs)
+  unfolding entriesOf
+  entries-at d n k bs lt = up-at d (recordAt (entryOf goals) (entrySize goals) (entriesStart goals) bs) n k lt
+
+  -- a write below the entries
+  pub entries-above : (n : ℕ) (bs : List ℕ) (a : ℕ) (ys : List ℕ) → a + length ys ≤ entriesStart goals → a + length ys ≤ length bs → entriesOf goals n (overwrite bs a ys) ≡ entriesOf goals n bs
+  unfolding entriesOf
+  entries-above n bs a ys down fits = table-above (entryOf goals) (entrySize goals) (entriesStart goals) bs a ys fits n down
+
+  -- a write above n entries
+  pub entries-below : (n : ℕ) (bs : List ℕ) (a : ℕ) (ys : List ℕ) → entryStart goals n ≤ a → a + length ys ≤ length bs → entriesOf goals n (overwrite bs a ys) ≡ entriesOf goals n bs
+  unfolding entriesOf
+  entries-below n bs a ys up fits = table-below (entryOf goals) (entrySize goals) (entriesStart goals) bs a ys fits n up
+
+  -- ---- in the graph's bytes
+  module _ (bs : List ℕ) (long : length bs ≡ graphLength goals) where
+    frames-end : entriesStart goals ≤ length bs
+    frames-end = omega arith
+
+    -- frame i is there
+    pub frame-room : (i : ℕ) → i < goals → frameStart goals i + frameSize goals ≤ length bs
+    frame-room i lt = room-by (goals * frameSize goals) (apart i goals (frameSize goals) lt) frames-end
+      where
+        room-by : (m : ℕ) {l n : ℕ} → l ≤ m → m ≤ n → l ≤ n
+        room-by m p q = omega arith
+
+    pub entry-room : (k : ℕ) → k < 2 * goals → entryStart goals k + entrySize goals ≤ length bs
+    entry-room k lt = room-of (entrySize goals) (entriesStart goals) (2 * goals) k lt (at-most long)
+      where
+        at-most : {m n : ℕ} → n ≡ m → m ≤ n
+        at-most e = omega arith
+
+    -- ---- a write in frame i, k bytes into it
+    module _ (i k : ℕ) (ys : List ℕ) (lt : i < goals) (inner : k + length ys ≤ frameSize goals) where
+      pub stack-inside : (h : ℕ) → i < h
+          → stackOf goals h (overwrite bs (frameStart goals i + k) ys) ≡ set (stackOf goals h bs) (h - suc i) (frameOf goals (overwrite (region (frameStart goals i) (frameSize goals) bs) k ys))
+      unfolding stackOf
+      stack-inside h under = down-inside (frameOf goals) (frameSize goals) bs i (frame-room i lt) k ys inner h under
+
+      pub stack-under : stackOf goals i (overwrite bs (frameStart goals i + k) ys) ≡ stackOf goals i bs
+      stack-under = stack-below i bs (frameStart goals i + k) ys (lower (frameStart goals i)) (fit (frameStart goals i) (frame-room i lt))
+        where
+          lower : (a : ℕ) → a ≤ a + k
+          lower a = omega arith
+
+          fit : (a : ℕ) {n : ℕ} → a + frameSize goals ≤ n → a + k + length ys ≤ n
+          fit a h = omega arith
+
+      pub entries-frame : (n : ℕ) → entriesOf goals n (overwrite bs (frameStart goals i + k) ys) ≡ entriesOf goals n bs
+      entries-frame n =
+          let below : frameStart goals i + k + length ys ≤ entriesStart goals = fit (frameStart goals i) (apart i goals (frameSize goals) lt) in
+          entries-above n bs (frameStart goals i + k) ys below (trans below frames-end)
+        where
+          fit : (a : ℕ) {n : ℕ} → a + frameSize goals ≤ n → a + k + length ys ≤ n
+          fit a h = omega arith
+
+          trans : {l m n : ℕ} → l ≤ m → m ≤ n → l ≤ n
+          trans p q = omega arith
+
+    -- ---- a write of frame i
+    module _ (i : ℕ) (ys : List ℕ) (lt : i < goals) (whole : length ys ≡ frameSize goals) where
+      -- the top
+      pub stack-push : stackOf goals (suc i) (overwrite bs (frameStart goals i) ys) ≡ frameOf goals ys ∷ stackOf goals i bs
+      unfolding stackOf
+      stack-push = down-push (frameOf goals) (frameSize goals) bs i (frame-room i lt) ys whole
+
+      pub entries-push : (n : ℕ) → entriesOf goals n (overwrite bs (frameStart goals i) ys) ≡ entriesOf goals n bs
+      entries-push n =
+          let below : frameStart goals i + length ys ≤ entriesStart goals = fit (frameStart goals i) (apart i goals (frameSize goals) lt) in
+          entries-above n bs (frameStart goals i) ys below (trans below frames-end)
+        where
+          fit : (a : ℕ) {n : ℕ} → a + frameSize goals ≤ n → a + length ys ≤ n
+          fit a h = omega arith
+
+          trans : {l m n : ℕ} → l ≤ m → m ≤ n → l ≤ n
+          trans p q = omega arith
+
+    -- ---- a write in entry k, j bytes into it
+    module _ (k j : ℕ) (ys : List ℕ) (lt : k < 2 * goals) (inner : j + length ys ≤ entrySize goals) where
+      fits-entry : entryStart goals k + j + length ys ≤ length bs
+      fits-entry = fit (entryStart goals k) (entry-room k lt)
+        where
+          fit : (a : ℕ) {n : ℕ} → a + entrySize goals ≤ n → a + j + length ys ≤ n
+          fit a h = omega arith
+
+      pub entries-inside : (n : ℕ) → k < n
+          → entriesOf goals n (overwrite bs (entryStart goals k + j) ys) ≡ set (entriesOf goals n bs) k (entryOf goals (overwrite (region (entryStart goals k) (entrySize goals) bs) j ys))
+      unfolding entriesOf
+      entries-inside n under = table-inside (entryOf goals) (entrySize goals) (entriesStart goals) bs k j ys inner (entry-room k lt) n under
+
+      pub entries-under : (n : ℕ) → n ≤ k → entriesOf goals n (overwrite bs (entryStart goals k + j) ys) ≡ entriesOf goals n bs
+      entries-under n le = entries-below n bs (entryStart goals k + j) ys (up (entriesStart goals) (mul-le-mul-right (entrySize goals) le)) fits-entry
+        where
+          up : (a : ℕ) {x y : ℕ} → x ≤ y → a + x ≤ a + y + j
+          up a h = omega arith
+
+      pub stack-entry : (h : ℕ) → h ≤ goals → stackOf goals h (overwrite bs (entryStart goals k + j) ys) ≡ stackOf goals h bs
+      stack-entry h le = stack-below h bs (entryStart goals k + j) ys (up (k * entrySize goals) (mul-le-mul-right (frameSize goals) le)) fits-entry
+        where
+          up : (x : ℕ) {m n : ℕ} → m ≤ n → m ≤ n + x + j
+          up x h = omega arith
+
+    -- ---- a write of entry k
+    module _ (k : ℕ) (ys : List ℕ) (lt : k < 2 * goals) (whole : length ys ≡ entrySize goals) where
+      pub entries-whole : (n : ℕ) → k < n → entriesOf goals n (overwrite bs (entryStart goals k) ys) ≡ set (entriesOf goals n bs) k (entryOf goals ys)
+      unfolding entriesOf
+      entries-whole n under = table-whole (entryOf goals) (entrySize goals) (entriesStart goals) bs k ys whole (entry-room k lt) n under
+
+      fits-whole : entryStart goals k + length ys ≤ length bs
+      fits-whole = fit (entryStart goals k) (entry-room k lt)
+        where
+          fit : (a : ℕ) {n : ℕ} → a + entrySize goals ≤ n → a + length ys ≤ n
+          fit a h = omega arith
+
+      -- one more
+      pub entries-push-back : entriesOf goals (suc k) (overwrite bs (entryStart goals k) ys) ≡ entriesOf goals k bs ++ (entryOf goals ys ∷ [])
+      unfolding entriesOf
+      entries-push-back =
+          entries-snoc k (overwrite bs (entryStart goals k) ys)
+          ∙ ap₂ (λ (l : List Entry) (e : Entry). l ++ (e ∷ [])) (entries-below k bs (entryStart goals k) ys (same (entryStart goals k)) fits-whole) (record-whole (entryOf goals) (entrySize goals) (entriesStart goals) bs k ys whole (entry-room k lt))
+        where
+          same : (a : ℕ) → a ≤ a
+          same a = omega arith
+
+      pub stack-entry-whole : (h : ℕ) → h ≤ goals → stackOf goals h (overwrite bs (entryStart goals k) ys) ≡ stackOf goals h bs
+      stack-entry-whole h le = stack-below h bs (entryStart goals k) ys (up (k * entrySize goals) (mul-le-mul-right (frameSize goals) le)) fits-whole
+        where
+          up : (x : ℕ) {m n : ℕ} → m ≤ n → m ≤ n + x
+          up x h = omega arith
+
+-- ---- the workspace: the graph, then the merged usages
+pub work-length : (goals : ℕ) → workLength goals ≡ graphLength goals + goals * blockSize goals
+work-length goals = omega arith
+
+module _ (goals : ℕ) (work : List ℕ) (long : length work ≡ workLength goals) where
+  merged-room : (i : ℕ) → i < goals → mergedStart goals i + blockSize goals ≤ length work
+  merged-room i lt = room-of (blockSize goals) (graphLength goals) goals i lt (at-most (long ∙ work-length goals))
+    where
+      at-most : {m n : ℕ} → n ≡ m → m ≤ n
+      at-most e = omega arith
+
+  -- a write of the merged usages of frame i
+  module _ (i : ℕ) (ys : List ℕ) (lt : i < goals) (whole : length ys ≡ blockSize goals) where
+    fits-merged : mergedStart goals i + length ys ≤ length work
+    fits-merged = fit (mergedStart goals i) (merged-room i lt)
+      where
+        fit : (a : ℕ) {n : ℕ} → a + blockSize goals ≤ n → a + length ys ≤ n
+        fit a h = omega arith
+
+    pub merged-whole : mergedOf goals i (overwrite work (mergedStart goals i) ys) ≡ candidateOf goals ys
+    unfolding mergedOf
+    merged-whole = record-whole (candidateOf goals) (blockSize goals) (graphLength goals) work i ys whole (merged-room i lt)
+
+    pub merged-other : (j : ℕ) → (j ≡ i → ⊥) → mergedOf goals j (overwrite work (mergedStart goals i) ys) ≡ mergedOf goals j work
+    unfolding mergedOf
+    merged-other j ne =
+        ap (λ (x : ℕ). recordAt (candidateOf goals) (blockSize goals) (graphLength goals) (overwrite work x ys) j) (sym (add-zero (mergedStart goals i)))
+        ∙ record-other (candidateOf goals) (blockSize goals) (graphLength goals) work i 0 ys (at-most whole) (merged-room i lt) j ne
+      where
+        at-most : {n : ℕ} → length ys ≡ n → 0 + length ys ≤ n
+        at-most e = omega arith
+
+    -- the graph's bytes
+    pub merged-graph : region 0 (graphLength goals) (overwrite work (mergedStart goals i) ys) ≡ region 0 (graphLength goals) work
+    merged-graph = region-before work (mergedStart goals i) ys fits-merged 0 (graphLength goals) (up (graphLength goals) (i * blockSize goals))
+      where
+        up : (a x : ℕ) → 0 + a ≤ a + x
+        up a x = omega arith
+
+  -- a write in the graph's bytes
+  pub graph-merged : (a : ℕ) (ys : List ℕ) → a + length ys ≤ graphLength goals → (i : ℕ) → mergedOf goals i (overwrite work a ys) ≡ mergedOf goals i work
+  unfolding mergedOf
+  graph-merged a ys h i =
+      ap (candidateOf goals) (region-after work a ys (fit (graphLength goals) (goals * blockSize goals) h (long ∙ work-length goals)) (mergedStart goals i) (blockSize goals) (up (graphLength goals) (i * blockSize goals) h))
+    where
+      up : (g x : ℕ) → a + length ys ≤ g → a + length ys ≤ g + x
+      up g x h = omega arith
+
+      fit : (g x : ℕ) → a + length ys ≤ g → length work ≡ g + x → a + length ys ≤ length work
+      fit g x h e = omega arith

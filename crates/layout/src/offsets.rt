@@ -1,0 +1,95 @@
+// Where frames, entries and merged usages start, and how long they are.
+ghost use mathlib.Core.Path.{_≡_};
+ghost use Prim.Native.Nat.{_+_, _*_, _<_, _≤_};
+ghost use Rattle.definition.specs.Query.{workLength};
+ghost use Rattle.layout.specs.Blocks.{headsSize, blockSize};
+ghost use Rattle.layout.specs.Frame.{candidateStart, nestedStart, frameSize};
+ghost use Rattle.layout.specs.Entry.{entrySize};
+ghost use Rattle.layout.specs.Work.{frameStart, entryStart, graphLength, mergedStart};
+
+pub fn heads_size(goals: usize) -> usize
+    requires { ⌜ goals ≤ 64 ⌝ }
+    ensures { λ r. ⌜ r ≡ headsSize goals ⌝ }
+{
+    8 + goals * 33
+}
+
+pub fn block_size(goals: usize) -> usize
+    requires { ⌜ goals ≤ 64 ⌝ }
+    ensures { λ r. ⌜ r ≡ blockSize goals ⌝ }
+{
+    8 + goals * 32
+}
+
+// In a frame: candidate usages, and nested goals.
+pub fn candidate_start(goals: usize) -> usize
+    requires { ⌜ goals ≤ 64 ⌝ }
+    ensures { λ r. ⌜ r ≡ candidateStart goals ⌝ }
+{
+    48 + goals * 33
+}
+
+pub fn nested_start(goals: usize) -> usize
+    requires { ⌜ goals ≤ 64 ⌝ }
+    ensures { λ r. ⌜ r ≡ nestedStart goals ⌝ }
+{
+    56 + goals * 65
+}
+
+pub fn frame_size(goals: usize) -> usize
+    requires { ⌜ goals ≤ 64 ⌝ }
+    ensures { λ r. ⌜ r ≡ frameSize goals ⌝ }
+{
+    56 + goals * 66
+}
+
+pub fn entry_size(goals: usize) -> usize
+    requires { ⌜ goals ≤ 64 ⌝ }
+    ensures { λ r. ⌜ r ≡ entrySize goals ⌝ }
+{
+    16 + goals * 33
+}
+
+fn times(a: usize, b: usize) -> usize
+    requires { ⌜ (a ≤ 256) × (b ≤ 8192) ⌝ }
+    ensures { λ r. ⌜ (r ≡ a * b) × (r ≤ 2097152) ⌝ }
+{
+    a * b
+}
+
+// In the graph: a frame, and an entry.
+pub fn frame_start(goals: usize, i: usize) -> usize
+    requires { ⌜ (goals ≤ 64) × (i ≤ 64) ⌝ }
+    ensures { λ r. ⌜ (r ≡ frameStart goals i) × (r ≤ 2097152) ⌝ }
+{
+    times(i, frame_size(goals))
+}
+
+pub fn entry_start(goals: usize, i: usize) -> usize
+    requires { ⌜ (goals ≤ 64) × (i ≤ 128) ⌝ }
+    ensures { λ r. ⌜ (r ≡ entryStart goals i) × (r ≤ 4194304) ⌝ }
+{
+    frame_start(goals, goals) + times(i, entry_size(goals))
+}
+
+pub fn graph_length(goals: usize) -> usize
+    requires { ⌜ goals ≤ 64 ⌝ }
+    ensures { λ r. ⌜ (r ≡ graphLength goals) × (r ≤ 4194304) ⌝ }
+{
+    entry_start(goals, 2 * goals)
+}
+
+// In the workspace: the merged usages of a pick at frame i.
+pub fn merged_start(goals: usize, i: usize) -> usize
+    requires { ⌜ (goals ≤ 64) × (i ≤ 64) ⌝ }
+    ensures { λ r. ⌜ (r ≡ mergedStart goals i) × (r ≤ 6291456) ⌝ }
+{
+    graph_length(goals) + times(i, block_size(goals))
+}
+
+pub fn work_length(goals: usize) -> usize
+    requires { ⌜ goals ≤ 64 ⌝ }
+    ensures { λ r. ⌜ (r ≡ workLength goals) × (r ≤ 2097152) ⌝ }
+{
+    times(4 * goals, 41 * goals + 24)
+}
