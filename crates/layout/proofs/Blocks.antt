@@ -1,8 +1,8 @@
 -- Blocks: a mask and a record for each index; once, over the size of a record and what it reads as.
-use mathlib.Core.Path.{_≡_, refl, sym, ap, ap₂, _∙_}
+use mathlib.Core.Path.{_≡_, sym, ap, ap₂, _∙_}
 use mathlib.Core.Bool.{Bool, true, false}
-use mathlib.Core.List.{List, [], _∷_, _++_}
-use Prim.Native.Nat.{ℕ, zero, suc, _+_, _*_, _-_, _^_, _≤_, _<_}
+use mathlib.Core.List.{List}
+use Prim.Native.Nat.{ℕ, _+_, _*_, _^_, _≤_, _<_}
 use native.Mathlib.Nat.{add-zero}
 use native.Mathlib.Omega.{arith}
 use lib.ListN.{length, getD, set, replicate, length-replicate, getD-replicate}
@@ -12,11 +12,10 @@ use Rattle.bits.proofs.Flags.{length-flags, flags-zero}
 use Rattle.buffer.specs.Numbers.{numberOf, bytesOf}
 use Rattle.buffer.specs.Regions.{region, overwrite}
 use Rattle.buffer.specs.Tables.{listUp}
-use Rattle.buffer.proofs.Numbers.{length-bytes}
-use Rattle.buffer.proofs.Regions.{region-same, region-before, region-after, length-overwrite}
-use Rattle.buffer.proofs.Tables.{length-up, up-at, up-set, up-same, record-whole, record-other}
+use Rattle.buffer.proofs.Regions.{region-before, region-after, length-overwrite}
+use Rattle.buffer.proofs.Tables.{length-up, up-at, up-set, record-whole, record-other}
 use Rattle.layout.specs.Blocks.{flagAt, keptAt}
-use Rattle.layout.proofs.Written.{number-back, number-length}
+use Rattle.layout.proofs.Written.{number-back}
 
 -- ---- a mask that is written
 module _ (bs : List ℕ) (m : ℕ) (small : m < 2 ^ 64) (long : 8 ≤ length bs) where

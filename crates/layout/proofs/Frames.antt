@@ -1,9 +1,9 @@
 -- A write in one field of a frame or of an entry changes that field only.
-use mathlib.Core.Path.{_≡_, refl, sym, ap, ap₂, _∙_}
-use mathlib.Core.Bool.{Bool, true, false}
-use mathlib.Core.List.{List, [], _∷_, _++_}
-use mathlib.Core.Option.{Option, none, some}
-use Prim.Native.Nat.{ℕ, zero, suc, _+_, _*_, _-_, _≤_, _<_}
+use mathlib.Core.Path.{_≡_, sym, ap, _∙_}
+use mathlib.Core.Bool.{true, false}
+use mathlib.Core.List.{List, [], _∷_}
+use mathlib.Core.Option.{Option}
+use Prim.Native.Nat.{ℕ, _+_, _≤_, _<_}
 use native.Mathlib.Omega.{arith}
 use native.Mathlib.Nat.{add-zero}
 use native.Mathlib.Decide.{ℕ-discrete}
@@ -20,8 +20,7 @@ use Rattle.definition.specs.Stack.{Frame}
 use Rattle.definition.specs.Candidates.{withUsages}
 use Rattle.definition.specs.Graph.{Entry}
 use Rattle.buffer.specs.Regions.{region, overwrite}
-use Rattle.buffer.specs.Tables.{listUp}
-use Rattle.buffer.proofs.Regions.{region-same, region-before, region-after, region-inside, byte-before, overwrite-one, overwrite-all, length-region}
+use Rattle.buffer.proofs.Regions.{region-before, region-after, region-inside, byte-before, overwrite-one, overwrite-all, length-region}
 use Rattle.buffer.proofs.Tables.{length-up}
 use Rattle.layout.specs.Blocks.{usagesSize, usagesOf, headsSize, headsOf, blockSize, candidateOf, headAt, usagesIn}
 use Rattle.layout.specs.Frame.{usagesStart, headsStart, candidateStart, nestedStart, frameSize, truth, resultOf, whenSet, frameOf}

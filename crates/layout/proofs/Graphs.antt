@@ -1,16 +1,15 @@
 -- A write in one frame, in one entry or in one block of merged usages changes that one only.
 use mathlib.Core.Path.{_≡_, refl, sym, ap, ap₂, _∙_, subst}
 use mathlib.Core.List.{List, [], _∷_, _++_}
-use Prim.Native.Nat.{ℕ, zero, suc, _+_, _*_, _-_, _≤_, _<_}
+use Prim.Native.Nat.{ℕ, suc, _+_, _*_, _-_, _≤_, _<_}
 use native.Mathlib.Nat.{zero-add, add-zero, mul-le-mul-right}
 use native.Mathlib.Omega.{arith}
 use lib.ListN.{length, getD, set, drop}
-use Rattle.definition.specs.declared.usages.HeadUsages.{HeadUsages}
-use Rattle.definition.specs.Stack.{Frame, Stack}
-use Rattle.definition.specs.Graph.{Entry, Graph, withStack, withProvisionalCache}
+use Rattle.definition.specs.Stack.{Frame}
+use Rattle.definition.specs.Graph.{Entry, withStack, withProvisionalCache}
 use Rattle.definition.specs.Query.{workLength}
 use Rattle.buffer.specs.Regions.{region, overwrite}
-use Rattle.buffer.specs.Tables.{listUp, listDown, recordAt, table, tableDown}
+use Rattle.buffer.specs.Tables.{recordAt, table, tableDown}
 use Rattle.buffer.proofs.Regions.{region-before, region-after}
 use Rattle.buffer.proofs.Tables.{length-up, up-at, up-snoc, length-down, down-at, down-drop, apart, table-below, table-above, table-inside, table-whole, tableDown-below, tableDown-inside, tableDown-push, record-whole, record-other}
 use Rattle.layout.specs.Blocks.{blockSize, candidateOf}
@@ -36,6 +35,25 @@ module _ {A : Type 0} (dec : List ℕ → A) (size : ℕ) where
     down-push : (ys : List ℕ) → length ys ≡ size → tableDown dec size 0 (suc i) (overwrite bs (i * size) ys) ≡ dec ys ∷ tableDown dec size 0 i bs
     down-push ys e =
         subst (λ (x : ℕ). tableDown dec size 0 (suc i) (overwrite bs x ys) ≡ dec ys ∷ tableDown dec size 0 i bs) (zero-add (i * size)) (tableDown-push dec size 0 bs i ys e room-zero)
+
+-- ---- orders, over what the sizes are
+trans : {l m n : ℕ} → l ≤ m → m ≤ n → l ≤ n
+trans p q = omega arith
+
+at-least : {m n : ℕ} → n ≡ m → m ≤ n
+at-least e = omega arith
+
+more : (a x : ℕ) → a ≤ a + x
+more a x = omega arith
+
+whole-fits : (a : ℕ) {x y n : ℕ} → x ≡ y → a + y ≤ n → a + x ≤ n
+whole-fits a e h = omega arith
+
+into-fits : (a k x : ℕ) {y n : ℕ} → k + x ≤ y → a + y ≤ n → a + k + x ≤ n
+into-fits a k x p h = omega arith
+
+add-both : (a j : ℕ) {x y : ℕ} → x ≤ y → a + x ≤ a + y + j
+add-both a j h = omega arith
 
 -- record i of n lies in the bytes
 room-of : (size base n i : ℕ) {len : ℕ} → i < n → base + n * size ≤ len → base + i * size + size ≤ len
@@ -96,16 +114,10 @@ module _ (goals : ℕ) where
 
     -- frame i is there
     pub frame-room : (i : ℕ) → i < goals → frameStart goals i + frameSize goals ≤ length bs
-    frame-room i lt = room-by (goals * frameSize goals) (apart i goals (frameSize goals) lt) frames-end
-      where
-        room-by : (m : ℕ) {l n : ℕ} → l ≤ m → m ≤ n → l ≤ n
-        room-by m p q = omega arith
+    frame-room i lt = trans (apart i goals (frameSize goals) lt) frames-end
 
     pub entry-room : (k : ℕ) → k < 2 * goals → entryStart goals k + entrySize goals ≤ length bs
-    entry-room k lt = room-of (entrySize goals) (entriesStart goals) (2 * goals) k lt (at-most long)
-      where
-        at-most : {m n : ℕ} → n ≡ m → m ≤ n
-        at-most e = omega arith
+    entry-room k lt = room-of (entrySize goals) (entriesStart goals) (2 * goals) k lt (at-least long)
 
     -- ---- a write in frame i, k bytes into it
     module _ (i k : ℕ) (ys : List ℕ) (lt : i < goals) (inner : k + length ys ≤ frameSize goals) where
@@ -115,24 +127,12 @@ module _ (goals : ℕ) where
       stack-inside h under = down-inside (frameOf goals) (frameSize goals) bs i (frame-room i lt) k ys inner h under
 
       pub stack-under : stackOf goals i (overwrite bs (frameStart goals i + k) ys) ≡ stackOf goals i bs
-      stack-under = stack-below i bs (frameStart goals i + k) ys (lower (frameStart goals i)) (fit (frameStart goals i) (frame-room i lt))
-        where
-          lower : (a : ℕ) → a ≤ a + k
-          lower a = omega arith
-
-          fit : (a : ℕ) {n : ℕ} → a + frameSize goals ≤ n → a + k + length ys ≤ n
-          fit a h = omega arith
+      stack-under = stack-below i bs (frameStart goals i + k) ys (more (frameStart goals i) k) (into-fits (frameStart goals i) k (length ys) inner (frame-room i lt))
 
       pub entries-frame : (n : ℕ) → entriesOf goals n (overwrite bs (frameStart goals i + k) ys) ≡ entriesOf goals n bs
       entries-frame n =
-          let below : frameStart goals i + k + length ys ≤ entriesStart goals = fit (frameStart goals i) (apart i goals (frameSize goals) lt) in
+          let below : frameStart goals i + k + length ys ≤ entriesStart goals = into-fits (frameStart goals i) k (length ys) inner (apart i goals (frameSize goals) lt) in
           entries-above n bs (frameStart goals i + k) ys below (trans below frames-end)
-        where
-          fit : (a : ℕ) {n : ℕ} → a + frameSize goals ≤ n → a + k + length ys ≤ n
-          fit a h = omega arith
-
-          trans : {l m n : ℕ} → l ≤ m → m ≤ n → l ≤ n
-          trans p q = omega arith
 
     -- ---- a write of frame i
     module _ (i : ℕ) (ys : List ℕ) (lt : i < goals) (whole : length ys ≡ frameSize goals) where
@@ -143,22 +143,13 @@ module _ (goals : ℕ) where
 
       pub entries-push : (n : ℕ) → entriesOf goals n (overwrite bs (frameStart goals i) ys) ≡ entriesOf goals n bs
       entries-push n =
-          let below : frameStart goals i + length ys ≤ entriesStart goals = fit (frameStart goals i) (apart i goals (frameSize goals) lt) in
+          let below : frameStart goals i + length ys ≤ entriesStart goals = whole-fits (frameStart goals i) whole (apart i goals (frameSize goals) lt) in
           entries-above n bs (frameStart goals i) ys below (trans below frames-end)
-        where
-          fit : (a : ℕ) {n : ℕ} → a + frameSize goals ≤ n → a + length ys ≤ n
-          fit a h = omega arith
-
-          trans : {l m n : ℕ} → l ≤ m → m ≤ n → l ≤ n
-          trans p q = omega arith
 
     -- ---- a write in entry k, j bytes into it
     module _ (k j : ℕ) (ys : List ℕ) (lt : k < 2 * goals) (inner : j + length ys ≤ entrySize goals) where
       fits-entry : entryStart goals k + j + length ys ≤ length bs
-      fits-entry = fit (entryStart goals k) (entry-room k lt)
-        where
-          fit : (a : ℕ) {n : ℕ} → a + entrySize goals ≤ n → a + j + length ys ≤ n
-          fit a h = omega arith
+      fits-entry = into-fits (entryStart goals k) j (length ys) inner (entry-room k lt)
 
       pub entries-inside : (n : ℕ) → k < n
           → entriesOf goals n (overwrite bs (entryStart goals k + j) ys) ≡ set (entriesOf goals n bs) k (entryOf goals (overwrite (region (entryStart goals k) (entrySize goals) bs) j ys))
@@ -166,16 +157,10 @@ module _ (goals : ℕ) where
       entries-inside n under = table-inside (entryOf goals) (entrySize goals) (entriesStart goals) bs k j ys inner (entry-room k lt) n under
 
       pub entries-under : (n : ℕ) → n ≤ k → entriesOf goals n (overwrite bs (entryStart goals k + j) ys) ≡ entriesOf goals n bs
-      entries-under n le = entries-below n bs (entryStart goals k + j) ys (up (entriesStart goals) (mul-le-mul-right (entrySize goals) le)) fits-entry
-        where
-          up : (a : ℕ) {x y : ℕ} → x ≤ y → a + x ≤ a + y + j
-          up a h = omega arith
+      entries-under n le = entries-below n bs (entryStart goals k + j) ys (add-both (entriesStart goals) j (mul-le-mul-right (entrySize goals) le)) fits-entry
 
       pub stack-entry : (h : ℕ) → h ≤ goals → stackOf goals h (overwrite bs (entryStart goals k + j) ys) ≡ stackOf goals h bs
-      stack-entry h le = stack-below h bs (entryStart goals k + j) ys (up (k * entrySize goals) (mul-le-mul-right (frameSize goals) le)) fits-entry
-        where
-          up : (x : ℕ) {m n : ℕ} → m ≤ n → m ≤ n + x + j
-          up x h = omega arith
+      stack-entry h le = stack-below h bs (entryStart goals k + j) ys (trans (mul-le-mul-right (frameSize goals) le) (trans (more (entriesStart goals) (k * entrySize goals)) (more (entryStart goals k) j))) fits-entry
 
     -- ---- a write of entry k
     module _ (k : ℕ) (ys : List ℕ) (lt : k < 2 * goals) (whole : length ys ≡ entrySize goals) where
@@ -184,26 +169,43 @@ module _ (goals : ℕ) where
       entries-whole n under = table-whole (entryOf goals) (entrySize goals) (entriesStart goals) bs k ys whole (entry-room k lt) n under
 
       fits-whole : entryStart goals k + length ys ≤ length bs
-      fits-whole = fit (entryStart goals k) (entry-room k lt)
-        where
-          fit : (a : ℕ) {n : ℕ} → a + entrySize goals ≤ n → a + length ys ≤ n
-          fit a h = omega arith
+      fits-whole = whole-fits (entryStart goals k) whole (entry-room k lt)
 
       -- one more
       pub entries-push-back : entriesOf goals (suc k) (overwrite bs (entryStart goals k) ys) ≡ entriesOf goals k bs ++ (entryOf goals ys ∷ [])
       unfolding entriesOf
       entries-push-back =
           entries-snoc k (overwrite bs (entryStart goals k) ys)
-          ∙ ap₂ (λ (l : List Entry) (e : Entry). l ++ (e ∷ [])) (entries-below k bs (entryStart goals k) ys (same (entryStart goals k)) fits-whole) (record-whole (entryOf goals) (entrySize goals) (entriesStart goals) bs k ys whole (entry-room k lt))
-        where
-          same : (a : ℕ) → a ≤ a
-          same a = omega arith
+          ∙ ap₂ (λ (l : List Entry) (e : Entry). l ++ (e ∷ [])) (entries-below k bs (entryStart goals k) ys (at-least refl) fits-whole) (record-whole (entryOf goals) (entrySize goals) (entriesStart goals) bs k ys whole (entry-room k lt))
 
       pub stack-entry-whole : (h : ℕ) → h ≤ goals → stackOf goals h (overwrite bs (entryStart goals k) ys) ≡ stackOf goals h bs
-      stack-entry-whole h le = stack-below h bs (entryStart goals k) ys (up (k * entrySize goals) (mul-le-mul-right (frameSize goals) le)) fits-whole
-        where
-          up : (x : ℕ) {m n : ℕ} → m ≤ n → m ≤ n + x
-          up x h = omega arith
+      stack-entry-whole h le = stack-below h bs (entryStart goals k) ys (trans (mul-le-mul-right (frameSize goals) le) (more (entriesStart goals) (k * entrySize goals))) fits-whole
+
+-- ---- the graph
+module _ (goals root : ℕ) (bs cache : List ℕ) (long : length bs ≡ graphLength goals) where
+  -- the top frame is written
+  pub graph-top : (i n : ℕ) (ys : List ℕ) → i < goals → length ys ≡ frameSize goals
+      → graphOf goals root (suc i) n (overwrite bs (frameStart goals i) ys) cache ≡ withStack (graphOf goals root i n bs cache) (frameOf goals ys ∷ stackOf goals i bs)
+  graph-top i n ys lt whole =
+      let es = stack-push goals bs long i ys lt whole in
+      let ee = entries-push goals bs long i ys lt whole n in
+      λ t. record { rootDepth = root; stack = es t; provisionalCache = ee t; globalCache = cache }
+
+  -- entry k is written
+  pub graph-entry : (h n k : ℕ) (ys : List ℕ) → h ≤ goals → k < n → n ≤ 2 * goals → length ys ≡ entrySize goals
+      → graphOf goals root h n (overwrite bs (entryStart goals k) ys) cache ≡ withProvisionalCache (graphOf goals root h n bs cache) (set (entriesOf goals n bs) k (entryOf goals ys))
+  graph-entry h n k ys le lt few whole =
+      let es = stack-entry-whole goals bs long k ys (omega arith) whole h le in
+      let ee = entries-whole goals bs long k ys (omega arith) whole n lt in
+      λ t. record { rootDepth = root; stack = es t; provisionalCache = ee t; globalCache = cache }
+
+  -- one entry more
+  pub graph-append : (h k : ℕ) (ys : List ℕ) → h ≤ goals → k < 2 * goals → length ys ≡ entrySize goals
+      → graphOf goals root h (suc k) (overwrite bs (entryStart goals k) ys) cache ≡ withProvisionalCache (graphOf goals root h k bs cache) (entriesOf goals k bs ++ (entryOf goals ys ∷ []))
+  graph-append h k ys le lt whole =
+      let es = stack-entry-whole goals bs long k ys lt whole h le in
+      let ee = entries-push-back goals bs long k ys lt whole in
+      λ t. record { rootDepth = root; stack = es t; provisionalCache = ee t; globalCache = cache }
 
 -- ---- the workspace: the graph, then the merged usages
 pub work-length : (goals : ℕ) → workLength goals ≡ graphLength goals + goals * blockSize goals
@@ -211,18 +213,12 @@ work-length goals = omega arith
 
 module _ (goals : ℕ) (work : List ℕ) (long : length work ≡ workLength goals) where
   merged-room : (i : ℕ) → i < goals → mergedStart goals i + blockSize goals ≤ length work
-  merged-room i lt = room-of (blockSize goals) (graphLength goals) goals i lt (at-most (long ∙ work-length goals))
-    where
-      at-most : {m n : ℕ} → n ≡ m → m ≤ n
-      at-most e = omega arith
+  merged-room i lt = room-of (blockSize goals) (graphLength goals) goals i lt (at-least (long ∙ work-length goals))
 
   -- a write of the merged usages of frame i
   module _ (i : ℕ) (ys : List ℕ) (lt : i < goals) (whole : length ys ≡ blockSize goals) where
     fits-merged : mergedStart goals i + length ys ≤ length work
-    fits-merged = fit (mergedStart goals i) (merged-room i lt)
-      where
-        fit : (a : ℕ) {n : ℕ} → a + blockSize goals ≤ n → a + length ys ≤ n
-        fit a h = omega arith
+    fits-merged = whole-fits (mergedStart goals i) whole (merged-room i lt)
 
     pub merged-whole : mergedOf goals i (overwrite work (mergedStart goals i) ys) ≡ candidateOf goals ys
     unfolding mergedOf
@@ -232,26 +228,14 @@ module _ (goals : ℕ) (work : List ℕ) (long : length work ≡ workLength goal
     unfolding mergedOf
     merged-other j ne =
         ap (λ (x : ℕ). recordAt (candidateOf goals) (blockSize goals) (graphLength goals) (overwrite work x ys) j) (sym (add-zero (mergedStart goals i)))
-        ∙ record-other (candidateOf goals) (blockSize goals) (graphLength goals) work i 0 ys (at-most whole) (merged-room i lt) j ne
-      where
-        at-most : {n : ℕ} → length ys ≡ n → 0 + length ys ≤ n
-        at-most e = omega arith
+        ∙ record-other (candidateOf goals) (blockSize goals) (graphLength goals) work i 0 ys (whole-fits 0 whole (at-least (sym (zero-add (blockSize goals))))) (merged-room i lt) j ne
 
     -- the graph's bytes
     pub merged-graph : region 0 (graphLength goals) (overwrite work (mergedStart goals i) ys) ≡ region 0 (graphLength goals) work
-    merged-graph = region-before work (mergedStart goals i) ys fits-merged 0 (graphLength goals) (up (graphLength goals) (i * blockSize goals))
-      where
-        up : (a x : ℕ) → 0 + a ≤ a + x
-        up a x = omega arith
+    merged-graph = region-before work (mergedStart goals i) ys fits-merged 0 (graphLength goals) (trans (at-least (sym (zero-add (graphLength goals)))) (more (graphLength goals) (i * blockSize goals)))
 
   -- a write in the graph's bytes
   pub graph-merged : (a : ℕ) (ys : List ℕ) → a + length ys ≤ graphLength goals → (i : ℕ) → mergedOf goals i (overwrite work a ys) ≡ mergedOf goals i work
   unfolding mergedOf
   graph-merged a ys h i =
-      ap (candidateOf goals) (region-after work a ys (fit (graphLength goals) (goals * blockSize goals) h (long ∙ work-length goals)) (mergedStart goals i) (blockSize goals) (up (graphLength goals) (i * blockSize goals) h))
-    where
-      up : (g x : ℕ) → a + length ys ≤ g → a + length ys ≤ g + x
-      up g x h = omega arith
-
-      fit : (g x : ℕ) → a + length ys ≤ g → length work ≡ g + x → a + length ys ≤ length work
-      fit g x h e = omega arith
+      ap (candidateOf goals) (region-after work a ys (trans h (trans (more (graphLength goals) (goals * blockSize goals)) (at-least (long ∙ work-length goals)))) (mergedStart goals i) (blockSize goals) (trans h (more (graphLength goals) (i * blockSize goals))))

@@ -1,9 +1,9 @@
 -- The indices that have a head, as flags of the mask, and as places.
-use mathlib.Core.Path.{_≡_, refl, sym, ap, ap₂, _∙_}
+use mathlib.Core.Path.{_≡_, refl, sym, ap, _∙_}
 use mathlib.Core.Bool.{Bool, true, false}
 use mathlib.Core.List.{List, [], _∷_, _++_}
 use mathlib.Core.Option.{Option, none, some}
-use Prim.Native.Nat.{ℕ, zero, suc, _+_, _*_, _-_, _^_, _≤_, _<_}
+use Prim.Native.Nat.{ℕ, zero, suc, _+_, _*_, _^_, _≤_, _<_}
 use native.Mathlib.Omega.{arith}
 use native.Mathlib.Decide.{ℕ-discrete}
 use borrow.Author.Tests.{eq-eqb, ne-eqb}
@@ -18,8 +18,8 @@ use Rattle.bits.proofs.Places.{last-more, last-none, last-some}
 use Rattle.buffer.specs.Numbers.{numberOf}
 use Rattle.buffer.specs.Regions.{region}
 use Rattle.buffer.specs.Tables.{listUp}
-use Rattle.buffer.proofs.Tables.{up-at, length-up}
-use Rattle.layout.specs.Blocks.{flagAt, keptAt, headOf, headAt, headsOf, present}
+use Rattle.buffer.proofs.Tables.{up-at}
+use Rattle.layout.specs.Blocks.{flagAt, headOf, headAt, headsOf, present}
 use Rattle.layout.proofs.Blocks.{kept-set, kept-clear}
 
 -- a list's first flags
@@ -30,16 +30,15 @@ firsts [] (suc n) h = absurd (omega arith)
 firsts (x ∷ xs) (suc n) h = ap (λ (l : List Bool). x ∷ l) (firsts xs n (omega arith))
 
 -- flags that say of each index whether it has a head
-module _ where
-  present-up : (f : ℕ → Option CycleHead) (g : ℕ → Bool) (n : ℕ) → ((i : ℕ) → i < n → present (f i ∷ []) ≡ g i ∷ []) → present (listUp f n) ≡ listUp g n
-  unfolding listUp
-  present-up f g zero h = refl
-  present-up f g (suc n) h = step (f 0) (g 0) (present-up (λ i. f (suc i)) (λ i. g (suc i)) n (λ i l. h (suc i) (omega arith))) (h 0 (omega arith))
-    where
-      step : (o : Option CycleHead) (t : Bool) → present (listUp (λ i. f (suc i)) n) ≡ listUp (λ i. g (suc i)) n → present (o ∷ []) ≡ t ∷ []
-          → present (o ∷ listUp (λ i. f (suc i)) n) ≡ t ∷ listUp (λ i. g (suc i)) n
-      step none t e d = cc
-      step (some x) t e d = cc
+present-up : (f : ℕ → Option CycleHead) (g : ℕ → Bool) (n : ℕ) → ((i : ℕ) → i < n → present (f i ∷ []) ≡ g i ∷ []) → present (listUp f n) ≡ listUp g n
+unfolding listUp
+present-up f g zero h = refl
+present-up f g (suc n) h = step (f 0) (g 0) (present-up (λ i. f (suc i)) (λ i. g (suc i)) n (λ i l. h (suc i) (omega arith))) (h 0 (omega arith))
+  where
+    step : (o : Option CycleHead) (t : Bool) → present (listUp (λ i. f (suc i)) n) ≡ listUp (λ i. g (suc i)) n → present (o ∷ []) ≡ t ∷ []
+        → present (o ∷ listUp (λ i. f (suc i)) n) ≡ t ∷ listUp (λ i. g (suc i)) n
+    step none t e d = cc
+    step (some x) t e d = cc
 
 pub present-one : (bs : List ℕ) (i : ℕ) → present (headAt bs i ∷ []) ≡ flagAt bs i ∷ []
 present-one bs i = go (flagAt bs i) refl
@@ -61,25 +60,21 @@ pub present-at : (goals : ℕ) (bs : List ℕ) (i : ℕ) → i < goals → getD 
 present-at goals bs i lt = ap (λ (l : List Bool). getD l i false) (present-flags goals bs) ∙ up-at false (flagAt bs) goals i lt
 
 -- ---- the places
+next : (o : Option ℕ) → nextPlace o ≡ elim o [ none ↦ none | some i ↦ some (suc i) ]
+next none = refl
+next (some i) = refl
+
 pub lowest-place : (hs : CycleHeads) → firstPlace (present hs) ≡ optLowestIndex hs
 unfolding firstPlace
 lowest-place [] = refl
 lowest-place (some h ∷ hs) = refl
 lowest-place (none ∷ hs) = ap nextPlace (lowest-place hs) ∙ next (optLowestIndex hs)
-  where
-    next : (o : Option ℕ) → nextPlace o ≡ elim o [ none ↦ none | some i ↦ some (suc i) ]
-    next none = refl
-    next (some i) = refl
 
 pub highest-place : (hs : CycleHeads) → lastPlace (present hs) ≡ optHighestIndex hs
 unfolding lastPlace
 highest-place [] = refl
 highest-place (some h ∷ hs) = ap (λ (o : Option ℕ). elim o [ none ↦ some 0 | some i ↦ some (suc i) ]) (highest-place hs)
 highest-place (none ∷ hs) = ap nextPlace (highest-place hs) ∙ next (optHighestIndex hs)
-  where
-    next : (o : Option ℕ) → nextPlace o ≡ elim o [ none ↦ none | some i ↦ some (suc i) ]
-    next none = refl
-    next (some i) = refl
 
 -- a mask of the heads
 module _ (hs : CycleHeads) (n m : ℕ) (is : flags 64 m ≡ present hs ++ replicate n false) where

@@ -11,7 +11,7 @@ use Rattle.definition.specs.declared.heads.CycleHead.{CycleHead}
 use Rattle.definition.specs.Usages.{noUsages}
 use Rattle.definition.specs.Heads.{CycleHeads}
 use Rattle.bits.specs.Masks.{flags}
-use Rattle.buffer.specs.Numbers.{numberOf, bytesOf}
+use Rattle.buffer.specs.Numbers.{numberOf}
 use Rattle.buffer.specs.Regions.{region}
 use Rattle.buffer.specs.Tables.{listUp}
 

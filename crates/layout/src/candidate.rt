@@ -2,8 +2,8 @@
 use crate::records;
 use definition::usages::HeadUsages;
 ghost use mathlib.Core.Path.{_≡_};
-ghost use Prim.Native.Nat.{ℕ, _<_, _≤_};
-ghost use lib.ListN.{length, getD, set};
+ghost use Prim.Native.Nat.{_<_};
+ghost use lib.ListN.{getD, set};
 ghost use Rattle.definition.specs.Usages.{noUsages};
 ghost use Rattle.definition.specs.Candidates.{noCandidateUsages};
 ghost use Rattle.layout.specs.Blocks.{UsagesBlock, candidateOf};

@@ -1,4 +1,4 @@
-use mathlib.Core.Path.{_≡_, refl, sym, ap, ap₂, _∙_}
+use mathlib.Core.Path.{ap, _∙_}
 use native.Mathlib.Omega.{arith}
 use Rattle.definition.specs.Usages.{noUsages}
 use Rattle.layout.specs.Blocks.{usagesOf, candidateOf}
@@ -6,19 +6,13 @@ use Rattle.layout.proofs.Blocks.{block-clear}
 use borrow.Author.Needs.{needs}
 use Rattle.layout.proofs.candidate.clear.Statement.{statement}
 use Rattle.layout.proofs.candidate.clear.Tie as tie
-use Rattle.layout.proofs.candidate.clear.Reads as reads
-use Rattle.layout.proofs.candidate.clear.Lts as lts
-use Rattle.buffer.proofs.write_u64.Reads as write-u64-reads
 
--- src/candidate.rt:15:5
 write-u64-requires : tie.Need-write-u64-requires
 write-u64-requires c κs = search needs
 
--- src/candidate.rt:11:1
 same-length : tie.Need-same-length
 same-length c = search needs
 
--- src/candidate.rt:11:1
 returns : tie.Need-returns
 unfolding candidateOf
 returns c =

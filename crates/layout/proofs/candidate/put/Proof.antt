@@ -1,77 +1,53 @@
-use mathlib.Core.Path.{_≡_, refl, sym, ap, ap₂, _∙_}
+use mathlib.Core.Path.{_≡_, sym, ap, _∙_}
 use Prim.Native.Nat.{ℕ, _+_, _*_, _-_, _^_, _<_, _≤_}
 use mathlib.Core.List.{List, _++_}
-use mathlib.Core.Bool.{Bool, true, false}
-use mathlib.Core.Option.{Option, none, some}
 use native.Mathlib.Omega.{arith}
 use Rattle.definition.specs.Usages.{noUsages}
-use Rattle.layout.specs.Blocks.{headOf, headsOf, usagesOf, candidateOf}
+use Rattle.layout.specs.Blocks.{usagesOf, candidateOf}
 use Rattle.layout.proofs.Blocks.{block-written}
-use Rattle.bits.specs.Masks.{flags}
 use lib.ListN.{length, set, take, drop}
-use Rattle.buffer.specs.Numbers.{bytesOf, numberOf}
-use Rattle.buffer.specs.Regions.{region, overwrite}
+use Rattle.buffer.specs.Regions.{region}
 use Rattle.buffer.proofs.Regions.{overwrite-part, length-region}
-use Rattle.definition.specs.declared.usages.HeadUsages.{HeadUsages}
-use Rattle.definition.specs.declared.heads.CycleHead.{CycleHead}
 use borrow.Author.Needs.{needs}
 use Rattle.layout.proofs.candidate.put.Statement.{statement}
 use Rattle.layout.proofs.candidate.put.Tie as tie
-use Rattle.layout.proofs.candidate.put.Reads as reads
-use Rattle.layout.proofs.candidate.put.Lts as lts
-use Rattle.bits.proofs.with.Reads as with-reads
-use Rattle.buffer.proofs.read_u64.Reads as read-u64-reads
-use Rattle.buffer.proofs.write_u64.Reads as write-u64-reads
-use Rattle.layout.proofs.records.write_usages.Reads as write-usages-reads
 
--- src/candidate.rt:36:17
 mul-a : tie.Need-mul-a
 mul-a c = search needs
 
--- src/candidate.rt:36:13
 add-a : tie.Need-add-a
 add-a c = search needs
 
--- src/candidate.rt:37:13
 add-e : tie.Need-add-e
 add-e c = search needs
 
--- src/candidate.rt:38:27
 sub-write-usages : tie.Need-sub-write-usages
 sub-write-usages c = search needs
 
--- src/candidate.rt:38:27
 part-write-usages-start : tie.Need-part-write-usages-start
 part-write-usages-start c = search needs
 
--- src/candidate.rt:38:27
 part-write-usages-end : tie.Need-part-write-usages-end
 part-write-usages-end c = search needs
 
--- src/candidate.rt:38:5
 write-usages-requires : tie.Need-write-usages-requires
 write-usages-requires c κs = search needs
 
--- src/candidate.rt:39:9
 read-u64-requires : tie.Need-read-u64-requires
 read-u64-requires c κs = search needs
 
--- src/candidate.rt:40:29
 with-requires : tie.Need-with-requires
 with-requires c κs = search needs
 
--- src/candidate.rt:40:5
 write-u64-requires : tie.Need-write-u64-requires
 write-u64-requires c κs = search needs
 
--- src/candidate.rt:32:1
 same-length : tie.Need-same-length
 same-length c = search needs
 
 small : (c : tie.After-slice-known3) → c .before .before .before .with .result < 2 ^ 64
 small c = search needs
 
--- src/candidate.rt:32:1
 returns : tie.Need-returns
 unfolding candidateOf
 returns c =

@@ -1,8 +1,7 @@
 use Rattle.buffer.specs.Regions.{region}
-use mathlib.Core.Path.{_≡_, refl, sym, ap, ap₂, _∙_}
-use Prim.Native.Nat.{ℕ, _+_, _*_, _-_, _^_, _<_, _≤_}
-use mathlib.Core.List.{List, _++_}
-use mathlib.Core.Bool.{Bool, true, false}
+use mathlib.Core.Path.{_≡_, sym, ap, _∙_}
+use Prim.Native.Nat.{ℕ, _+_, _*_, _-_}
+use mathlib.Core.Bool.{false}
 use native.Mathlib.Omega.{arith}
 use Rattle.definition.specs.Usages.{noUsages}
 use lib.ListN.{getD}
@@ -13,50 +12,34 @@ use Rattle.layout.proofs.Blocks.{kept-set, kept-clear}
 use borrow.Author.Needs.{needs}
 use Rattle.layout.proofs.candidate.usages.Statement.{statement}
 use Rattle.layout.proofs.candidate.usages.Tie as tie
-use Rattle.layout.proofs.candidate.usages.Reads as reads
-use Rattle.layout.proofs.candidate.usages.Lts as lts
-use Rattle.bits.proofs.has.Reads as has-reads
-use Rattle.buffer.proofs.read_u64.Reads as read-u64-reads
-use Rattle.definition.proofs.usages.HeadUsages.none.Reads as none-reads
-use Rattle.layout.proofs.records.read_usages.Reads as read-usages-reads
 
--- src/candidate.rt:23:18
 read-u64-requires : tie.Need-read-u64-requires
 read-u64-requires c κs = search needs
 
--- src/candidate.rt:23:8
 has-requires : tie.Need-has-requires
 has-requires c κs = search needs
 
--- src/candidate.rt:24:21
 mul-a : tie.Need-mul-a
 mul-a c = search needs
 
--- src/candidate.rt:24:17
 add-a : tie.Need-add-a
 add-a c = search needs
 
--- src/candidate.rt:25:17
 add-e : tie.Need-add-e
 add-e c = search needs
 
--- src/candidate.rt:26:37
 sub-read-usages : tie.Need-sub-read-usages
 sub-read-usages c = search needs
 
--- src/candidate.rt:26:37
 part-read-usages-start : tie.Need-part-read-usages-start
 part-read-usages-start c = search needs
 
--- src/candidate.rt:26:37
 part-read-usages-end : tie.Need-part-read-usages-end
 part-read-usages-end c = search needs
 
--- src/candidate.rt:26:9
 read-usages-requires : tie.Need-read-usages-requires
 read-usages-requires c κs = search needs
 
--- src/candidate.rt:26:9
 returns : tie.Need-returns
 unfolding candidateOf flagAt
 returns c =
@@ -69,11 +52,9 @@ returns c =
     ∙ kept-set usagesOf noUsages 32 (s .args .b .now) (s .args .i)
     (ap (λ (m : ℕ). getD (flags 64 m) (s .args .i) false) (sym (c .before .before .before .before .read-u64 .ensures)) ∙ sym (c .before .before .before .has .ensures) ∙ c .before .before .if1 .taken))
 
--- src/candidate.rt:28:5
 none-requires : tie.Need-none-requires
 none-requires c κs = search needs
 
--- src/candidate.rt:19:1
 returns-2 : tie.Need-returns-2
 unfolding candidateOf flagAt
 returns-2 c =

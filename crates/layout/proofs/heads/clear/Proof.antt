@@ -1,24 +1,18 @@
-use mathlib.Core.Path.{_≡_, refl, sym, ap, ap₂, _∙_}
-use mathlib.Core.Option.{Option, none, some}
+use mathlib.Core.Path.{ap, _∙_}
+use mathlib.Core.Option.{none, some}
 use native.Mathlib.Omega.{arith}
 use Rattle.layout.specs.Blocks.{headOf, headsOf}
 use Rattle.layout.proofs.Blocks.{block-clear}
 use borrow.Author.Needs.{needs}
 use Rattle.layout.proofs.heads.clear.Statement.{statement}
 use Rattle.layout.proofs.heads.clear.Tie as tie
-use Rattle.layout.proofs.heads.clear.Reads as reads
-use Rattle.layout.proofs.heads.clear.Lts as lts
-use Rattle.buffer.proofs.write_u64.Reads as write-u64-reads
 
--- src/heads.rt:28:5
 write-u64-requires : tie.Need-write-u64-requires
 write-u64-requires c κs = search needs
 
--- src/heads.rt:24:1
 same-length : tie.Need-same-length
 same-length c = search needs
 
--- src/heads.rt:24:1
 returns : tie.Need-returns
 unfolding headsOf
 returns c =

@@ -1,7 +1,6 @@
-use mathlib.Core.Path.{_≡_, refl, sym, ap, ap₂, _∙_}
-use mathlib.Core.List.{List, _++_}
-use mathlib.Core.Bool.{Bool, true, false}
-use Prim.Native.Nat.{ℕ, _+_, _*_, _-_, _^_, _<_, _≤_}
+use mathlib.Core.Path.{sym, ap, _∙_}
+use mathlib.Core.Bool.{false}
+use Prim.Native.Nat.{ℕ}
 use lib.ListN.{getD}
 use Rattle.bits.specs.Masks.{flags}
 use Rattle.layout.specs.Blocks.{flagAt}
@@ -9,20 +8,13 @@ use Rattle.layout.proofs.Present.{present-at}
 use borrow.Author.Needs.{needs}
 use Rattle.layout.proofs.heads.has.Statement.{statement}
 use Rattle.layout.proofs.heads.has.Tie as tie
-use Rattle.layout.proofs.heads.has.Reads as reads
-use Rattle.layout.proofs.heads.has.Lts as lts
-use Rattle.bits.proofs.has.Reads as has-reads
-use Rattle.buffer.proofs.read_u64.Reads as read-u64-reads
 
--- src/heads.rt:66:15
 read-u64-requires : tie.Need-read-u64-requires
 read-u64-requires c κs = search needs
 
--- src/heads.rt:66:5
 has-requires : tie.Need-has-requires
 has-requires c κs = search needs
 
--- src/heads.rt:62:1
 returns : tie.Need-returns
 unfolding flagAt
 returns c =

@@ -1,24 +1,17 @@
-use mathlib.Core.Path.{_≡_, refl, sym, ap, ap₂, _∙_}
-use Prim.Native.Nat.{ℕ, _+_, _*_, _-_, _^_, _<_, _≤_}
+use mathlib.Core.Path.{_∙_}
+use Prim.Native.Nat.{_-_}
 use Rattle.layout.specs.Blocks.{headsOf}
 use Rattle.layout.proofs.Present.{mask-highest}
 use borrow.Author.Needs.{needs}
 use Rattle.layout.proofs.heads.highest.Statement.{statement}
 use Rattle.layout.proofs.heads.highest.Tie as tie
-use Rattle.layout.proofs.heads.highest.Reads as reads
-use Rattle.layout.proofs.heads.highest.Lts as lts
-use Rattle.bits.proofs.highest.Reads as highest-reads
-use Rattle.layout.proofs.heads.mask.Reads as mask-reads
 
--- src/heads.rt:111:19
 mask-requires : tie.Need-mask-requires
 mask-requires c κs = search needs
 
--- src/heads.rt:111:5
 highest-requires : tie.Need-highest-requires
 highest-requires c κs = search needs
 
--- src/heads.rt:107:1
 returns : tie.Need-returns
 returns c =
     let s = c .before .before .before in

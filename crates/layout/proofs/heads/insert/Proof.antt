@@ -1,36 +1,24 @@
-use mathlib.Core.Path.{_≡_, refl, sym, ap, ap₂, _∙_}
+use mathlib.Core.Path.{sym, _∙_}
 use Rattle.layout.proofs.Present.{insert-known, insert-unknown}
 use borrow.Author.Needs.{needs}
 use Rattle.layout.proofs.heads.insert.Statement.{statement}
 use Rattle.layout.proofs.heads.insert.Tie as tie
-use Rattle.layout.proofs.heads.insert.Reads as reads
-use Rattle.layout.proofs.heads.insert.Lts as lts
-use Rattle.definition.proofs.heads.CycleHead.joined.Reads as joined-reads
-use Rattle.layout.proofs.heads.has.Reads as has-reads
-use Rattle.layout.proofs.heads.put.Reads as put-reads
-use Rattle.layout.proofs.heads.record.Reads as record-reads
 
--- src/heads.rt:74:8
 has-requires : tie.Need-has-requires
 has-requires c κs = search needs
 
--- src/heads.rt:75:13
 record-requires : tie.Need-record-requires
 record-requires c κs = search needs
 
--- src/heads.rt:76:26
 joined-requires : tie.Need-joined-requires
 joined-requires c κs = search needs
 
--- src/heads.rt:76:9
 put-requires : tie.Need-put-requires
 put-requires c κs = search needs
 
--- src/heads.rt:77:9
 same-length : tie.Need-same-length
 same-length c = search needs
 
--- src/heads.rt:77:9
 returns : tie.Need-returns
 returns c =
     let s = c .before .before .before .before .before .before .before .before .before .before .before in
@@ -38,15 +26,12 @@ returns c =
     ∙ insert-known (s .args .goals) (s .args .b .now) (s .args .i) (s .pre .1) (s .args .paths) (s .args .usages) (c .before .before .before .before .before .«record» .result) (c .before .before .before .joined .result)
     (sym (c .before .before .before .before .before .before .before .before .has .ensures) ∙ c .before .before .before .before .before .before .before .if1 .taken) (c .before .before .before .before .before .«record» .ensures) (c .before .before .before .joined .ensures)
 
--- src/heads.rt:79:5
 put-requires-2 : tie.Need-put-requires-2
 put-requires-2 c κs = search needs
 
--- src/heads.rt:70:1
 same-length-2 : tie.Need-same-length-2
 same-length-2 c = search needs
 
--- src/heads.rt:70:1
 returns-2 : tie.Need-returns-2
 returns-2 c =
     let s = c .before .before .before .before .before .before .before .before in

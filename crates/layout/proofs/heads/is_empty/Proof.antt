@@ -1,23 +1,16 @@
-use mathlib.Core.Path.{_≡_, refl, sym, ap, ap₂, _∙_}
-use Prim.Native.Nat.{ℕ, _+_, _*_, _-_, _^_, _<_, _≤_}
-use native.Mathlib.Omega.{arith}
+use Prim.Native.Nat.{_-_, _^_, _<_}
 use Rattle.layout.specs.Blocks.{headsOf}
 use Rattle.layout.proofs.Present.{mask-empty}
 use borrow.Author.Needs.{needs}
 use Rattle.layout.proofs.heads.is_empty.Statement.{statement}
 use Rattle.layout.proofs.heads.is_empty.Tie as tie
-use Rattle.layout.proofs.heads.is_empty.Reads as reads
-use Rattle.layout.proofs.heads.is_empty.Lts as lts
-use Rattle.layout.proofs.heads.mask.Reads as mask-reads
 
--- src/heads.rt:118:5
 mask-requires : tie.Need-mask-requires
 mask-requires c κs = search needs
 
 small : (c : tie.After-mask) → c .mask .result < 2 ^ 64
 small c = search needs
 
--- src/heads.rt:114:1
 returns : tie.Need-returns
 returns c =
     let s = c .before .before in

@@ -1,27 +1,20 @@
-use mathlib.Core.Path.{_≡_, refl, sym, ap, ap₂, _∙_}
+use mathlib.Core.Path.{ap, _∙_}
 use mathlib.Core.List.{List, _++_}
-use mathlib.Core.Bool.{Bool, true, false}
-use Prim.Native.Nat.{ℕ, _+_, _*_, _-_, _^_, _<_, _≤_}
+use mathlib.Core.Bool.{Bool, false}
+use Prim.Native.Nat.{ℕ, _-_}
 use lib.ListN.{take, replicate}
 use Rattle.bits.specs.Masks.{flags}
 use Rattle.layout.proofs.Present.{present-mask}
 use borrow.Author.Needs.{needs}
 use Rattle.layout.proofs.heads.mask.Statement.{statement}
 use Rattle.layout.proofs.heads.mask.Tie as tie
-use Rattle.layout.proofs.heads.mask.Reads as reads
-use Rattle.layout.proofs.heads.mask.Lts as lts
-use Rattle.bits.proofs.below.Reads as below-reads
-use Rattle.buffer.proofs.read_u64.Reads as read-u64-reads
 
--- src/heads.rt:21:17
 read-u64-requires : tie.Need-read-u64-requires
 read-u64-requires c κs = search needs
 
--- src/heads.rt:21:5
 below-requires : tie.Need-below-requires
 below-requires c κs = search needs
 
--- src/heads.rt:17:1
 returns : tie.Need-returns
 returns c =
     let s = c .before .before .before in

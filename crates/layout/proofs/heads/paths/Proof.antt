@@ -1,32 +1,23 @@
-use mathlib.Core.Path.{_≡_, refl, sym, ap, ap₂, _∙_}
-use Prim.Native.Nat.{ℕ, _+_, _*_, _-_, _^_, _<_, _≤_}
+use mathlib.Core.Path.{sym, ap, _∙_}
 use mathlib.Core.Option.{Option, none, some}
 use Rattle.definition.specs.declared.heads.CycleHead.{CycleHead}
 use Rattle.layout.proofs.Present.{head-known, head-unknown}
 use borrow.Author.Needs.{needs}
 use Rattle.layout.proofs.heads.paths.Statement.{statement}
 use Rattle.layout.proofs.heads.paths.Tie as tie
-use Rattle.layout.proofs.heads.paths.Reads as reads
-use Rattle.layout.proofs.heads.paths.Lts as lts
-use Rattle.layout.proofs.heads.has.Reads as has-reads
-use Rattle.layout.proofs.heads.record.Reads as record-reads
 
--- src/heads.rt:99:8
 has-requires : tie.Need-has-requires
 has-requires c κs = search needs
 
--- src/heads.rt:100:13
 record-requires : tie.Need-record-requires
 record-requires c κs = search needs
 
--- src/heads.rt:101:9
 returns : tie.Need-returns
 returns c =
     let s = c .before .before .before .before in
     ap (λ (h : CycleHead). h .paths) (c .«record» .ensures)
     ∙ sym (ap (λ (o : Option CycleHead). elim o [ none ↦ 0 | some h ↦ h .paths ]) (head-known (s .args .goals) (s .args .b .now) (s .args .i) (s .pre .1) (sym (c .before .before .has .ensures) ∙ c .before .if1 .taken)))
 
--- src/heads.rt:95:1
 returns-2 : tie.Need-returns-2
 returns-2 c =
     let s = c .before .before .before in

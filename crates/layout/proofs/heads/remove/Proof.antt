@@ -1,41 +1,31 @@
-use mathlib.Core.Path.{_≡_, refl, sym, ap, ap₂, _∙_}
-use Prim.Native.Nat.{ℕ, _+_, _*_, _-_, _^_, _<_, _≤_}
-use mathlib.Core.Option.{Option, none, some}
+use mathlib.Core.Path.{ap, _∙_}
+use Prim.Native.Nat.{ℕ, _^_, _<_}
+use mathlib.Core.Option.{none, some}
 use native.Mathlib.Omega.{arith}
 use Rattle.layout.specs.Blocks.{headOf, headsOf}
 use Rattle.layout.proofs.Blocks.{block-remove}
 use Rattle.bits.specs.Masks.{flags}
 use lib.ListN.{set}
-use mathlib.Core.Bool.{Bool, true, false}
+use mathlib.Core.Bool.{false}
 use borrow.Author.Needs.{needs}
 use Rattle.layout.proofs.heads.remove.Statement.{statement}
 use Rattle.layout.proofs.heads.remove.Tie as tie
-use Rattle.layout.proofs.heads.remove.Reads as reads
-use Rattle.layout.proofs.heads.remove.Lts as lts
-use Rattle.bits.proofs.without.Reads as without-reads
-use Rattle.buffer.proofs.read_u64.Reads as read-u64-reads
-use Rattle.buffer.proofs.write_u64.Reads as write-u64-reads
 
--- src/heads.rt:57:9
 read-u64-requires : tie.Need-read-u64-requires
 read-u64-requires c κs = search needs
 
--- src/heads.rt:58:29
 without-requires : tie.Need-without-requires
 without-requires c κs = search needs
 
--- src/heads.rt:58:5
 write-u64-requires : tie.Need-write-u64-requires
 write-u64-requires c κs = search needs
 
--- src/heads.rt:53:1
 same-length : tie.Need-same-length
 same-length c = search needs
 
 small : (c : tie.After-slice-known2) → c .before .before .before .without .result < 2 ^ 64
 small c = search needs
 
--- src/heads.rt:53:1
 returns : tie.Need-returns
 unfolding headsOf
 returns c =

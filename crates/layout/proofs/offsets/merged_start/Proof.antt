@@ -1,32 +1,22 @@
-use mathlib.Core.Path.{_≡_, ap, ap₂, _∙_}
-use Prim.Native.Nat.{ℕ, _+_, _*_, _≤_}
+use mathlib.Core.Path.{ap, ap₂, _∙_}
+use Prim.Native.Nat.{ℕ, _+_, _*_}
 use native.Mathlib.Omega.{arith}
 use borrow.Author.Needs.{needs}
 use Rattle.layout.proofs.offsets.merged_start.Statement.{statement}
 use Rattle.layout.proofs.offsets.merged_start.Tie as tie
-use Rattle.layout.proofs.offsets.merged_start.Reads as reads
-use Rattle.layout.proofs.offsets.merged_start.Lts as lts
-use Rattle.layout.proofs.offsets.block_size.Reads as block-size-reads
-use Rattle.layout.proofs.offsets.graph_length.Reads as graph-length-reads
-use Rattle.layout.proofs.offsets.times.Reads as times-reads
 
--- src/offsets.rt:87:5
 graph-length-requires : tie.Need-graph-length-requires
 graph-length-requires c κs = search needs
 
--- src/offsets.rt:87:36
 block-size-requires : tie.Need-block-size-requires
 block-size-requires c κs = search needs
 
--- src/offsets.rt:87:27
 times-requires : tie.Need-times-requires
 times-requires c κs = search needs
 
--- src/offsets.rt:87:5
 add-result : tie.Need-add-result
 add-result c = search needs
 
--- src/offsets.rt:83:1
 returns : tie.Need-returns
 returns c =
     let i : ℕ = c .before .before .before .args .i in

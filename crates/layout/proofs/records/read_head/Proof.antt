@@ -3,31 +3,22 @@ use Rattle.layout.specs.Blocks.{headOf}
 use borrow.Author.Needs.{needs}
 use Rattle.layout.proofs.records.read_head.Statement.{statement}
 use Rattle.layout.proofs.records.read_head.Tie as tie
-use Rattle.layout.proofs.records.read_head.Reads as reads
-use Rattle.layout.proofs.records.read_head.Lts as lts
-use Rattle.layout.proofs.records.read_usages.Reads as read-usages-reads
 
--- src/records.rt:35:16
 shared-slice-read-t3 : tie.Need-shared-slice-read-t3
 shared-slice-read-t3 c = search needs
 
--- src/records.rt:36:29
 sub-read-usages : tie.Need-sub-read-usages
 sub-read-usages c = search needs
 
--- src/records.rt:36:29
 part-read-usages-start : tie.Need-part-read-usages-start
 part-read-usages-start c = search needs
 
--- src/records.rt:36:29
 part-read-usages-end : tie.Need-part-read-usages-end
 part-read-usages-end c = search needs
 
--- src/records.rt:36:17
 read-usages-requires : tie.Need-read-usages-requires
 read-usages-requires c κs = search needs
 
--- src/records.rt:30:1
 returns : tie.Need-returns
 unfolding headOf
 returns c = λ i. record { paths = getD (c .before .before .before .before .args .b .now) 0 0; usages = c .read-usages .ensures i }

@@ -1,29 +1,20 @@
-use mathlib.Core.Path.{_≡_, refl, sym, ap, ap₂, _∙_}
 use Rattle.layout.specs.Blocks.{usagesOf}
 use borrow.Author.Needs.{needs}
 use Rattle.layout.proofs.records.read_usages.Statement.{statement}
 use Rattle.layout.proofs.records.read_usages.Tie as tie
-use Rattle.layout.proofs.records.read_usages.Reads as reads
-use Rattle.layout.proofs.records.read_usages.Lts as lts
-use Rattle.buffer.proofs.read_u64.Reads as read-u64-reads
 
--- src/records.rt:13:20
 read-u64-requires : tie.Need-read-u64-requires
 read-u64-requires c κs = search needs
 
--- src/records.rt:14:18
 read-u64-requires-2 : tie.Need-read-u64-requires-2
 read-u64-requires-2 c κs = search needs
 
--- src/records.rt:15:22
 read-u64-requires-3 : tie.Need-read-u64-requires-3
 read-u64-requires-3 c κs = search needs
 
--- src/records.rt:16:17
 read-u64-requires-4 : tie.Need-read-u64-requires-4
 read-u64-requires-4 c κs = search needs
 
--- src/records.rt:8:1
 returns : tie.Need-returns
 unfolding usagesOf
 returns c =

@@ -10,35 +10,25 @@ use Rattle.layout.proofs.Written.{head-back}
 use borrow.Author.Needs.{needs}
 use Rattle.layout.proofs.records.write_head.Statement.{statement}
 use Rattle.layout.proofs.records.write_head.Tie as tie
-use Rattle.layout.proofs.records.write_head.Reads as reads
-use Rattle.layout.proofs.records.write_head.Lts as lts
-use Rattle.layout.proofs.records.write_usages.Reads as write-usages-reads
 
--- src/records.rt:45:18
 sub-write-usages : tie.Need-sub-write-usages
 sub-write-usages c = search needs
 
--- src/records.rt:45:18
 part-write-usages-start : tie.Need-part-write-usages-start
 part-write-usages-start c = search needs
 
--- src/records.rt:45:18
 part-write-usages-end : tie.Need-part-write-usages-end
 part-write-usages-end c = search needs
 
--- src/records.rt:45:5
 write-usages-requires : tie.Need-write-usages-requires
 write-usages-requires c κs = search needs
 
--- src/records.rt:46:5
 slice-write-b : tie.Need-slice-write-b
 slice-write-b c = search needs
 
--- src/records.rt:40:1
 same-length : tie.Need-same-length
 same-length c = search needs
 
--- src/records.rt:40:1
 returns : tie.Need-returns
 returns c =
     let s = c .before .before .before .before .before .before in

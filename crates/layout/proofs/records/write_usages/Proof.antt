@@ -1,43 +1,26 @@
-use mathlib.Core.Path.{_≡_, refl, sym, ap, ap₂, _∙_}
-use Prim.Native.Nat.{ℕ, _+_, _*_, _-_, _^_, _<_, _≤_}
-use mathlib.Core.List.{List, _++_}
-use native.Mathlib.Omega.{arith}
-use Rattle.definition.specs.declared.usages.HeadUsages.{HeadUsages}
-use Rattle.buffer.specs.Numbers.{bytesOf}
-use Rattle.buffer.specs.Regions.{region, overwrite}
-use Rattle.layout.specs.Blocks.{usagesOf}
 use Rattle.layout.proofs.Written.{Small, usages-written}
 use borrow.Author.Needs.{needs}
 use Rattle.layout.proofs.records.write_usages.Statement.{statement}
 use Rattle.layout.proofs.records.write_usages.Tie as tie
-use Rattle.layout.proofs.records.write_usages.Reads as reads
-use Rattle.layout.proofs.records.write_usages.Lts as lts
-use Rattle.buffer.proofs.write_u64.Reads as write-u64-reads
 
--- src/records.rt:24:5
 write-u64-requires : tie.Need-write-u64-requires
 write-u64-requires c κs = search needs
 
--- src/records.rt:25:5
 write-u64-requires-2 : tie.Need-write-u64-requires-2
 write-u64-requires-2 c κs = search needs
 
--- src/records.rt:26:5
 write-u64-requires-3 : tie.Need-write-u64-requires-3
 write-u64-requires-3 c κs = search needs
 
--- src/records.rt:27:5
 write-u64-requires-4 : tie.Need-write-u64-requires-4
 write-u64-requires-4 c κs = search needs
 
--- src/records.rt:20:1
 same-length : tie.Need-same-length
 same-length c = search needs
 
 small : (c : tie.After-slice-known5) → Small (c .before .before .before .before .before .before .before .before .before .before .before .before .before .before .before .before .before .args .u)
 small c = record { inductive = search needs; unknown = search needs; coinductive = search needs; forced = search needs }
 
--- src/records.rt:20:1
 returns : tie.Need-returns
 returns c =
     let s = c .before .before .before .before .before .before .before .before .before .before .before .before .before .before .before .before .before in
