@@ -1,0 +1,223 @@
+-- What the writes of `start`, `reset` and `mark_overflow` make of a frame.
+use mathlib.Core.Path.{_≡_, refl, sym, ap, ap₂, _∙_}
+use mathlib.Core.Bool.{Bool, true, false}
+use mathlib.Core.Option.{Option, none, some}
+use mathlib.Core.List.{List, [], _∷_}
+use Prim.Native.Nat.{ℕ, zero, suc, _+_, _*_, _-_, _≤_, _<_}
+use native.Mathlib.Nat.{zero-add}
+use native.Mathlib.Omega.{arith}
+use lib.ListN.{length, getD, set, replicate, length-replicate, length-set}
+use Rattle.definition.specs.declared.paths.PathKind.{PathKind}
+use Rattle.definition.specs.declared.paths.PathKind.the-variants.{Inductive, Unknown, Coinductive, ForcedAmbiguity}
+use Rattle.definition.specs.declared.answers.Answer.{Answer}
+use Rattle.definition.specs.declared.answers.Answer.the-variants.{No, Yes, Undecided, Overflow}
+use Rattle.definition.specs.Paths.{kindNumber, kindOf}
+use Rattle.definition.specs.Answers.{answerNumber, answerOf}
+use Rattle.definition.specs.Usages.{noUsages}
+use Rattle.definition.specs.Heads.{noHeads}
+use Rattle.definition.specs.Nested.{insertNested}
+use Rattle.definition.specs.Stack.{Frame}
+use Rattle.definition.specs.Parent.{markOverflow}
+use Rattle.definition.specs.Task.{rerunFrame}
+use Rattle.definition.specs.Evaluate.{newFrame}
+use Rattle.buffer.specs.Regions.{region, overwrite}
+use Rattle.buffer.proofs.Regions.{length-overwrite, length-region, region-same, region-before, region-after, byte-before, byte-in}
+use Rattle.buffer.proofs.Sized.{sized}
+use Rattle.layout.specs.Blocks.{usagesSize, usagesOf, headsSize, headsOf, blockSize, candidateOf}
+use Rattle.layout.specs.Frame.{usagesStart, headsStart, candidateStart, nestedStart, frameSize, truth, resultOf, whenSet, frameOf}
+use Rattle.layout.proofs.Frames.{frame-by, frame-byte, frame-nested, withNested, withByte}
+use Rattle.stack.proofs.Parts.{part, returned, part-length, part-back, returned-length}
+
+-- ---- numbers that are read back
+pub kind-back : (k : PathKind) → kindOf (kindNumber k) ≡ k
+kind-back Inductive = refl
+kind-back Unknown = refl
+kind-back Coinductive = refl
+kind-back ForcedAmbiguity = refl
+
+pub result-back : (a : Answer) → resultOf (answerNumber a + 1) ≡ some a
+result-back No = refl
+result-back Yes = refl
+result-back Undecided = refl
+result-back Overflow = refl
+
+pub answer-small : (a : Answer) → answerNumber a < 4
+answer-small No = omega arith
+answer-small Yes = omega arith
+answer-small Undecided = omega arith
+answer-small Overflow = omega arith
+
+-- ---- `start`
+abbrev pub startFields : ℕ → PathKind → ℕ → List ℕ
+startFields goal step available = goal ∷ kindNumber step ∷ available ∷ available ∷ 0 ∷ 0 ∷ 0 ∷ 0 ∷ []
+
+pub start-fields : (bs : List ℕ) → length bs ≡ 8 → (goal available : ℕ) (step : PathKind) (g k d1 d2 : ℕ) → g ≡ goal → k ≡ kindNumber step → d1 ≡ available → d2 ≡ available
+    → set (set (set (set (set (set (set (set bs 0 g) 1 k) 2 d1) 3 d2) 4 0) 5 0) 6 0) 7 0 ≡ startFields goal step available
+start-fields bs len goal available step g k d1 d2 eg ek e1 e2 =
+    sized 8 (λ l. set (set (set (set (set (set (set (set l 0 g) 1 k) 2 d1) 3 d2) 4 0) 5 0) 6 0) 7 0 ≡ g ∷ k ∷ d1 ∷ d2 ∷ 0 ∷ 0 ∷ 0 ∷ 0 ∷ []) (λ b0 b1 b2 b3 b4 b5 b6 b7. refl) bs len
+    ∙ (λ t. eg t ∷ ek t ∷ e1 t ∷ e2 t ∷ 0 ∷ 0 ∷ 0 ∷ 0 ∷ [])
+
+-- eight bytes, the heads and the nested goals are written
+module _ (goals goal available : ℕ) (step : PathKind) (bs hs zs : List ℕ) (long : length bs ≡ frameSize goals) (heads : length hs ≡ headsSize goals) (nested : length zs ≡ goals) where
+  abbrev one : List ℕ
+  one = overwrite bs 0 (startFields goal step available)
+
+  abbrev two : List ℕ
+  two = overwrite one headsStart hs
+
+  abbrev three : List ℕ
+  three = overwrite two (nestedStart goals) zs
+
+  long-one : length one ≡ frameSize goals
+  long-one = length-overwrite bs 0 (startFields goal step available) (omega arith) ∙ long
+
+  fit-heads : headsStart + length hs ≤ length one
+  fit-heads = omega (arith, long-one)
+
+  long-two : length two ≡ frameSize goals
+  long-two = length-overwrite one headsStart hs fit-heads ∙ long-one
+
+  fit-nested : nestedStart goals + length zs ≤ length two
+  fit-nested = omega (arith, long-two)
+
+  bytes : (j : ℕ) → j < 8 → getD three j 0 ≡ getD (startFields goal step available) j 0
+  bytes j lt =
+      byte-before two (nestedStart goals) zs fit-nested j (omega arith)
+      ∙ byte-before one headsStart hs fit-heads j (omega arith)
+      ∙ ap (λ (k : ℕ). getD one k 0) (sym (zero-add j))
+      ∙ byte-in bs 0 (startFields goal step available) (omega arith) j lt
+
+  heads-there : region headsStart (headsSize goals) three ≡ hs
+  heads-there =
+      region-before two (nestedStart goals) zs fit-nested headsStart (headsSize goals) (omega arith)
+      ∙ ap (λ (n : ℕ). region headsStart n two) (sym heads)
+      ∙ region-same one headsStart hs fit-heads
+
+  nested-there : region (nestedStart goals) goals three ≡ zs
+  nested-there = ap (λ (n : ℕ). region (nestedStart goals) n three) (sym nested) ∙ region-same two (nestedStart goals) zs fit-nested
+
+  started : headsOf goals hs ≡ noHeads goals → zs ≡ replicate goals 0 → frameOf goals three ≡ newFrame goals goal step available
+  started clear zeros =
+      frame-by goals three (λ j. getD (startFields goal step available) j 0) (region usagesStart usagesSize three) hs (region (candidateStart goals) (blockSize goals) three) zs bytes refl heads-there refl nested-there
+      ∙ (λ t. record {
+        input = goal;
+        stepKindFromParent = kind-back step t;
+        availableDepth = available;
+        minReachedAvailableDepth = available;
+        provisionalResult = none;
+        heads = clear t;
+        encounteredOverflow = false;
+        usages = none;
+        candidateUsages = none;
+        nestedGoals = zeros t;
+      })
+
+-- by what the calls say
+module _ (goals goal available : ℕ) (step : PathKind) (bs fs hs zs : List ℕ) (c a : ℕ) (long : length bs ≡ frameSize goals) (is-c : c ≡ candidateStart goals) (is-a : a ≡ nestedStart goals) where
+  pub start-frame : fs ≡ startFields goal step available
+      → length hs ≡ length (part (returned bs 0 8 fs) 40 c) → headsOf goals hs ≡ noHeads goals
+      → length zs ≡ length (part (returned (returned bs 0 8 fs) 40 c hs) a (a + goals))
+      → zs ≡ replicate (length (part (returned (returned bs 0 8 fs) 40 c hs) a (a + goals))) 0
+      → frameOf goals (returned (returned (returned bs 0 8 fs) 40 c hs) a (a + goals) zs) ≡ newFrame goals goal step available
+  start-frame is-f kept-h clear kept-z zeros =
+      let x1 : List ℕ = returned bs 0 8 fs in
+      let one : List ℕ = overwrite bs 0 (startFields goal step available) in
+      let e1 : x1 ≡ one = ap (λ (l : List ℕ). returned bs 0 8 l) is-f in
+      let l1 : length x1 ≡ frameSize goals = ap length e1 ∙ length-overwrite bs 0 (startFields goal step available) (omega arith) ∙ long in
+      let nh = part-length x1 40 c hs (omega arith) (omega arith) kept-h in
+      let wide : length hs ≡ headsSize goals = omega arith in
+      let b2 = part-back x1 40 c hs (omega arith) (omega arith) kept-h in
+      let x2 : List ℕ = returned x1 40 c hs in
+      let l2 : length x2 ≡ frameSize goals = ap length b2 ∙ length-overwrite x1 40 hs (omega arith) ∙ l1 in
+      let nz = part-length x2 a (a + goals) zs (omega arith) (omega arith) kept-z in
+      let narrow : length zs ≡ goals = omega arith in
+      let b3 = part-back x2 a (a + goals) zs (omega arith) (omega arith) kept-z in
+      ap (frameOf goals) (b3 ∙ ap₂ (λ (l : List ℕ) (k : ℕ). overwrite l k zs) (b2 ∙ ap (λ (l : List ℕ). overwrite l 40 hs) e1) is-a)
+      ∙ started goals goal available step bs hs zs long wide narrow clear (zeros ∙ ap (λ (n : ℕ). replicate n 0) (sym kept-z ∙ narrow))
+
+-- ---- `reset`
+abbrev pub resetFields : Answer → List ℕ
+resetFields answer = (answerNumber answer + 1) ∷ 0 ∷ 1 ∷ 0 ∷ []
+
+pub reset-fields : (bs : List ℕ) → length bs ≡ 4 → (answer : Answer) (n : ℕ) → n ≡ answerNumber answer → set (set (set (set bs 0 (n + 1)) 1 0) 2 1) 3 0 ≡ resetFields answer
+reset-fields bs len answer n e =
+    sized 4 (λ l. set (set (set (set l 0 (n + 1)) 1 0) 2 1) 3 0 ≡ (n + 1) ∷ 0 ∷ 1 ∷ 0 ∷ []) (λ b0 b1 b2 b3. refl) bs len
+    ∙ ap (λ (k : ℕ). (k + 1) ∷ 0 ∷ 1 ∷ 0 ∷ []) e
+
+-- four bytes and the usages are written
+module _ (goals : ℕ) (bs us : List ℕ) (answer : Answer) (long : length bs ≡ frameSize goals) (usages : length us ≡ 32) where
+  abbrev four : List ℕ
+  four = overwrite bs 4 (resetFields answer)
+
+  fit-four : 4 + length (resetFields answer) ≤ length bs
+  fit-four = omega arith
+
+  fit-usages : 8 + length us ≤ length four
+  fit-usages = omega (arith, length-overwrite bs 4 (resetFields answer) fit-four)
+
+  -- a region past both
+  past : (b n : ℕ) → 40 ≤ b → region b n (overwrite four 8 us) ≡ region b n bs
+  past b n h = region-after four 8 us fit-usages b n (omega arith) ∙ region-after bs 4 (resetFields answer) fit-four b n (omega arith)
+
+  was-reset : usagesOf us ≡ noUsages → frameOf goals (overwrite four 8 us) ≡ rerunFrame (frameOf goals bs) answer
+  unfolding frameOf
+  was-reset empty =
+      let e0 = byte-before bs 4 (resetFields answer) fit-four 0 (omega arith) in
+      let e1 = byte-before bs 4 (resetFields answer) fit-four 1 (omega arith) in
+      let e2 = byte-before bs 4 (resetFields answer) fit-four 2 (omega arith) in
+      let e3 = byte-before bs 4 (resetFields answer) fit-four 3 (omega arith) in
+      let e4 = ap resultOf (byte-in bs 4 (resetFields answer) fit-four 0 (omega arith)) ∙ result-back answer in
+      let e5 = byte-in bs 4 (resetFields answer) fit-four 1 (omega arith) in
+      let e6 = byte-in bs 4 (resetFields answer) fit-four 2 (omega arith) in
+      let e7 = byte-in bs 4 (resetFields answer) fit-four 3 (omega arith) in
+      frame-by goals (overwrite four 8 us) (λ j. getD four j 0) us (region headsStart (headsSize goals) bs) (region (candidateStart goals) (blockSize goals) bs) (region (nestedStart goals) goals bs)
+      (λ j lt. byte-before four 8 us fit-usages j lt)
+      (ap (λ (n : ℕ). region 8 n (overwrite four 8 us)) (sym usages) ∙ region-same four 8 us fit-usages)
+      (past headsStart (headsSize goals) (omega arith))
+      (past (candidateStart goals) (blockSize goals) (omega arith))
+      (past (nestedStart goals) goals (omega arith))
+      ∙ (λ t. record {
+        input = e0 t;
+        stepKindFromParent = kindOf (e1 t);
+        availableDepth = e2 t;
+        minReachedAvailableDepth = e3 t;
+        provisionalResult = e4 t;
+        heads = headsOf goals (region headsStart (headsSize goals) bs);
+        encounteredOverflow = truth (e5 t);
+        usages = whenSet (e6 t) (empty t);
+        candidateUsages = whenSet (e7 t) (candidateOf goals (region (candidateStart goals) (blockSize goals) bs));
+        nestedGoals = region (nestedStart goals) goals bs;
+      })
+
+pub reset-frame : (goals : ℕ) (bs fs us : List ℕ) (answer : Answer) → length bs ≡ frameSize goals → fs ≡ resetFields answer
+    → length us ≡ length (part (returned bs 4 8 fs) 8 40) → usagesOf us ≡ noUsages
+    → frameOf goals (returned (returned bs 4 8 fs) 8 40 us) ≡ rerunFrame (frameOf goals bs) answer
+reset-frame goals bs fs us answer long is-f kept empty =
+    let x1 : List ℕ = returned bs 4 8 fs in
+    let e1 : x1 ≡ overwrite bs 4 (resetFields answer) = ap (λ (l : List ℕ). returned bs 4 8 l) is-f in
+    let l1 : length x1 ≡ frameSize goals = ap length e1 ∙ length-overwrite bs 4 (resetFields answer) (omega arith) ∙ long in
+    ap (frameOf goals) (part-back x1 8 40 us (omega arith) (omega arith) kept ∙ ap (λ (l : List ℕ). overwrite l 8 us) e1)
+    ∙ was-reset goals bs us answer long (part-length x1 8 40 us (omega arith) (omega arith) kept) empty
+
+-- ---- `mark_overflow`
+pub mark-length : (goals : ℕ) (bs ys : List ℕ) (a : ℕ) → length bs ≡ frameSize goals → a ≡ nestedStart goals → length ys ≡ length (part (set bs 5 1) a (a + goals))
+    → length (returned (set bs 5 1) a (a + goals) ys) ≡ length bs
+mark-length goals bs ys a long is-a kept =
+    let l1 = length-set bs 5 1 in
+    returned-length (set bs 5 1) a (a + goals) ys (omega arith) (omega arith) kept ∙ l1
+
+pub mark-frame : (goals : ℕ) (bs ys : List ℕ) (goal a : ℕ) → length bs ≡ frameSize goals → a ≡ nestedStart goals
+    → goal ≡ (frameOf goals (set bs 5 1)) .input
+    → length ys ≡ length (part (set bs 5 1) a (a + goals)) → ys ≡ insertNested (part (set bs 5 1) a (a + goals)) goal 1
+    → frameOf goals (returned (set bs 5 1) a (a + goals) ys) ≡ markOverflow (frameOf goals bs)
+unfolding frameOf
+mark-frame goals bs ys goal a long is-a is-goal kept is-y =
+    let b1 : List ℕ = set bs 5 1 in
+    let l1 : length b1 ≡ frameSize goals = length-set bs 5 1 ∙ long in
+    let n : length ys ≡ goals = omega (arith, part-length b1 a (a + goals) ys (omega arith) (omega arith) kept) in
+    let e : a + goals - a ≡ goals = omega arith in
+    let is : ys ≡ insertNested (region (nestedStart goals) goals b1) (getD b1 0 0) 1 = is-y ∙ ap₂ (λ (k m : ℕ). insertNested (region k m b1) goal 1) is-a e ∙ ap (λ (g : ℕ). insertNested (region (nestedStart goals) goals b1) g 1) is-goal in
+    ap (frameOf goals) (part-back b1 a (a + goals) ys (omega arith) (omega arith) kept ∙ ap (λ (k : ℕ). overwrite b1 k ys) is-a)
+    ∙ frame-nested goals b1 l1 ys n
+    ∙ ap (withNested (frameOf goals b1)) is
+    ∙ ap (λ (f : Frame). withNested f (insertNested (f .nestedGoals) (f .input) 1)) (frame-byte goals bs long 5 1 (omega arith))

@@ -1,0 +1,5 @@
+pub mod Parts
+pub mod Fields
+pub mod Values
+pub mod Loops
+pub mod Graph

@@ -1,0 +1,103 @@
+-- The turns of the loops over the stack, from the top down.
+use mathlib.Core.Path.{_≡_, refl, sym, ap, ap₂, _∙_}
+use mathlib.Core.Bool.{Bool, true, false, not, _||_}
+use mathlib.Core.Option.{Option, none, some}
+use mathlib.Core.List.{List, [], _∷_}
+use Prim.Native.Nat.{ℕ, zero, suc, _+_, _*_, _-_, _/_, _≤_, _<_}
+use native.Mathlib.Omega.{arith}
+use borrow.Author.Tests.{eq-eqb, ne-eqb}
+use lib.ListN.{length, getD, take}
+use lib.Dec.{eqb}
+use Rattle.definition.specs.declared.paths.PathKind.{PathKind}
+use Rattle.definition.specs.declared.answers.Answer.{Answer}
+use Rattle.definition.specs.declared.book.Header.{Header}
+use Rattle.definition.specs.Paths.{extend, extendAll}
+use Rattle.definition.specs.Nested.{NestedGoals, nestedContains}
+use Rattle.definition.specs.Stack.{Frame, Stack, OnStack, stepKinds, cyclePathKind, stackFind}
+use Rattle.definition.specs.Lookup.{allowedDepthForNested, anyOnStack}
+use Rattle.layout.specs.Frame.{frameOf}
+use Rattle.layout.specs.Work.{stackOf}
+use Rattle.layout.proofs.Graphs.{length-stack, stack-unfold}
+use Rattle.stack.specs.Bytes.{frameBytes, frameAt}
+
+-- the top of a stack that is not empty
+pub top : (goals : ℕ) (bs : List ℕ) (i : ℕ) → 0 < i → stackOf goals i bs ≡ frameAt goals (i - 1) bs ∷ stackOf goals (i - 1) bs
+top goals bs i pos =
+    let e : i ≡ suc (i - 1) = omega arith in
+    ap (λ (k : ℕ). stackOf goals k bs) e ∙ stack-unfold goals (i - 1) bs
+
+pub empty : (goals : ℕ) (bs : List ℕ) → stackOf goals 0 bs ≡ []
+unfolding stackOf
+empty goals bs = refl
+
+pub none-left : (goals : ℕ) (bs : List ℕ) (i : ℕ) → i ≤ 0 → stackOf goals i bs ≡ []
+none-left goals bs i h = let e : i ≡ 0 = omega arith in ap (λ (k : ℕ). stackOf goals k bs) e ∙ empty goals bs
+
+-- what is read of frame i's bytes
+pub read-at : {A : Type 0} (read : Frame → A) (goals : ℕ) (bs : List ℕ) (i : ℕ) (r : List ℕ) → r ≡ frameBytes goals i bs → read (frameOf goals r) ≡ read (frameAt goals i bs)
+read-at read goals bs i r e = ap (λ (l : List ℕ). read (frameOf goals l)) e
+
+-- ---- `find`
+module _ (goals : ℕ) (bs : List ℕ) (goal i : ℕ) (whole : Option OnStack) (rest : stackFind (stackOf goals i bs) goal ≡ whole) where
+  abbrev choice : Bool → Option OnStack
+  choice t = elim t [ true ↦ some (record { index = length (stackOf goals (i - 1) bs); provisionalResult = (frameAt goals (i - 1) bs) .provisionalResult }) | false ↦ stackFind (stackOf goals (i - 1) bs) goal ]
+
+  find-open : 0 < i → choice (eqb ((frameAt goals (i - 1) bs) .input) goal) ≡ whole
+  find-open pos = sym (ap (λ (s : Stack). stackFind s goal) (top goals bs i pos)) ∙ rest
+
+  pub find-here : 0 < i → (frameAt goals (i - 1) bs) .input ≡ goal → (p : Option Answer) → p ≡ (frameAt goals (i - 1) bs) .provisionalResult → some (record { index = i - 1; provisionalResult = p }) ≡ whole
+  find-here pos e p is =
+      (λ t. some (record { index = sym (length-stack goals (i - 1) bs) t; provisionalResult = is t }))
+      ∙ sym (ap choice (eq-eqb ((frameAt goals (i - 1) bs) .input) goal e))
+      ∙ find-open pos
+
+  pub find-next : 0 < i → ((frameAt goals (i - 1) bs) .input ≡ goal → ⊥) → stackFind (stackOf goals (i - 1) bs) goal ≡ whole
+  find-next pos ne = sym (ap choice (ne-eqb ((frameAt goals (i - 1) bs) .input) goal ne)) ∙ find-open pos
+
+  pub find-nowhere : i ≤ 0 → none ≡ whole
+  find-nowhere h = sym (ap (λ (s : Stack). stackFind s goal) (none-left goals bs i h)) ∙ rest
+
+-- ---- `cycle_path_kind`
+abbrev pub kindOver : ℕ → ℕ → ℕ → List ℕ → PathKind → PathKind
+kindOver goals head i bs kind = extendAll kind (stepKinds (take (i - suc head) (stackOf goals i bs)))
+
+pub kind-whole : (goals head height : ℕ) (bs : List ℕ) (step : PathKind) → kindOver goals head height bs step ≡ cyclePathKind (stackOf goals height bs) step head
+kind-whole goals head height bs step = ap (λ (n : ℕ). extendAll step (stepKinds (take (n - suc head) (stackOf goals height bs)))) (sym (length-stack goals height bs))
+
+pub kind-done : (goals head i : ℕ) (bs : List ℕ) (kind : PathKind) → i ≤ suc head → kind ≡ kindOver goals head i bs kind
+kind-done goals head i bs kind h =
+    let e : i - suc head ≡ 0 = omega arith in
+    sym (ap (λ (n : ℕ). extendAll kind (stepKinds (take n (stackOf goals i bs)))) e)
+
+pub kind-next : (goals head i : ℕ) (bs : List ℕ) (kind : PathKind) → suc head < i
+    → kindOver goals head (i - 1) bs (extend kind ((frameAt goals (i - 1) bs) .stepKindFromParent)) ≡ kindOver goals head i bs kind
+kind-next goals head i bs kind h =
+    let e : i - suc head ≡ suc (i - 1 - suc head) = omega arith in
+    sym (ap₂ (λ (n : ℕ) (s : Stack). extendAll kind (stepKinds (take n s))) e (top goals bs i (omega arith)))
+
+-- ---- `any_on_stack`
+module _ (goals : ℕ) (bs : List ℕ) (nested : NestedGoals) (i : ℕ) (whole : Bool) (rest : anyOnStack (stackOf goals i bs) nested ≡ whole) where
+  any-open : 0 < i → (not (eqb (getD nested ((frameAt goals (i - 1) bs) .input) 0) 0) || anyOnStack (stackOf goals (i - 1) bs) nested) ≡ whole
+  any-open pos = sym (ap (λ (s : Stack). anyOnStack s nested) (top goals bs i pos)) ∙ rest
+
+  pub any-here : 0 < i → (v : ℕ) → v ≡ getD nested ((frameAt goals (i - 1) bs) .input) 0 → (v ≡ 0 → ⊥) → true ≡ whole
+  any-here pos v is ne =
+      sym (ap (λ (t : Bool). not t || anyOnStack (stackOf goals (i - 1) bs) nested) (ap (λ (x : ℕ). eqb x 0) (sym is) ∙ ne-eqb v 0 ne)) ∙ any-open pos
+
+  pub any-next : 0 < i → (v : ℕ) → v ≡ getD nested ((frameAt goals (i - 1) bs) .input) 0 → v ≡ 0 → anyOnStack (stackOf goals (i - 1) bs) nested ≡ whole
+  any-next pos v is e =
+      sym (ap (λ (t : Bool). not t || anyOnStack (stackOf goals (i - 1) bs) nested) (ap (λ (x : ℕ). eqb x 0) (sym is) ∙ eq-eqb v 0 e)) ∙ any-open pos
+
+  pub any-none : i ≤ 0 → false ≡ whole
+  any-none h = sym (ap (λ (s : Stack). anyOnStack s nested) (none-left goals bs i h)) ∙ rest
+
+-- ---- `allowed_depth_for_nested`
+module _ (h : Header) (goals root height : ℕ) (bs : List ℕ) (lower : Bool) where
+  pub depth-root : height ≡ 0 → some root ≡ allowedDepthForNested h root (stackOf goals height bs) lower
+  depth-root z = sym (ap (λ (s : Stack). allowedDepthForNested h root s lower) (none-left goals bs height (omega arith)))
+
+  pub depth-top : (r : List ℕ) → 0 < height → r ≡ frameBytes goals (height - 1) bs
+      → allowedDepthForNested h root (frameOf goals r ∷ stackOf goals (height - 1) bs) lower ≡ allowedDepthForNested h root (stackOf goals height bs) lower
+  depth-top r pos e =
+      ap (λ (l : List ℕ). allowedDepthForNested h root (frameOf goals l ∷ stackOf goals (height - 1) bs) lower) e
+      ∙ sym (ap (λ (s : Stack). allowedDepthForNested h root s lower) (top goals bs height pos))

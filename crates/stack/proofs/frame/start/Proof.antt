@@ -1,0 +1,77 @@
+use Rattle.stack.proofs.Fields.{start-frame}
+use borrow.Author.Needs.{needs}
+use Rattle.stack.proofs.frame.start.Statement.{statement}
+use Rattle.stack.proofs.frame.start.Tie as tie
+
+sub-start-fields : tie.Need-sub-start-fields
+sub-start-fields c = search needs
+
+part-start-fields-start : tie.Need-part-start-fields-start
+part-start-fields-start c = search needs
+
+part-start-fields-end : tie.Need-part-start-fields-end
+part-start-fields-end c = search needs
+
+start-fields-requires : tie.Need-start-fields-requires
+start-fields-requires c κs = search needs
+
+candidate-start-requires : tie.Need-candidate-start-requires
+candidate-start-requires c κs = search needs
+
+sub-clear : tie.Need-sub-clear
+sub-clear c = search needs
+
+part-clear-start : tie.Need-part-clear-start
+part-clear-start c = search needs
+
+part-clear-end : tie.Need-part-clear-end
+part-clear-end c = search needs
+
+clear-requires : tie.Need-clear-requires
+clear-requires c κs = search needs
+
+nested-start-requires : tie.Need-nested-start-requires
+nested-start-requires c κs = search needs
+
+add-e : tie.Need-add-e
+add-e c = search needs
+
+sub-fill-zero : tie.Need-sub-fill-zero
+sub-fill-zero c = search needs
+
+part-fill-zero-start : tie.Need-part-fill-zero-start
+part-fill-zero-start c = search needs
+
+part-fill-zero-end : tie.Need-part-fill-zero-end
+part-fill-zero-end c = search needs
+
+fill-zero-requires : tie.Need-fill-zero-requires
+fill-zero-requires c κs = search needs
+
+same-length : tie.Need-same-length
+same-length c = search needs
+
+returns : tie.Need-returns
+returns c = let a = c .before .before .before .before .before .before .before .before .before .before .before .before .before .before .before .args in start-frame (a .goals) (a .goal) (a .available) (a .step) (a .frame .now) (c .before .before .before .before .before .before .before .before .before .before .before .before .start-fields .last .0) (c .before .before .before .before .before .before .before .clear .last .0) (c .before .before .fill-zero .last .0) (c .before .before .before .before .before .before .before .before .before .candidate-start .result) (c .before .before .before .before .nested-start .result) (c .before .before .before .before .before .before .before .before .before .before .before .before .before .before .before .pre .0 .long) (c .before .before .before .before .before .before .before .before .before .candidate-start .ensures) (c .before .before .before .before .nested-start .ensures) (c .before .before .before .before .before .before .before .before .before .before .before .before .start-fields .ensures) (c .before .before .before .before .before .before .before .clear .kept .0) (c .before .before .before .before .before .before .before .clear .ensures) (c .before .before .fill-zero .kept .0) (c .before .before .fill-zero .ensures)
+
+pub start-spec : {M : Type 1} → statement M
+start-spec =
+    tie.close
+    (tie.spec
+    sub-start-fields
+    part-start-fields-start
+    part-start-fields-end
+    start-fields-requires
+    candidate-start-requires
+    sub-clear
+    part-clear-start
+    part-clear-end
+    clear-requires
+    nested-start-requires
+    add-e
+    sub-fill-zero
+    part-fill-zero-start
+    part-fill-zero-end
+    fill-zero-requires
+    same-length
+    returns)

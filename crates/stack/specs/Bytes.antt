@@ -1,0 +1,26 @@
+-- What the bytes of a frame and of a graph must be.
+use mathlib.Core.Path.{_≡_}
+use mathlib.Core.List.{List}
+use Prim.Native.Nat.{ℕ, _≤_}
+use lib.ListN.{length}
+use Rattle.definition.specs.Stack.{Frame}
+use Rattle.buffer.specs.Regions.{region}
+use Rattle.layout.specs.Frame.{frameSize, frameOf}
+use Rattle.layout.specs.Work.{frameStart, graphLength}
+
+pub record FrameBytes (goals : ℕ) (bs : List ℕ) : Type 0 where
+  pub few : goals ≤ 64
+  pub long : length bs ≡ frameSize goals
+
+pub record GraphBytes (goals : ℕ) (bs : List ℕ) : Type 0 where
+  pub some : 1 ≤ goals
+  pub few : goals ≤ 64
+  pub long : length bs ≡ graphLength goals
+
+-- the bytes of frame i of a graph
+abbrev pub frameBytes : ℕ → ℕ → List ℕ → List ℕ
+frameBytes goals i bs = region (frameStart goals i) (frameSize goals) bs
+
+-- that frame
+abbrev pub frameAt : ℕ → ℕ → List ℕ → Frame
+frameAt goals i bs = frameOf goals (frameBytes goals i bs)

@@ -1,0 +1,154 @@
+// stack.rs: the frames of the goals that are being evaluated, at their index in the
+// graph. How many there are is no byte of it.
+use definition::answers::Answer;
+use definition::paths::PathKind;
+use frame::Depth;
+use frame::Provisional;
+use layout::offsets;
+ghost use mathlib.Core.Path.{_≡_};
+ghost use mathlib.Core.List.{_∷_};
+ghost use Prim.Native.Nat.{ℕ, _+_, _*_, _<_, _≤_};
+ghost use Rattle.definition.specs.declared.book.Header.{Header};
+ghost use Rattle.definition.specs.Stack.{cyclePathKind, stackFind};
+ghost use Rattle.definition.specs.Parent.{handleOverflow};
+ghost use Rattle.definition.specs.Task.{rerunFrame};
+ghost use Rattle.definition.specs.Evaluate.{newFrame};
+ghost use Rattle.definition.specs.Lookup.{allowedDepthForNested, anyOnStack};
+ghost use Rattle.layout.specs.Work.{stackOf, entriesOf};
+ghost use Rattle.stack.specs.Bytes.{GraphBytes, frameBytes, frameAt};
+ghost use Rattle.stack.specs.Results.{depthOf, onStackOf};
+ghost use Rattle.stack.specs.declared.frame.Depth.the-variants.{Allowed};
+
+pub mod frame;
+
+// What `find` finds: the index of the goal's frame, and its provisional result.
+pub enum OnStack {
+    At(usize, Provisional),
+    Nowhere,
+}
+
+// The bytes of frame i.
+pub fn frame_at(graph: &[u8], goals: usize, i: usize) -> &[u8]
+    requires { ⌜ GraphBytes goals (now graph) × (i < goals) ⌝ }
+    ensures { λ r. ⌜ now r ≡ frameBytes goals i (now (graph .entry)) ⌝ }
+{
+    let a = offsets::frame_start(goals, i);
+    let e = a + offsets::frame_size(goals);
+    &graph[a..e]
+}
+
+// A new frame on top.
+pub fn push(
+    graph: &mut [u8],
+    goals: usize,
+    height: usize,
+    goal: usize,
+    step: PathKind,
+    available: usize,
+)
+    requires { ⌜ GraphBytes goals (now graph) × ((height < goals) × ((goal < 256) × (available < 256))) ⌝ }
+    ensures { λ _. ⌜ (stackOf goals (height + 1) (now (graph .exit)) ≡ newFrame goals goal step available ∷ stackOf goals height (now (graph .entry))) × ((n : ℕ) → entriesOf goals n (now (graph .exit)) ≡ entriesOf goals n (now (graph .entry))) ⌝ }
+{
+    let a = offsets::frame_start(goals, height);
+    let e = a + offsets::frame_size(goals);
+    frame::start(&mut graph[a..e], goals, goal, step, available);
+}
+
+// The frame at index `own`, on top again, before its next iteration.
+pub fn reset_for_rerun(graph: &mut [u8], goals: usize, own: usize, answer: Answer)
+    requires { ⌜ GraphBytes goals (now graph) × (own < goals) ⌝ }
+    ensures { λ _. ⌜ (stackOf goals (own + 1) (now (graph .exit)) ≡ rerunFrame (frameAt goals own (now (graph .entry))) answer ∷ stackOf goals own (now (graph .entry))) × ((n : ℕ) → entriesOf goals n (now (graph .exit)) ≡ entriesOf goals n (now (graph .entry))) ⌝ }
+{
+    let a = offsets::frame_start(goals, own);
+    let e = a + offsets::frame_size(goals);
+    frame::reset(&mut graph[a..e], goals, answer);
+}
+
+// handle_overflow: the top frame met overflow.
+pub fn mark_top_overflow(graph: &mut [u8], goals: usize, height: usize)
+    requires { ⌜ GraphBytes goals (now graph) × (height ≤ goals) ⌝ }
+    ensures { λ _. ⌜ (stackOf goals height (now (graph .exit)) ≡ handleOverflow (stackOf goals height (now (graph .entry)))) × ((n : ℕ) → entriesOf goals n (now (graph .exit)) ≡ entriesOf goals n (now (graph .entry))) ⌝ }
+{
+    if height == 0 {
+        return;
+    }
+    let a = offsets::frame_start(goals, height - 1);
+    let e = a + offsets::frame_size(goals);
+    frame::mark_overflow(&mut graph[a..e], goals);
+}
+
+// Stack::find, from the top on.
+pub fn find(graph: &[u8], goals: usize, height: usize, goal: usize) -> OnStack
+    requires { ⌜ GraphBytes goals (now graph) × (height ≤ goals) ⌝ }
+    ensures { λ r. ⌜ onStackOf r ≡ stackFind (stackOf goals height (now (graph .entry))) goal ⌝ }
+{
+    let mut i = height;
+    while 0 < i {
+        i = i - 1;
+        let f = frame_at(graph, goals, i);
+        if frame::input(f, goals) == goal {
+            return OnStack::At(i, frame::provisional_result(f, goals));
+        }
+    }
+    OnStack::Nowhere
+}
+
+// cycle_path_kind: the kind of the path from a head to the top of the stack and on by
+// one step; the head's own step is left out.
+pub fn cycle_path_kind(
+    graph: &[u8],
+    goals: usize,
+    height: usize,
+    step: PathKind,
+    head: usize,
+) -> PathKind
+    requires { ⌜ GraphBytes goals (now graph) × (height ≤ goals) ⌝ }
+    ensures { λ r. ⌜ r ≡ cyclePathKind (stackOf goals height (now (graph .entry))) step head ⌝ }
+{
+    if height <= head {
+        return step;
+    }
+    let mut kind = step;
+    let mut i = height;
+    while head + 1 < i {
+        i = i - 1;
+        let f = frame_at(graph, goals, i);
+        kind = kind.extend(frame::step_kind(f, goals));
+    }
+    kind
+}
+
+// Whether one of the nested goals is on the stack.
+pub fn any_on_stack(graph: &[u8], goals: usize, height: usize, nested: &[u8]) -> bool
+    requires { ⌜ GraphBytes goals (now graph) × (height ≤ goals) ⌝ }
+    ensures { λ r. ⌜ r ≡ anyOnStack (stackOf goals height (now (graph .entry))) (now (nested .entry)) ⌝ }
+{
+    let mut i = height;
+    while 0 < i {
+        i = i - 1;
+        let f = frame_at(graph, goals, i);
+        if buffer::get(nested, frame::input(f, goals)) != 0 {
+            return true;
+        }
+    }
+    false
+}
+
+// allowed_depth_for_nested; `lower` is LowerAvailableDepth::Yes.
+pub fn allowed_depth_for_nested(
+    graph: &[u8],
+    goals: usize,
+    divisor: usize,
+    root: usize,
+    height: usize,
+    lower: bool,
+) -> Depth
+    requires { ⌜ GraphBytes goals (now graph) × ((height ≤ goals) × ((0 < divisor) × (root < 256))) ⌝ }
+    ensures { λ r. ⌜ ((h : Header) → h .divisor ≡ divisor → depthOf r ≡ allowedDepthForNested h root (stackOf goals height (now (graph .entry))) lower) × ((d : ℕ) → r ≡ Allowed d → d < 256) ⌝ }
+{
+    if height == 0 {
+        return Depth::Allowed(root);
+    }
+    let f = frame_at(graph, goals, height - 1);
+    frame::nested_depth(f, goals, divisor, lower)
+}
