@@ -1,18 +1,18 @@
 -- What the writes of `start`, `reset` and `mark_overflow` make of a frame.
 use mathlib.Core.Path.{_≡_, refl, sym, ap, ap₂, _∙_}
-use mathlib.Core.Bool.{Bool, true, false}
-use mathlib.Core.Option.{Option, none, some}
+use mathlib.Core.Bool.{false}
+use mathlib.Core.Option.{none, some}
 use mathlib.Core.List.{List, [], _∷_}
-use Prim.Native.Nat.{ℕ, zero, suc, _+_, _*_, _-_, _≤_, _<_}
+use Prim.Native.Nat.{ℕ, _+_, _-_, _≤_, _<_}
 use native.Mathlib.Nat.{zero-add}
 use native.Mathlib.Omega.{arith}
-use lib.ListN.{length, getD, set, replicate, length-replicate, length-set}
+use lib.ListN.{length, getD, set, replicate, length-set}
 use Rattle.definition.specs.declared.paths.PathKind.{PathKind}
 use Rattle.definition.specs.declared.paths.PathKind.the-variants.{Inductive, Unknown, Coinductive, ForcedAmbiguity}
 use Rattle.definition.specs.declared.answers.Answer.{Answer}
 use Rattle.definition.specs.declared.answers.Answer.the-variants.{No, Yes, Undecided, Overflow}
 use Rattle.definition.specs.Paths.{kindNumber, kindOf}
-use Rattle.definition.specs.Answers.{answerNumber, answerOf}
+use Rattle.definition.specs.Answers.{answerNumber}
 use Rattle.definition.specs.Usages.{noUsages}
 use Rattle.definition.specs.Heads.{noHeads}
 use Rattle.definition.specs.Nested.{insertNested}
@@ -21,11 +21,11 @@ use Rattle.definition.specs.Parent.{markOverflow}
 use Rattle.definition.specs.Task.{rerunFrame}
 use Rattle.definition.specs.Evaluate.{newFrame}
 use Rattle.buffer.specs.Regions.{region, overwrite}
-use Rattle.buffer.proofs.Regions.{length-overwrite, length-region, region-same, region-before, region-after, byte-before, byte-in}
+use Rattle.buffer.proofs.Regions.{length-overwrite, region-same, region-before, region-after, byte-before, byte-in}
 use Rattle.buffer.proofs.Sized.{sized}
 use Rattle.layout.specs.Blocks.{usagesSize, usagesOf, headsSize, headsOf, blockSize, candidateOf}
 use Rattle.layout.specs.Frame.{usagesStart, headsStart, candidateStart, nestedStart, frameSize, truth, resultOf, whenSet, frameOf}
-use Rattle.layout.proofs.Frames.{frame-by, frame-byte, frame-nested, withNested, withByte}
+use Rattle.layout.proofs.Frames.{frame-by, frame-byte, frame-nested, withNested}
 use Rattle.stack.proofs.Parts.{part, returned, part-length, part-back, returned-length}
 
 -- ---- numbers that are read back

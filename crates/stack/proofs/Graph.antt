@@ -1,13 +1,13 @@
 -- A frame of a graph that is lent, and comes back.
 use mathlib.Core.Path.{_≡_, sym, ap, ap₂, _∙_, subst}
-use mathlib.Core.List.{List, [], _∷_}
-use Prim.Native.Nat.{ℕ, suc, _+_, _*_, _-_, _≤_, _<_}
+use mathlib.Core.List.{List, _∷_}
+use Prim.Native.Nat.{ℕ, _+_, _-_, _≤_, _<_}
 use native.Mathlib.Numerals.{add-one}
 use native.Mathlib.Omega.{arith}
 use lib.ListN.{length, take, drop}
-use Rattle.definition.specs.Stack.{Frame, Stack}
+use Rattle.definition.specs.Stack.{Frame}
 use Rattle.definition.specs.Parent.{markOverflow, handleOverflow}
-use Rattle.buffer.specs.Regions.{region, overwrite}
+use Rattle.buffer.specs.Regions.{overwrite}
 use Rattle.buffer.proofs.Regions.{length-region}
 use Rattle.layout.specs.Frame.{frameSize, frameOf}
 use Rattle.layout.specs.Work.{frameStart, stackOf, entriesOf}

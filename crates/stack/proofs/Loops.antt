@@ -3,7 +3,7 @@ use mathlib.Core.Path.{_≡_, refl, sym, ap, ap₂, _∙_}
 use mathlib.Core.Bool.{Bool, true, false, not, _||_}
 use mathlib.Core.Option.{Option, none, some}
 use mathlib.Core.List.{List, [], _∷_}
-use Prim.Native.Nat.{ℕ, zero, suc, _+_, _*_, _-_, _/_, _≤_, _<_}
+use Prim.Native.Nat.{ℕ, suc, _-_, _≤_, _<_}
 use native.Mathlib.Omega.{arith}
 use borrow.Author.Tests.{eq-eqb, ne-eqb}
 use lib.ListN.{length, getD, take}
@@ -12,12 +12,14 @@ use Rattle.definition.specs.declared.paths.PathKind.{PathKind}
 use Rattle.definition.specs.declared.answers.Answer.{Answer}
 use Rattle.definition.specs.declared.book.Header.{Header}
 use Rattle.definition.specs.Paths.{extend, extendAll}
-use Rattle.definition.specs.Nested.{NestedGoals, nestedContains}
+use Rattle.definition.specs.Nested.{NestedGoals}
 use Rattle.definition.specs.Stack.{Frame, Stack, OnStack, stepKinds, cyclePathKind, stackFind}
 use Rattle.definition.specs.Lookup.{allowedDepthForNested, anyOnStack}
 use Rattle.layout.specs.Frame.{frameOf}
 use Rattle.layout.specs.Work.{stackOf}
 use Rattle.layout.proofs.Graphs.{length-stack, stack-unfold}
+use Rattle.stack.specs.declared.frame.Provisional.{Provisional}
+use Rattle.stack.specs.declared.OnStack.the-variants.{At, Nowhere}
 use Rattle.stack.specs.Bytes.{frameBytes, frameAt}
 
 -- the top of a stack that is not empty
@@ -56,6 +58,12 @@ module _ (goals : ℕ) (bs : List ℕ) (goal i : ℕ) (whole : Option OnStack) (
 
   pub find-nowhere : i ≤ 0 → none ≡ whole
   find-nowhere h = sym (ap (λ (s : Stack). stackFind s goal) (none-left goals bs i h)) ∙ rest
+
+pub at-below : (i : ℕ) (p : Provisional) (j : ℕ) (q : Provisional) (height : ℕ) → i < height → At i p ≡ At j q → j < height
+at-below i p j q height lt e = let f : i ≡ j = cc in omega arith
+
+pub nowhere-below : (j : ℕ) (q : Provisional) (height : ℕ) → Nowhere ≡ At j q → j < height
+nowhere-below j q height e = let z : _≡_ {A = ℕ} 0 1 = cc in absurd (omega arith)
 
 -- ---- `cycle_path_kind`
 abbrev pub kindOver : ℕ → ℕ → ℕ → List ℕ → PathKind → PathKind

@@ -7,7 +7,7 @@ use frame::Provisional;
 use layout::offsets;
 ghost use mathlib.Core.Path.{_≡_};
 ghost use mathlib.Core.List.{_∷_};
-ghost use Prim.Native.Nat.{ℕ, _+_, _*_, _<_, _≤_};
+ghost use Prim.Native.Nat.{ℕ, _+_, _<_, _≤_};
 ghost use Rattle.definition.specs.declared.book.Header.{Header};
 ghost use Rattle.definition.specs.Stack.{cyclePathKind, stackFind};
 ghost use Rattle.definition.specs.Parent.{handleOverflow};
@@ -18,6 +18,8 @@ ghost use Rattle.layout.specs.Work.{stackOf, entriesOf};
 ghost use Rattle.stack.specs.Bytes.{GraphBytes, frameBytes, frameAt};
 ghost use Rattle.stack.specs.Results.{depthOf, onStackOf};
 ghost use Rattle.stack.specs.declared.frame.Depth.the-variants.{Allowed};
+ghost use Rattle.stack.specs.declared.frame.Provisional.{Provisional};
+ghost use Rattle.stack.specs.declared.OnStack.the-variants.{At};
 
 pub mod frame;
 
@@ -80,7 +82,7 @@ pub fn mark_top_overflow(graph: &mut [u8], goals: usize, height: usize)
 // Stack::find, from the top on.
 pub fn find(graph: &[u8], goals: usize, height: usize, goal: usize) -> OnStack
     requires { ⌜ GraphBytes goals (now graph) × (height ≤ goals) ⌝ }
-    ensures { λ r. ⌜ onStackOf r ≡ stackFind (stackOf goals height (now (graph .entry))) goal ⌝ }
+    ensures { λ r. ⌜ (onStackOf r ≡ stackFind (stackOf goals height (now (graph .entry))) goal) × ((i : ℕ) (p : Provisional) → r ≡ At i p → i < height) ⌝ }
 {
     let mut i = height;
     while 0 < i {

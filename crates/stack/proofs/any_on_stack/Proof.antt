@@ -32,7 +32,7 @@ get-requires : tie.Need-get-requires Inv-loop μ-loop
 get-requires c κs = search needs
 
 returns : tie.Need-returns Inv-loop μ-loop
-returns c = let l = c .before .before .before .before .before in let s = c .before .before .before .before .before .before .before .before in 
+returns c = let l = c .before .before .before .before .before in let s = c .before .before .before .before .before .before .before .before in
     any-here (s .args .goals) (s .args .graph .now) (s .args .nested .now) (l .loop .i) (anyOnStack (stackOf (s .args .goals) (s .args .height) (s .args .graph .now)) (s .args .nested .now)) (l .loop .inv .1) (c .before .before .before .before .loop-test .taken)
     (c .before .get .result) (c .before .get .ensures ∙ ap (λ (k : ℕ). getD (s .args .nested .now) k 0) (c .before .before .input .ensures .0 ∙ (read-at {A = ℕ} (λ f. f .input) (s .args .goals) (s .args .graph .now) (l .loop .i - 1) (c .before .before .before .frame-at .result .now) (c .before .before .before .frame-at .ensures)))) (c .if1 .taken)
 
@@ -40,9 +40,11 @@ loop-less : tie.Need-loop-less Inv-loop μ-loop
 loop-less c = omega arith
 
 loop-again : tie.Need-loop-again Inv-loop μ-loop
-loop-again c = let l = c .before .before .before .before .before in let s = c .before .before .before .before .before .before .before .before in 
-    (omega arith, any-next (s .args .goals) (s .args .graph .now) (s .args .nested .now) (l .loop .i) (anyOnStack (stackOf (s .args .goals) (s .args .height) (s .args .graph .now)) (s .args .nested .now)) (l .loop .inv .1) (c .before .before .before .before .loop-test .taken)
-    (c .before .get .result) (c .before .get .ensures ∙ ap (λ (k : ℕ). getD (s .args .nested .now) k 0) (c .before .before .input .ensures .0 ∙ (read-at {A = ℕ} (λ f. f .input) (s .args .goals) (s .args .graph .now) (l .loop .i - 1) (c .before .before .before .frame-at .result .now) (c .before .before .before .frame-at .ensures)))) (c .if1 .left))
+loop-again c = let l = c .before .before .before .before .before in let s = c .before .before .before .before .before .before .before .before in (
+  omega arith,
+  any-next (s .args .goals) (s .args .graph .now) (s .args .nested .now) (l .loop .i) (anyOnStack (stackOf (s .args .goals) (s .args .height) (s .args .graph .now)) (s .args .nested .now)) (l .loop .inv .1) (c .before .before .before .before .loop-test .taken)
+      (c .before .get .result) (c .before .get .ensures ∙ ap (λ (k : ℕ). getD (s .args .nested .now) k 0) (c .before .before .input .ensures .0 ∙ (read-at {A = ℕ} (λ f. f .input) (s .args .goals) (s .args .graph .now) (l .loop .i - 1) (c .before .before .before .frame-at .result .now) (c .before .before .before .frame-at .ensures)))) (c .if1 .left),
+)
 
 returns-2 : tie.Need-returns-2 Inv-loop μ-loop
 returns-2 c = let l = c .before in let s = c .before .before .before .before in any-none (s .args .goals) (s .args .graph .now) (s .args .nested .now) (l .loop .i) (anyOnStack (stackOf (s .args .goals) (s .args .height) (s .args .graph .now)) (s .args .nested .now)) (l .loop .inv .1) (c .loop-test .left)

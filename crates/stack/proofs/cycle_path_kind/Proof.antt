@@ -40,9 +40,14 @@ loop-less : tie.Need-loop-less Inv-loop μ-loop
 loop-less c = omega arith
 
 loop-again : tie.Need-loop-again Inv-loop μ-loop
-loop-again c = let l = c .before .before .before .before in let s = c .before .before .before .before .before .before .before in 
-    (omega arith, (omega arith, ap (kindOver (s .args .goals) (s .args .head) (l .loop .i - 1) (s .args .graph .now)) (c .extend .ensures ∙ ap (extend (l .loop .kind)) (c .before .step-kind .ensures ∙ (read-at {A = PathKind} (λ f. f .stepKindFromParent) (s .args .goals) (s .args .graph .now) (l .loop .i - 1) (c .before .before .frame-at .result .now) (c .before .before .frame-at .ensures))))
-    ∙ kind-next (s .args .goals) (s .args .head) (l .loop .i) (s .args .graph .now) (l .loop .kind) (omega arith) ∙ l .loop .inv .1 .1))
+loop-again c = let l = c .before .before .before .before in let s = c .before .before .before .before .before .before .before in (
+  omega arith,
+  (
+    omega arith,
+    ap (kindOver (s .args .goals) (s .args .head) (l .loop .i - 1) (s .args .graph .now)) (c .extend .ensures ∙ ap (extend (l .loop .kind)) (c .before .step-kind .ensures ∙ (read-at {A = PathKind} (λ f. f .stepKindFromParent) (s .args .goals) (s .args .graph .now) (l .loop .i - 1) (c .before .before .frame-at .result .now) (c .before .before .frame-at .ensures))))
+        ∙ kind-next (s .args .goals) (s .args .head) (l .loop .i) (s .args .graph .now) (l .loop .kind) (omega arith) ∙ l .loop .inv .1 .1,
+  ),
+)
 
 returns-2 : tie.Need-returns-2 Inv-loop μ-loop
 returns-2 c = let l = c .before in let s = c .before .before .before .before in kind-done (s .args .goals) (s .args .head) (l .loop .i) (s .args .graph .now) (l .loop .kind) (omega arith) ∙ l .loop .inv .1 .1 ∙ kind-whole (s .args .goals) (s .args .head) (s .args .height) (s .args .graph .now) (s .args .step)
