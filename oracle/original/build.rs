@@ -4,28 +4,26 @@
 use std::path::{Path, PathBuf};
 use std::{env, fs};
 
-/// Replaces `find`, which must stand exactly once in `file`, by `put`.
-pub struct Edit {
-    pub file: &'static str,
-    pub find: &'static str,
-    pub put: &'static str,
-    pub why: &'static str,
-}
-
-#[path = "edits.rs"]
+mod apply;
 mod edits;
-#[path = "wrong_readings.rs"]
 mod wrong_readings;
+
+use apply::{Edit, edited, stop};
 
 const FILES: [&str; 3] = ["mod.rs", "stack.rs", "global_cache.rs"];
 
 /// Modules of our own that stand inside the original, to see its private parts.
-const INSIDE: [(&str, &str); 2] =
-    [("checks.rs", "checks.rs"), ("cache_access.rs", "global_cache/cache_access.rs")];
+const INSIDE: [(&str, &str); 3] = [
+    ("checks.rs", "checks.rs"),
+    ("cache_access.rs", "global_cache/cache_access.rs"),
+    ("wrongly.rs", "wrongly.rs"),
+];
 
 fn main() {
     println!("cargo::rerun-if-env-changed=SEARCH_GRAPH_SRC");
-    println!("cargo::rerun-if-changed=build.rs");
+    for list in ["build.rs", "apply.rs", "edits.rs", "wrong_readings"] {
+        println!("cargo::rerun-if-changed={list}");
+    }
     let here = PathBuf::from(env::var("CARGO_MANIFEST_DIR").unwrap());
     let out = PathBuf::from(env::var("OUT_DIR").unwrap()).join("search_graph");
     fs::create_dir_all(out.join("global_cache")).unwrap();
@@ -35,20 +33,21 @@ fn main() {
         None => here.join("../../../shared/docs/src"),
     }
     .join("src/search_graph");
-    let with_wrong_readings = env::var_os("CARGO_FEATURE_WRONG_READINGS").is_some();
+    let wrong = if env::var_os("CARGO_FEATURE_WRONG_READINGS").is_some() {
+        wrong_readings::TOPICS
+    } else {
+        &[]
+    };
     for file in FILES {
-        let text = edited(file, read(&source.join(file)), with_wrong_readings);
-        fs::write(out.join(file), text).unwrap();
+        let edits = edits::EDITS.iter().chain(wrong.iter().flat_map(|topic| topic.edits));
+        fs::write(out.join(file), edited(file, read(&source.join(file)), edits)).unwrap();
     }
     for (from, to) in INSIDE {
         fs::write(out.join(to), read(&here.join("inside").join(from))).unwrap();
     }
-    for list in ["edits.rs", "wrong_readings.rs"] {
-        println!("cargo::rerun-if-changed={list}");
-    }
-    let readings = if with_wrong_readings { wrong_readings::READINGS } else { &[] };
+    let readings: Vec<_> = wrong.iter().flat_map(|topic| topic.readings).collect();
     let list = format!(
-        "/// The wrong readings: number, and what is wrong.\n\
+        "/// The wrong readings of the original: number, and what is wrong.\n\
          pub const WRONG_READINGS: &[(u32, &str)] = &{readings:?};\n"
     );
     fs::write(out.with_file_name("wrong_readings.rs"), list).unwrap();
@@ -68,33 +67,4 @@ fn read(path: &Path) -> String {
             path.display()
         ))
     })
-}
-
-fn edited(file: &str, mut text: String, with_wrong_readings: bool) -> String {
-    for edit in edits::EDITS.iter().filter(|e| e.file == file) {
-        text = apply(edit, &text);
-    }
-    if with_wrong_readings {
-        for edit in wrong_readings::EDITS.iter().filter(|e| e.file == file) {
-            text = apply(edit, &text);
-        }
-    }
-    text
-}
-
-fn apply(edit: &Edit, text: &str) -> String {
-    let found = text.matches(edit.find).count();
-    if found != 1 {
-        stop(&format!(
-            "the edit \"{}\" of {} finds its text {found} times, not once: {:?}",
-            edit.why, edit.file, edit.find
-        ));
-    }
-    text.replacen(edit.find, edit.put, 1)
-}
-
-/// Ends the build with a plain message.
-fn stop(message: &str) -> ! {
-    println!("cargo::error={}", message.replace('\n', " "));
-    std::process::exit(1)
 }

@@ -2,4 +2,5 @@ pub mod Counters
 pub mod Document
 pub mod Example
 pub mod Extensions
+pub mod Hunted
 pub mod Numbers

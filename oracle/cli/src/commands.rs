@@ -8,11 +8,12 @@ use oracle_core::book::Book;
 use oracle_core::case::{Case, Expected, Query, read_cases, to_hex};
 use oracle_core::demand3::{self, Counts, Extent};
 use oracle_core::generate::{CLASSES, class_named};
-use oracle_core::{Limits, Outcome, WRONG_READINGS, reply_within, work_len};
+use oracle_core::recorded;
+use oracle_core::{Limits, Outcome, reply_within, work_len, wrong_readings};
 
 use crate::arguments::Arguments;
 
-type Done = Result<bool, String>;
+pub type Done = Result<bool, String>;
 
 const CASE_FUEL: u64 = 1_000_000;
 
@@ -60,7 +61,7 @@ pub fn classes(given: Arguments) -> Done {
 
 pub fn readings(given: Arguments) -> Done {
     given.end()?;
-    for (number, what) in WRONG_READINGS {
+    for (number, what) in wrong_readings() {
         say(&format!("{number:>3} {what}"))?;
     }
     Ok(true)
@@ -72,6 +73,22 @@ pub fn generate(mut given: Arguments) -> Done {
     let (seed, count) = (given.need_number("SEED")?, given.need_number("COUNT")?);
     given.end()?;
     (0..count).try_for_each(|number| print_case(&class.case(seed, number)))?;
+    Ok(true)
+}
+
+/// Prints one of the recorded files.
+pub fn recorded(mut given: Arguments) -> Done {
+    let name = given.need("FILE")?;
+    given.end()?;
+    let cases = recorded::cases(&name).ok_or_else(|| {
+        let known: Vec<&str> = recorded::FILES.iter().map(|(name, _)| *name).collect();
+        format!("no file {name:?}; there are {}", known.join(", "))
+    })?;
+    let what = recorded::FILES.iter().find(|(known, _)| *known == name).map_or("", |(_, w)| w);
+    say(&format!("# Recorded cases: {what}."))?;
+    say("# Made by (the format is told in oracle/README.md)")?;
+    say(&format!("#     oracle recorded {name} > tests/vectors/{name}.txt\n"))?;
+    cases.iter().try_for_each(print_case)?;
     Ok(true)
 }
 
@@ -151,7 +168,7 @@ fn limits_and_cases(mut given: Arguments) -> Result<(Limits, Vec<Case>), String>
     Ok((Limits { fuel, ..Limits::default() }, read_cases(&read_input()?)?))
 }
 
-fn print_case(case: &Case) -> Result<(), String> {
+pub fn print_case(case: &Case) -> Result<(), String> {
     let mut text = String::new();
     case.write(&mut text);
     say(text.trim_end_matches('\n'))?;
@@ -159,7 +176,7 @@ fn print_case(case: &Case) -> Result<(), String> {
 }
 
 /// Prints a line; ends quietly when nobody reads on.
-fn say(line: &str) -> Result<(), String> {
+pub fn say(line: &str) -> Result<(), String> {
     match writeln!(std::io::stdout(), "{line}") {
         Err(error) if error.kind() == std::io::ErrorKind::BrokenPipe => std::process::exit(0),
         other => other.map_err(|error| format!("cannot write: {error}")),
@@ -170,7 +187,7 @@ fn read_file(name: &str) -> Result<Vec<u8>, String> {
     fs::read(name).map_err(|error| format!("{name}: {error}"))
 }
 
-fn read_input() -> Result<String, String> {
+pub fn read_input() -> Result<String, String> {
     let mut text = String::new();
     let read = std::io::stdin().read_to_string(&mut text);
     read.map_err(|error| format!("cannot read the standard input: {error}"))?;

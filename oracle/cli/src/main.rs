@@ -2,6 +2,8 @@
 
 mod arguments;
 mod commands;
+#[cfg(feature = "wrong_readings")]
+mod hunting;
 
 use std::process::ExitCode;
 
@@ -31,8 +33,18 @@ oracle: document 01's queries, answered by the original search graph
   oracle demand3 [--lists N] [--seconds S] [--seed K]
       Checks demand 3, panics and the state after each frame on random lists (default: 10
       seconds, seed 1); exit status 1 with a small book if something is wrong.
+  oracle recorded FILE
+      Prints one of the recorded files of tests/vectors, made anew: document, refusals, caches
+      or random.
   oracle readings
       Lists the wrong readings that this build knows (feature wrong_readings).
+  oracle hunt [--rounds N] [--seconds S] [--seed K] [--readings N,N,..]
+      Hunts small cases that catch wrong readings (feature wrong_readings) and prints few of
+      them; tells the standard error how it goes and what is not caught. Ends after N rounds
+      (default 200) or S seconds (default 600).
+  oracle hunted-check [--table] < cases
+      Confirms that each case catches the readings that its comment lists (feature
+      wrong_readings); exit status 1 if not. With --table prints which cases catch which.
   oracle help
 
   --mutant N, with any command, switches on wrong reading N (feature wrong_readings).
@@ -64,7 +76,12 @@ fn run() -> Result<bool, String> {
         Some("answer") => commands::answer(given),
         Some("verify") => commands::verify(given),
         Some("demand3") => commands::demand3(given),
+        Some("recorded") => commands::recorded(given),
         Some("readings") => commands::readings(given),
+        #[cfg(feature = "wrong_readings")]
+        Some("hunt") => hunting::hunt(given),
+        #[cfg(feature = "wrong_readings")]
+        Some("hunted-check") => hunting::hunted_check(given),
         Some("help" | "--help" | "-h") => {
             print!("{HELP}");
             Ok(true)
@@ -76,7 +93,7 @@ fn run() -> Result<bool, String> {
 
 #[cfg(feature = "wrong_readings")]
 fn read_wrongly(number: u64) -> Result<(), String> {
-    let known = oracle_core::WRONG_READINGS.iter().any(|(n, _)| u64::from(*n) == number);
+    let known = oracle_core::wrong_readings().iter().any(|(n, _)| u64::from(*n) == number);
     if number != 0 && !known {
         return Err(format!("no wrong reading {number}; see `oracle readings`"));
     }

@@ -6,7 +6,6 @@ use std::panic::{AssertUnwindSafe, catch_unwind};
 use std::rc::Rc;
 
 use original::hooks::{self, Stop};
-use original::mutant;
 use original::search_graph::{
     CandidateHeadUsages, Cx, Delegate, GlobalCache, LowerAvailableDepth, PathKind, SearchGraph,
 };
@@ -194,9 +193,7 @@ fn read_pick(graph: &mut SearchGraph<PartReader>, candidates: &[Part]) -> u8 {
     if !yes_met {
         return highest;
     }
-    if !mutant(100) {
-        graph.ignore_candidate_head_usages(others);
-    }
+    graph.ignore_candidate_head_usages(others);
     YES
 }
 

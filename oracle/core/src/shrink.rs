@@ -1,10 +1,9 @@
 //! Makes a failing list of queries smaller while it still fails.
 
-use crate::book::{Book, Part};
+use crate::book::{Book, Header, Part};
 use crate::case::Case;
 
-/// The smallest case that single steps lead to. The cache is taken as zeros where its length has
-/// to follow the book.
+/// The smallest case that single steps lead to. The cache follows the book.
 pub fn shrink(case: &Case, still_fails: &dyn Fn(&Case) -> bool) -> Case {
     let mut best = case.clone();
     while let Some(next) = steps(&best).into_iter().find(|c| still_fails(c)) {
@@ -33,6 +32,28 @@ fn steps(case: &Case) -> Vec<Case> {
         }
     }
     out.extend(smaller_headers(case, &book));
+    out.extend(smaller_caches(case, &book));
+    out
+}
+
+/// The cache with one slot vacant, or with one nested goal or the result less.
+fn smaller_caches(case: &Case, book: &Book) -> Vec<Case> {
+    let mut out = Vec::new();
+    if case.cache.len() != book.header.cache_len() {
+        return out;
+    }
+    let held = |start: &usize| case.cache[*start] != 0;
+    for start in (0..case.cache.len()).step_by(book.header.slot_len()).filter(held) {
+        let slot = start..start + book.header.slot_len();
+        let mut vacant = case.clone();
+        vacant.cache[slot.clone()].fill(0);
+        out.push(vacant);
+        for byte in (slot.start + 1..slot.end).filter(|byte| case.cache[*byte] != 0) {
+            let mut less = case.clone();
+            less.cache[byte] = 0;
+            out.push(less);
+        }
+    }
     out
 }
 
@@ -48,6 +69,9 @@ fn smaller_parts(part: &Part) -> Vec<Part> {
         Part::Call { goal, kind, lower } => {
             if *kind != 0 {
                 out.push(Part::Call { goal: *goal, kind: 0, lower: *lower });
+            }
+            if *goal != 0 {
+                out.push(Part::Call { goal: 0, kind: *kind, lower: *lower });
             }
             return out;
         }
@@ -80,7 +104,7 @@ fn without_goal(case: &Case, book: &Book, gone: usize) -> Option<Case> {
     for part in &mut book.parts {
         *part = renumbered(part, gone);
     }
-    let mut out = with_book(case, &book);
+    let mut out = with_book(case, &book, Some(gone));
     for query in &mut out.queries {
         query.goal -= usize::from(query.goal > gone);
     }
@@ -107,30 +131,55 @@ fn smaller_headers(case: &Case, book: &Book) -> Vec<Case> {
         let mut changed = book.clone();
         change(&mut changed);
         if changed != *book {
-            out.push(with_book(case, &changed));
+            out.push(with_book(case, &changed, None));
         }
     };
     with(&|b| b.header.top_depth = b.header.top_depth.saturating_sub(1));
+    with(&|b| b.header.step_limit /= 2);
     with(&|b| b.header.step_limit = b.header.step_limit.saturating_sub(1));
     with(&|b| b.header.divisor = 1);
+    with(&|b| b.header.divisor = b.header.divisor.min(2));
+    with(&|b| b.header.provisional_cache = true);
     for query in 0..case.queries.len() {
-        let mut lower = case.clone();
-        if lower.queries[query].depth > 0 {
-            lower.queries[query].depth -= 1;
-            out.push(lower);
+        let depth = case.queries[query].depth;
+        for lower in [depth / 2, depth.saturating_sub(1)] {
+            if lower < depth {
+                let mut changed = case.clone();
+                changed.queries[query].depth = lower;
+                out.push(changed);
+            }
         }
     }
     out
 }
 
-/// The case with another book, and with zeros where the cache's length changes.
-fn with_book(case: &Case, book: &Book) -> Case {
+/// The case with another book, in which the goal `gone` is left out; the cache follows, if its
+/// length was right.
+fn with_book(case: &Case, book: &Book, gone: Option<usize>) -> Case {
     let mut out = Case { book: book.to_bytes(), ..case.clone() };
-    if out.cache.len() != book.header.cache_len() {
-        out.cache = vec![0; book.header.cache_len()];
+    if let Ok(old) = Book::read(&case.book)
+        && case.cache.len() == old.header.cache_len()
+    {
+        out.cache = following(&old.header, &book.header, &case.cache, gone);
     }
-    for query in &mut out.queries {
+    let right = Book::read(&case.book).map_or(0, |old| crate::work_len(old.header.goals));
+    for query in out.queries.iter_mut().filter(|q| q.work_len == right) {
         query.work_len = crate::work_len(book.header.goals);
+    }
+    out
+}
+
+/// The slots that are left of a cache, without the goal `gone` and without the depths above T.
+fn following(old: &Header, new: &Header, cache: &[u8], gone: Option<usize>) -> Vec<u8> {
+    let mut out = Vec::new();
+    for (i, slot) in cache.chunks(old.slot_len()).enumerate() {
+        let (goal, number) = (i / old.slots_per_goal(), i % old.slots_per_goal());
+        if Some(goal) != gone && number < new.slots_per_goal() {
+            let depth = slot[2].min(new.top_depth as u8);
+            out.extend([slot[0], slot[1], if number == 0 { depth } else { slot[2] }]);
+            let nested = slot[3..].iter().enumerate();
+            out.extend(nested.filter(|(goal, _)| Some(*goal) != gone).map(|(_, flags)| *flags));
+        }
     }
     out
 }

@@ -1,5 +1,5 @@
 /// The length of the work buffer for G goals; refusal 9 is any other length.
-/// A stand-in until the library publishes its own.
+/// The formula is the library's own: docs/workspace.md.
 pub fn work_len(goals: usize) -> usize {
-    1000 * goals
+    4 * goals * (41 * goals + 24)
 }

@@ -1,7 +1,7 @@
 //! One function for each sort of good book.
 
 use super::shapes::{Shape, empty, fitted, header, some_kinds};
-use crate::book::{Book, COINDUCTIVE, FORCED_AMBIGUITY, INDUCTIVE, Part, UNKNOWN};
+use crate::book::{Book, COINDUCTIVE, FORCED_AMBIGUITY, Header, INDUCTIVE, Part, UNKNOWN};
 use crate::random::Random;
 
 fn of_shape(r: &mut Random, shape: &Shape, goals: usize, top_depth: usize) -> Book {
@@ -121,6 +121,23 @@ fn picks_of(r: &mut Random, kinds: Vec<u8>) -> Book {
     let shape = Shape { picks: 80, width: 4, leaves: 35, empty: 15, ..Shape::new(kinds) };
     let (goals, top) = (r.between(1, 5), r.between(0, 7));
     of_shape(r, &shape, goals, top)
+}
+
+/// Few goals, each a pick, any or all of calls, and few runs allowed.
+pub fn knots(r: &mut Random) -> Book {
+    let kinds =
+        if r.chance(70) { r.choose(&[[0, 0], [0, 2], [2, 2]]).to_vec() } else { some_kinds(r) };
+    let (nest, width) = (r.between(2, 3), r.between(2, 4));
+    let (undecided, empty) = (r.choose(&[0, 0, 4]), r.choose(&[4, 10]));
+    let lower = r.choose(&[50, 85, 100]);
+    let shape = Shape { kinds, nest, width, leaves: 25, picks: 45, undecided, empty, lower };
+    let goals = r.between(2, 5);
+    let top_depth = r.between(1, goals + 2);
+    let step_limit = r.choose(&[1, 2, 2, 3, 3, 4]);
+    let divisor = r.choose(&[1, 2, 3]);
+    let header = Header { provisional_cache: true, goals, top_depth, step_limit, divisor };
+    let parts = (0..goals).map(|goal| shape.part(r, goal, goals)).collect();
+    fitted(Book { header, parts })
 }
 
 pub fn nested(r: &mut Random) -> Book {

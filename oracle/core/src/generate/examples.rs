@@ -74,16 +74,61 @@ pub fn another_result_held() -> Case {
 
 /// The book whose goal 0 at depth 4 runs one frame 99 times.
 pub fn ninety_nine_runs() -> Case {
-    let mut book = line([1, 6, 4, 99, 1]);
-    let all: [&[[usize; 5]]; 6] = [
-        &[[3, 3, 0, 0, 0], [2, 5, 0, 1, 0], [2, 1, 1, 1, 0], [2, 5, 0, 1, 0]],
-        &[[4, 3, 0, 0, 0], [2, 3, 0, 1, 0], [2, 0, 0, 1, 0], [3, 0, 0, 0, 0]],
-        &[[3, 2, 0, 0, 0], [4, 2, 0, 0, 0], [2, 3, 0, 1, 0], [2, 4, 1, 1, 0], [2, 5, 0, 1, 0]],
-        &[[2, 2, 0, 1, 0]],
-        &[[2, 1, 0, 1, 0]],
-        &[[2, 1, 0, 1, 0]],
-    ];
-    for (goal, lines) in all.iter().enumerate() {
+    from_lines(
+        [1, 6, 4, 99, 1],
+        &[
+            &[[3, 3, 0, 0, 0], [2, 5, 0, 1, 0], [2, 1, 1, 1, 0], [2, 5, 0, 1, 0]],
+            &[[4, 3, 0, 0, 0], [2, 3, 0, 1, 0], [2, 0, 0, 1, 0], [3, 0, 0, 0, 0]],
+            &[[3, 2, 0, 0, 0], [4, 2, 0, 0, 0], [2, 3, 0, 1, 0], [2, 4, 1, 1, 0], [2, 5, 0, 1, 0]],
+            &[[2, 2, 0, 1, 0]],
+            &[[2, 1, 0, 1, 0]],
+            &[[2, 1, 0, 1, 0]],
+        ],
+    )
+}
+
+/// A book in which a frame finishes without cycle usages (`RebaseReason::NoCycleUsages`) when
+/// goal 0 is asked at depth 4.
+pub fn no_cycle_usages() -> Case {
+    from_lines(
+        [1, 5, 4, 3, 1],
+        &[
+            &[[3, 2, 0, 0, 0], [2, 4, 0, 1, 0], [2, 4, 0, 1, 0]],
+            &[[5, 3, 0, 0, 0], [2, 2, 0, 1, 0], [2, 3, 0, 1, 0], [3, 0, 0, 0, 0]],
+            &[[3, 2, 0, 0, 0], [4, 2, 0, 0, 0], [2, 3, 2, 1, 0], [2, 0, 2, 0, 0], [2, 4, 0, 1, 0]],
+            &[[2, 2, 0, 1, 0]],
+            &[[2, 1, 0, 1, 0]],
+        ],
+    )
+}
+
+/// A book that shows what a third run starts from and how a later run finishes, when goal 0 is
+/// asked at depth 4.
+pub fn three_runs() -> Case {
+    from_lines(
+        [1, 6, 4, 3, 1],
+        &[
+            &[[3, 3, 0, 0, 0], [2, 5, 0, 1, 0], [2, 5, 0, 1, 0], [2, 4, 0, 1, 0]],
+            &[[5, 3, 0, 0, 0], [2, 3, 0, 1, 0], [2, 0, 0, 0, 0], [3, 0, 0, 0, 0]],
+            &[
+                [3, 2, 0, 0, 0],
+                [4, 3, 0, 0, 0],
+                [2, 3, 2, 1, 0],
+                [2, 0, 0, 1, 0],
+                [3, 0, 0, 0, 0],
+                [2, 5, 0, 1, 0],
+            ],
+            &[[2, 2, 0, 1, 0]],
+            &[[2, 2, 0, 1, 0]],
+            &[[2, 1, 0, 1, 0]],
+        ],
+    )
+}
+
+/// A book from its goals' lines; goal 0 is asked at depth 4.
+fn from_lines(header: [usize; 5], goals: &[&[[usize; 5]]]) -> Case {
+    let mut book = line(header);
+    for (goal, lines) in goals.iter().enumerate() {
         book.extend(line([1, goal, 0, 0, 0]));
         book.extend(lines.iter().flat_map(|fields| line(*fields)));
     }
@@ -93,10 +138,12 @@ pub fn ninety_nine_runs() -> Case {
 /// Any of the examples above.
 pub fn any(r: &mut Random) -> Case {
     let table = table();
-    match r.below(table.len() + 3) {
+    match r.below(table.len() + 5) {
         0 => one_entry_too_many(),
         1 => another_result_held(),
         2 => ninety_nine_runs(),
-        n => table[n - 3].case(),
+        3 => no_cycle_usages(),
+        4 => three_runs(),
+        n => table[n - 5].case(),
     }
 }

@@ -2,6 +2,7 @@
 
 mod books;
 mod caches;
+pub(crate) mod change;
 mod damage;
 pub mod examples;
 mod shapes;
@@ -28,6 +29,7 @@ pub const CLASSES: &[Class] = &[
     class("rings", "rings of goals, every mix of kinds", |r| honest(r, books::rings)),
     class("tangled", "cycles that cross each other", |r| honest(r, books::tangled)),
     class("picks", "picks of calls, empty parts and undecided lines", |r| honest(r, books::picks)),
+    class("knots", "few goals, picks and cycles, few runs", |r| honest(r, books::knots)),
     class("nested", "parts nested up to 8 deep", |r| honest(r, books::nested)),
     class("overflow", "little depth, large divisors", |r| honest(r, books::overflow)),
     class("uncached", "provisional cache off", |r| honest(r, books::uncached)),
