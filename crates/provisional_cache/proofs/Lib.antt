@@ -1,0 +1,5 @@
+pub mod Entries
+pub mod Tests
+pub mod Loops
+pub mod Writes
+pub mod Inserts
