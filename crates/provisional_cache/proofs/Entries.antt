@@ -1,20 +1,19 @@
 -- One entry of a graph: its bytes, and what its reads and writes give.
 use mathlib.Core.Path.{_≡_, refl, sym, ap, ap₂, _∙_, subst}
-use mathlib.Core.Bool.{Bool, true, false}
-use mathlib.Core.List.{List, [], _∷_}
-use Prim.Native.Nat.{ℕ, suc, _+_, _*_, _-_, _≤_, _<_}
+use mathlib.Core.Bool.{Bool}
+use mathlib.Core.List.{List}
+use Prim.Native.Nat.{ℕ, _+_, _*_, _-_, _≤_, _<_}
 use native.Mathlib.Omega.{arith}
-use lib.ListN.{length, getD, set, take, drop, length-set}
+use lib.ListN.{length, set, take, drop, length-set}
 use Rattle.definition.specs.declared.paths.PathKind.{PathKind}
 use Rattle.definition.specs.declared.answers.Answer.{Answer}
 use Rattle.definition.specs.declared.answers.Answer.the-variants.{No, Yes, Undecided, Overflow}
 use Rattle.definition.specs.Paths.{kindNumber, kindOf}
 use Rattle.definition.specs.Answers.{answerNumber, answerOf}
-use Rattle.definition.specs.Graph.{Entry}
-use Rattle.buffer.specs.Regions.{region, overwrite}
+use Rattle.buffer.specs.Regions.{region}
 use Rattle.buffer.proofs.Regions.{length-region}
 use Rattle.layout.specs.Blocks.{headsSize, HeadsBlock}
-use Rattle.layout.specs.Frame.{truth, headsStart, frameSize}
+use Rattle.layout.specs.Frame.{truth, headsStart}
 use Rattle.layout.specs.Entry.{entryHeadsStart, entrySize, entryOf}
 use Rattle.layout.specs.Work.{entryStart}
 use Rattle.layout.proofs.Frames.{entry-byte, withEntryByte}

@@ -1,12 +1,12 @@
 -- `insert`: full, or one entry more, which is the definition's.
-use mathlib.Core.Path.{_≡_, refl, sym, ap, _∙_}
+use mathlib.Core.Path.{_≡_, refl, ap, _∙_}
 use mathlib.Core.Bool.{Bool}
 use mathlib.Core.List.{List, [], _∷_, _++_}
 use Prim.Native.Nat.{ℕ, _+_, _*_, _≤_, _<_}
 use native.Mathlib.Omega.{arith}
 use Rattle.definition.specs.declared.paths.PathKind.{PathKind}
 use Rattle.definition.specs.declared.answers.Answer.{Answer}
-use Rattle.definition.specs.Graph.{Entry, finalize}
+use Rattle.definition.specs.Graph.{finalize}
 use Rattle.definition.specs.Heads.{highestIndex}
 use Rattle.definition.specs.Stack.{cyclePathKind}
 use Rattle.definition.specs.Evaluate.{newEntry}

@@ -3,11 +3,10 @@ use mathlib.Core.Path.{_≡_, refl, sym, ap, ap₂, _∙_}
 use mathlib.Core.Bool.{Bool, true, false, _||_}
 use mathlib.Core.Option.{Option, none, some}
 use mathlib.Core.List.{List, [], _∷_, _++_, append-nil, append-assoc}
-use Prim.Native.Nat.{ℕ, suc, _+_, _*_, _≤_, _<_}
+use Prim.Native.Nat.{ℕ, _+_, _*_, _≤_, _<_}
 use native.Mathlib.Numerals.{add-one}
 use native.Mathlib.Omega.{arith}
 use borrow.Author.Tests.{lt-ltb, le-ltb}
-use lib.Dec.{ltb}
 use lib.ListN.{length, drop, drop-of-length-le}
 use lib.Seq.{drop-cons}
 use Rattle.definition.specs.declared.paths.PathKind.{PathKind}
@@ -17,7 +16,7 @@ use Rattle.definition.specs.Graph.{Entry}
 use Rattle.definition.specs.Lookup.{entryMatches, firstMatch, entryApplies, anyEntryApplies}
 use Rattle.definition.specs.ProvisionalCache.{survivesRerun, survivors}
 use Rattle.layout.specs.Entry.{entryOf}
-use Rattle.layout.specs.Work.{entriesOf, graphLength}
+use Rattle.layout.specs.Work.{entriesOf}
 use Rattle.layout.proofs.Graphs.{length-entries, entries-at}
 use Rattle.stack.specs.Bytes.{GraphBytes}
 use Rattle.provisional_cache.specs.Entries.{entryBytes, entryAt, entryFound, FramesKept, keptOf, Compacted}

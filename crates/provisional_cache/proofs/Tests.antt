@@ -3,19 +3,18 @@ use mathlib.Core.Path.{_≡_, refl, sym, ap, ap₂, _∙_}
 use mathlib.Core.Bool.{Bool, true, false, not, _&&_, _||_}
 use mathlib.Core.Option.{Option, none, some}
 use mathlib.Core.List.{List, [], _∷_, _++_}
-use Prim.Native.Nat.{ℕ, zero, suc, _-_, _≤_, _<_}
+use Prim.Native.Nat.{ℕ, suc, _-_, _<_}
 use native.Mathlib.Omega.{arith}
 use borrow.Author.Tests.{eq-eqb, ne-eqb}
 use lib.Dec.{eqb, ltb}
 use lib.ListN.{getD, replicate}
 use Rattle.definition.specs.declared.paths.PathKind.{PathKind}
 use Rattle.definition.specs.declared.usages.HeadUsages.{HeadUsages}
-use Rattle.definition.specs.declared.heads.CycleHead.{CycleHead}
 use Rattle.definition.specs.Paths.{sameKind, extendWith, containsPath}
 use Rattle.definition.specs.Usages.{isEmpty}
 use Rattle.definition.specs.Heads.{CycleHeads, optLowestIndex, optHighestIndex, headsEmpty, highestIndex, usagesAt}
 use Rattle.definition.specs.Nested.{NestedGoals}
-use Rattle.definition.specs.Stack.{Frame, Stack, cyclePathKind}
+use Rattle.definition.specs.Stack.{Stack, cyclePathKind}
 use Rattle.definition.specs.Graph.{Entry}
 use Rattle.definition.specs.Lookup.{noneOrAbove, lastHeads, entryMatches, entryApplies}
 use Rattle.definition.specs.ProvisionalCache.{survivesRerun}
@@ -26,7 +25,7 @@ use Rattle.layout.specs.Frame.{headsStart, frameOf}
 use Rattle.layout.specs.Work.{stackOf}
 use Rattle.layout.proofs.Present.{lowest-place}
 use Rattle.buffer.specs.Regions.{region}
-use Rattle.stack.specs.Bytes.{frameBytes, frameAt}
+use Rattle.stack.specs.Bytes.{frameBytes}
 use Rattle.stack.proofs.Loops.{top, none-left}
 
 -- ---- the lowest head of the top frame

@@ -2,24 +2,23 @@
 use mathlib.Core.Path.{_≡_, refl, sym, ap, ap₂, _∙_, subst}
 use mathlib.Core.Bool.{Bool, true, false}
 use mathlib.Core.List.{List, [], _∷_, _++_, append-nil}
-use Prim.Native.Nat.{ℕ, suc, _+_, _*_, _-_, _≤_, _<_}
+use Prim.Native.Nat.{ℕ, _+_, _*_, _-_, _≤_, _<_}
 use native.Mathlib.Nat.{zero-add, mul-le-mul-right}
 use native.Mathlib.Numerals.{add-one}
 use native.Mathlib.Omega.{arith}
 use native.Mathlib.Decide.{decLt}
-use lib.ListN.{length, getD, set, take, drop}
+use lib.ListN.{length, getD, set, drop}
 use lib.Seq.{drop-set-lt}
 use Rattle.definition.specs.declared.paths.PathKind.{PathKind}
 use Rattle.definition.specs.declared.answers.Answer.{Answer}
 use Rattle.definition.specs.Graph.{Entry}
-use Rattle.definition.specs.Heads.{CycleHeads}
 use Rattle.buffer.specs.Regions.{region, overwrite}
 use Rattle.buffer.proofs.Regions.{length-region, region-before, region-region, region-inside, region-snoc, byte-before, overwrite-snoc, overwrite-back, length-overwrite}
 use Rattle.buffer.proofs.Tables.{apart}
-use Rattle.layout.specs.Blocks.{headsSize, headsOf}
-use Rattle.layout.specs.Entry.{entryHeadsStart, entrySize, entryOf}
+use Rattle.layout.specs.Blocks.{headsSize}
+use Rattle.layout.specs.Entry.{entrySize, entryOf}
 use Rattle.layout.specs.Frame.{headsStart, frameSize, frameOf}
-use Rattle.layout.specs.Work.{entriesStart, entryStart, frameStart, graphLength, stackOf, entriesOf}
+use Rattle.layout.specs.Work.{entriesStart, entryStart, frameStart, entriesOf}
 use Rattle.layout.proofs.Frames.{entry-heads}
 use Rattle.layout.proofs.Graphs.{entry-room, frame-room, entries-whole, entries-below, entries-under, entries-push-back, stack-entry, stack-entry-whole}
 use Rattle.stack.specs.Bytes.{GraphBytes, frameBytes, frameAt}

@@ -6,7 +6,6 @@ use layout::offsets;
 ghost use mathlib.Core.Path.{_≡_};
 ghost use Prim.Native.Nat.{_<_};
 ghost use Rattle.buffer.specs.Regions.{region};
-ghost use Rattle.definition.specs.Graph.{Entry};
 ghost use Rattle.definition.specs.Heads.{highestIndex};
 ghost use Rattle.definition.specs.ProvisionalCache.{survivesRerun};
 ghost use Rattle.layout.specs.Blocks.{headsSize};
@@ -115,9 +114,9 @@ pub fn start(
 }
 
 // The path from the highest head.
-pub fn set_path(entry: &mut [u8], goals: usize, path: PathKind)
+pub fn set_path(entry: &mut [u8], goals: usize, kind: PathKind)
     requires { ⌜ EntryBytes goals (now entry) ⌝ }
-    ensures { λ _. ⌜ entryOf goals (now (entry .exit)) ≡ withPath (entryOf goals (now (entry .entry))) path ⌝ }
+    ensures { λ _. ⌜ entryOf goals (now (entry .exit)) ≡ withPath (entryOf goals (now (entry .entry))) kind ⌝ }
 {
-    entry[2] = path.number();
+    entry[2] = kind.number();
 }

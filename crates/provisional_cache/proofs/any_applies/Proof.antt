@@ -1,9 +1,8 @@
-use mathlib.Core.Path.{_≡_, refl, sym, _∙_, ap}
-use Prim.Native.Nat.{ℕ, _-_, _≤_, _<_, _*_}
+use mathlib.Core.Path.{_≡_, refl, sym, _∙_}
+use Prim.Native.Nat.{_-_, _≤_, _<_, _*_}
 use native.Mathlib.Omega.{arith}
 use mathlib.Core.Bool.{Bool}
 use lib.ListN.{drop}
-use Rattle.definition.specs.Graph.{Entry}
 use Rattle.definition.specs.Lookup.{entryApplies, anyEntryApplies}
 use Rattle.layout.specs.Work.{stackOf, entriesOf}
 use Rattle.provisional_cache.proofs.Entries.{entry-bytes}

@@ -1,5 +1,5 @@
 use native.Mathlib.Omega.{arith}
-use Prim.Native.Nat.{_-_, _≤_, _<_, _*_}
+use Prim.Native.Nat.{_-_, _<_, _*_}
 use Rattle.provisional_cache.proofs.Entries.{entry-bytes}
 use Rattle.provisional_cache.proofs.Loops.{Cleared, graph-bytes, clear-start, clear-next, clear-done}
 use Rattle.provisional_cache.proofs.clear_for_rerun.Statement.{statement}

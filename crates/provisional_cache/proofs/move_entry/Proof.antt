@@ -1,8 +1,3 @@
-use native.Mathlib.Omega.{arith}
-use mathlib.Core.Path.{ap, ap₂, _∙_}
-use Prim.Native.Nat.{ℕ, _<_, _*_}
-use mathlib.Core.List.{List}
-use Rattle.buffer.specs.Regions.{region, overwrite}
 use Rattle.provisional_cache.proofs.Writes.{move-none, move-room, move-is}
 use borrow.Author.Needs.{needs}
 use Rattle.provisional_cache.proofs.move_entry.Statement.{statement}

@@ -1,5 +1,5 @@
 use native.Mathlib.Omega.{arith}
-use Prim.Native.Nat.{_-_, _<_}
+use Prim.Native.Nat.{_-_}
 use Rattle.stack.proofs.Graph.{frame-bytes}
 use Rattle.provisional_cache.proofs.Entries.{frame-heads-block}
 use Rattle.provisional_cache.proofs.Tests.{above-root, above-empty, above-lowest}

@@ -1,7 +1,6 @@
 use Rattle.stack.proofs.Graph.{frame-bytes}
 use Rattle.provisional_cache.proofs.Entries.{frame-heads-block}
 use Rattle.provisional_cache.proofs.Inserts.{path-is}
-use native.Mathlib.Omega.{arith}
 use borrow.Author.Needs.{needs}
 use Rattle.provisional_cache.proofs.path_from_head.Statement.{statement}
 use Rattle.provisional_cache.proofs.path_from_head.Tie as tie
