@@ -3,3 +3,4 @@ pub mod Tests
 pub mod Loops
 pub mod Writes
 pub mod Inserts
+pub mod Outcomes
