@@ -1,0 +1,81 @@
+-- One entry of a graph: its bytes, and what its reads and writes give.
+use mathlib.Core.Path.{_≡_, refl, sym, ap, ap₂, _∙_, subst}
+use mathlib.Core.Bool.{Bool}
+use mathlib.Core.List.{List}
+use Prim.Native.Nat.{ℕ, _+_, _*_, _-_, _≤_, _<_}
+use native.Mathlib.Omega.{arith}
+use lib.ListN.{length, set, take, drop, length-set}
+use Rattle.definition.specs.declared.paths.PathKind.{PathKind}
+use Rattle.definition.specs.declared.answers.Answer.{Answer}
+use Rattle.definition.specs.declared.answers.Answer.the-variants.{No, Yes, Undecided, Overflow}
+use Rattle.definition.specs.Paths.{kindNumber, kindOf}
+use Rattle.definition.specs.Answers.{answerNumber, answerOf}
+use Rattle.buffer.specs.Regions.{region}
+use Rattle.buffer.proofs.Regions.{length-region}
+use Rattle.layout.specs.Blocks.{headsSize, HeadsBlock}
+use Rattle.layout.specs.Frame.{truth, headsStart}
+use Rattle.layout.specs.Entry.{entryHeadsStart, entrySize, entryOf}
+use Rattle.layout.specs.Work.{entryStart}
+use Rattle.layout.proofs.Frames.{entry-byte, withEntryByte}
+use Rattle.layout.proofs.Graphs.{entry-room}
+use Rattle.stack.specs.Bytes.{FrameBytes, GraphBytes}
+use Rattle.stack.proofs.Parts.{part}
+use Rattle.stack.proofs.Fields.{kind-back}
+use Rattle.provisional_cache.specs.Entries.{EntryBytes, entryBytes, withPath, withFields}
+
+-- the bytes of an entry are an entry's
+pub entry-bytes : (goals : ℕ) (bs r : List ℕ) (i : ℕ) → GraphBytes goals bs → i < 2 * goals → r ≡ entryBytes goals i bs → EntryBytes goals r
+entry-bytes goals bs r i g lt e =
+    record { few = g .few; long = ap length e ∙ length-region (entryStart goals i) (entrySize goals) bs (entry-room goals bs (g .long) i lt) }
+
+-- entry i, at a, of n bytes
+module _ (goals : ℕ) (bs : List ℕ) (i a n : ℕ) (g : GraphBytes goals bs) (lt : i < 2 * goals) (is-a : a ≡ entryStart goals i) (is-n : n ≡ entrySize goals) where
+  pub part-room : a + n ≤ length bs
+  part-room = subst (λ (x : ℕ). x ≤ length bs) (sym (ap₂ (λ (x y : ℕ). x + y) is-a is-n)) (entry-room goals bs (g .long) i lt)
+
+  pub part-is : part bs a (a + n) ≡ entryBytes goals i bs
+  part-is = let e : a + n - a ≡ n = omega arith in ap₂ (λ (m k : ℕ). take m (drop k bs)) (e ∙ is-n) is-a
+
+-- ---- a block of heads, n bytes from a on
+pub heads-part : (bs : List ℕ) (a n m : ℕ) → n ≡ m → part bs a (a + n) ≡ region a m bs
+heads-part bs a n m is-n = let e : a + n - a ≡ n = omega arith in ap (λ (k : ℕ). take k (drop a bs)) (e ∙ is-n)
+
+pub entry-heads-block : (goals : ℕ) (bs r : List ℕ) → EntryBytes goals bs → r ≡ region entryHeadsStart (headsSize goals) bs → HeadsBlock goals r
+entry-heads-block goals bs r b e =
+    let l = b .long in
+    record { few = b .few; long = ap length e ∙ length-region entryHeadsStart (headsSize goals) bs (omega arith) }
+
+pub frame-heads-block : (goals : ℕ) (bs r : List ℕ) → FrameBytes goals bs → r ≡ region headsStart (headsSize goals) bs → HeadsBlock goals r
+frame-heads-block goals bs r b e =
+    let l = b .long in
+    record { few = b .few; long = ap length e ∙ length-region headsStart (headsSize goals) bs (omega arith) }
+
+-- ---- writes
+pub answer-back : (a : Answer) → answerOf (answerNumber a) ≡ a
+answer-back No = refl
+answer-back Yes = refl
+answer-back Undecided = refl
+answer-back Overflow = refl
+
+module _ (goals : ℕ) (bs : List ℕ) (long : length bs ≡ entrySize goals) where
+  pub path-written : (path : PathKind) (k : ℕ) → k ≡ kindNumber path → entryOf goals (set bs 2 k) ≡ withPath (entryOf goals bs) path
+  path-written path k is =
+      entry-byte goals bs long 2 k (omega arith)
+      ∙ (let e = ap kindOf is ∙ kind-back path in λ t. withPath (entryOf goals bs) (e t))
+
+  pub fields-written : (goal : ℕ) (overflow : Bool) (path : PathKind) (answer : Answer) (g o k a : ℕ) → g ≡ goal → truth o ≡ overflow → k ≡ kindNumber path → a ≡ answerNumber answer
+      → entryOf goals (set (set (set (set bs 0 g) 1 o) 2 k) 3 a) ≡ withFields (entryOf goals bs) goal overflow path answer
+  fields-written goal overflow path answer g o k a is-g is-o is-k is-a =
+      let b1 : List ℕ = set bs 0 g in
+      let b2 : List ℕ = set b1 1 o in
+      let b3 : List ℕ = set b2 2 k in
+      let l1 : length b1 ≡ entrySize goals = length-set bs 0 g ∙ long in
+      let l2 : length b2 ≡ entrySize goals = length-set b1 1 o ∙ l1 in
+      let l3 : length b3 ≡ entrySize goals = length-set b2 2 k ∙ l2 in
+      let e1 = entry-byte goals bs long 0 g (omega arith) in
+      let e2 = entry-byte goals b1 l1 1 o (omega arith) ∙ ap (withEntryByte 1 o) e1 in
+      let e3 = entry-byte goals b2 l2 2 k (omega arith) ∙ ap (withEntryByte 2 k) e2 in
+      let e4 = entry-byte goals b3 l3 3 a (omega arith) ∙ ap (withEntryByte 3 a) e3 in
+      let ek = ap kindOf is-k ∙ kind-back path in
+      let ea = ap answerOf is-a ∙ answer-back answer in
+      e4 ∙ (λ t. withFields (entryOf goals bs) (is-g t) (is-o t) (ek t) (ea t))

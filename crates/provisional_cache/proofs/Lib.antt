@@ -1,0 +1,6 @@
+pub mod Entries
+pub mod Tests
+pub mod Loops
+pub mod Writes
+pub mod Inserts
+pub mod Outcomes

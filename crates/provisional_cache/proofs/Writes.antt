@@ -1,0 +1,223 @@
+-- What a write of an entry does to a graph.
+use mathlib.Core.Path.{_≡_, refl, sym, ap, ap₂, _∙_, subst}
+use mathlib.Core.Bool.{Bool, true, false}
+use mathlib.Core.List.{List, [], _∷_, _++_, append-nil}
+use Prim.Native.Nat.{ℕ, _+_, _*_, _-_, _≤_, _<_}
+use native.Mathlib.Nat.{zero-add, mul-le-mul-right}
+use native.Mathlib.Numerals.{add-one}
+use native.Mathlib.Omega.{arith}
+use native.Mathlib.Decide.{decLt}
+use lib.ListN.{length, getD, set, drop}
+use lib.Seq.{drop-set-lt}
+use Rattle.definition.specs.declared.paths.PathKind.{PathKind}
+use Rattle.definition.specs.declared.answers.Answer.{Answer}
+use Rattle.definition.specs.Graph.{Entry}
+use Rattle.buffer.specs.Regions.{region, overwrite}
+use Rattle.buffer.proofs.Regions.{length-region, region-before, region-region, region-inside, region-snoc, byte-before, overwrite-snoc, overwrite-back, length-overwrite}
+use Rattle.buffer.proofs.Tables.{apart}
+use Rattle.layout.specs.Blocks.{headsSize}
+use Rattle.layout.specs.Entry.{entrySize, entryOf}
+use Rattle.layout.specs.Frame.{headsStart, frameSize, frameOf}
+use Rattle.layout.specs.Work.{entriesStart, entryStart, frameStart, entriesOf}
+use Rattle.layout.proofs.Frames.{entry-heads}
+use Rattle.layout.proofs.Graphs.{entry-room, frame-room, entries-whole, entries-below, entries-under, entries-push-back, stack-entry, stack-entry-whole}
+use Rattle.stack.specs.Bytes.{GraphBytes, frameBytes, frameAt}
+use Rattle.stack.proofs.Parts.{part, returned, part-length, part-back}
+use Rattle.provisional_cache.specs.Entries.{entryBytes, entryAt, withFields, FramesKept, keptOf, Compacted}
+use Rattle.provisional_cache.proofs.Entries.{part-room, part-is}
+use Rattle.provisional_cache.proofs.Loops.{frames-same, frames-then, graph-bytes}
+
+-- ---- orders, over what the sizes are
+later : (base size : ℕ) {k n : ℕ} → k ≤ n → base + k * size ≤ base + n * size
+later base size h = omega (arith, mul-le-mul-right size h)
+
+fits-of : (a : ℕ) {x y n : ℕ} → x ≡ y → a + y ≤ n → a + x ≤ n
+fits-of a e h = omega arith
+
+into-of : (a k x : ℕ) {y n : ℕ} → k + x ≤ y → a + y ≤ n → a + k + x ≤ n
+into-of a k x p h = omega arith
+
+start-of : (a x j : ℕ) → 0 + a ≤ a + x + j
+start-of a x j = omega arith
+
+not-under : (a b : ℕ) → (a < b → ⊥) → b ≤ a
+not-under a b ne = omega arith
+
+start-at : (a x : ℕ) → 0 + a ≤ a + x
+start-at a x = omega arith
+
+-- the bytes of a frame are among those that are kept
+pub frame-kept : (goals : ℕ) (old new : List ℕ) (i : ℕ) → FramesKept goals old new → i < goals → frameBytes goals i new ≡ frameBytes goals i old
+frame-kept goals old new i f lt =
+    sym (inside new) ∙ ap (region (frameStart goals i) (frameSize goals)) (f .bytes) ∙ inside old
+  where
+    inside : (l : List ℕ) → region (frameStart goals i) (frameSize goals) (region 0 (entriesStart goals) l) ≡ frameBytes goals i l
+    inside l =
+        region-region 0 (entriesStart goals) (frameStart goals i) (frameSize goals) l (apart i goals (frameSize goals) lt)
+        ∙ ap (λ (a : ℕ). region a (frameSize goals) l) (zero-add (frameStart goals i))
+
+module _ (goals : ℕ) (bs : List ℕ) (g : GraphBytes goals bs) where
+  -- a write in entry k, j bytes into it
+  pub frames-inside : (k j : ℕ) (ys : List ℕ) → k < 2 * goals → j + length ys ≤ entrySize goals → FramesKept goals bs (overwrite bs (entryStart goals k + j) ys)
+  frames-inside k j ys lt inner =
+      record {
+        bytes = region-before bs (entryStart goals k + j) ys (into-of (entryStart goals k) j (length ys) inner (entry-room goals bs (g .long) k lt)) 0 (entriesStart goals) (start-of (entriesStart goals) (k * entrySize goals) j);
+        stacks = stack-entry goals bs (g .long) k j ys lt inner;
+      }
+
+  -- a write of entry k
+  pub frames-whole : (k : ℕ) (ys : List ℕ) → k < 2 * goals → length ys ≡ entrySize goals → FramesKept goals bs (overwrite bs (entryStart goals k) ys)
+  frames-whole k ys lt whole =
+      record {
+        bytes = region-before bs (entryStart goals k) ys (fits-of (entryStart goals k) whole (entry-room goals bs (g .long) k lt)) 0 (entriesStart goals) (start-at (entriesStart goals) (k * entrySize goals));
+        stacks = stack-entry-whole goals bs (g .long) k ys lt whole;
+      }
+
+  -- ---- `move_entry`
+  pub move-none : (from to : ℕ) → from < 2 * goals → from ≡ to → bs ≡ overwrite bs (entryStart goals to) (entryBytes goals from bs)
+  move-none from to lt e =
+      sym (overwrite-back bs (entryStart goals from) (entrySize goals) (entry-room goals bs (g .long) from lt))
+      ∙ ap (λ (k : ℕ). overwrite bs (entryStart goals k) (entryBytes goals from bs)) e
+
+  pub move-room : (from to : ℕ) → to ≤ from → from < 2 * goals → (a b n : ℕ) → a ≡ entryStart goals from → b ≡ entryStart goals to → n ≡ entrySize goals → (b ≤ a) × (a + n ≤ length bs)
+  move-room from to le lt a b n is-a is-b is-n = (
+    subst (λ (x : ℕ). x ≤ a) (sym is-b) (subst (λ (x : ℕ). entryStart goals to ≤ x) (sym is-a) (later (entriesStart goals) (entrySize goals) le)),
+    subst (λ (x : ℕ). x ≤ length bs) (sym (ap₂ (λ (x y : ℕ). x + y) is-a is-n)) (entry-room goals bs (g .long) from lt),
+  )
+
+  pub move-is : (from to a b n : ℕ) (new : List ℕ) → a ≡ entryStart goals from → b ≡ entryStart goals to → n ≡ entrySize goals → new ≡ overwrite bs b (region a n bs)
+      → new ≡ overwrite bs (entryStart goals to) (entryBytes goals from bs)
+  move-is from to a b n new is-a is-b is-n is = is ∙ ap₂ (λ (k : ℕ) (l : List ℕ). overwrite bs k l) is-b (ap₂ (λ (k m : ℕ). region k m bs) is-a is-n)
+
+  -- ---- `keep_if`
+  pub keep-not : (i kept : ℕ) (keep : Bool) → keep ≡ false → Compacted goals i kept keep bs bs kept
+  keep-not i kept keep drops =
+      record {
+        least = omega arith;
+        most = omega arith;
+        frames = frames-same goals bs;
+        entries = sym (append-nil (entriesOf goals kept bs)) ∙ sym (ap (λ (t : Bool). entriesOf goals kept bs ++ keptOf t (entryAt goals i bs)) drops);
+        rest = λ n few. refl;
+      }
+
+  -- the entries behind entry i, after a write of an entry that does not come after it
+  keep-behind : (i kept : ℕ) (ys : List ℕ) → kept ≤ i → kept < 2 * goals → length ys ≡ entrySize goals → (n : ℕ) → drop (i + 1) (entriesOf goals n (overwrite bs (entryStart goals kept) ys)) ≡ drop (i + 1) (entriesOf goals n bs)
+  keep-behind i kept ys le lo whole n =
+      elim (decLt kept n) [
+        | yes under ↦
+            ap (drop (i + 1)) (entries-whole goals bs (g .long) kept ys lo whole n under)
+            ∙ drop-set-lt (i + 1) (entriesOf goals n bs) kept (entryOf goals ys) (omega arith)
+        | no past ↦
+            ap (drop (i + 1)) (entries-below goals n bs (entryStart goals kept) ys (later (entriesStart goals) (entrySize goals) (not-under kept n past)) (fits-of (entryStart goals kept) whole (entry-room goals bs (g .long) kept lo)))
+      ]
+
+  pub keep-moved : (i kept : ℕ) (keep : Bool) (new : List ℕ) → keep ≡ true → kept ≤ i → i < 2 * goals → new ≡ overwrite bs (entryStart goals kept) (entryBytes goals i bs)
+      → Compacted goals i kept keep bs new (kept + 1)
+  keep-moved i kept keep new keeps le lt is =
+      let ys : List ℕ = entryBytes goals i bs in
+      let whole : length ys ≡ entrySize goals = length-region (entryStart goals i) (entrySize goals) bs (entry-room goals bs (g .long) i lt) in
+      let lo : kept < 2 * goals = omega arith in
+      record {
+        least = omega arith;
+        most = omega arith;
+        frames = subst (FramesKept goals bs) (sym is) (frames-whole kept ys lo whole);
+        entries =
+            ap₂ (λ (k : ℕ) (l : List ℕ). entriesOf goals k l) (add-one kept) is
+            ∙ entries-push-back goals bs (g .long) kept ys lo whole
+            ∙ sym (ap (λ (t : Bool). entriesOf goals kept bs ++ keptOf t (entryAt goals i bs)) keeps);
+        rest = λ n few. ap (λ (l : List ℕ). drop (i + 1) (entriesOf goals n l)) is ∙ keep-behind i kept ys le lo whole n;
+      }
+
+-- ---- `copy_up`
+pub copy-up-more : (bs s : List ℕ) (from to n i : ℕ) → s ≡ overwrite bs to (region from i bs) → from + n ≤ to → to + n ≤ length bs → i < n
+    → set s (to + i) (getD s (from + i) 0) ≡ overwrite bs to (region from (i + 1) bs)
+copy-up-more bs s from to n i e up room lt =
+    let len = length-region from i bs (omega arith) in
+    let fits : to + length (region from i bs) ≤ length bs = omega arith in
+    let kept : getD s (from + i) 0 ≡ getD bs (from + i) 0 = ap (λ (l : List ℕ). getD l (from + i) 0) e ∙ byte-before bs to (region from i bs) fits (from + i) (omega arith) in
+    ap₂ (λ (l : List ℕ) (m : ℕ). set l (to + m) (getD s (from + i) 0)) e (sym len)
+    ∙ overwrite-snoc bs to (region from i bs) fits (getD s (from + i) 0) (omega arith)
+    ∙ ap (λ (v : ℕ). overwrite bs to (region from i bs ++ (v ∷ []))) kept
+    ∙ ap (overwrite bs to) (sym (region-snoc from i bs (omega arith)) ∙ ap (λ (m : ℕ). region from m bs) (sym (add-one i)))
+
+-- ---- `copy_heads`: n bytes from a on go to b
+copy-order : (f s size h x : ℕ) → h + s ≤ f → 40 + size ≤ s → h + 40 + size ≤ f + x + 8
+copy-order f s size h x p q = omega arith
+
+pub copy-room : (goals height i a b n : ℕ) (bs : List ℕ) → GraphBytes goals bs → height < goals → i < 2 * goals → a ≡ frameStart goals height + 40 → b ≡ entryStart goals i + 8 → n ≡ headsSize goals
+    → (a + n ≤ b) × (b + n ≤ length bs)
+copy-room goals height i a b n bs g under lt is-a is-b is-n =
+    let size : ℕ = headsSize goals in
+    let wide : 40 + size ≤ frameSize goals = omega arith in
+    let inner : 8 + size ≤ entrySize goals = omega arith in
+    let first = copy-order (entriesStart goals) (frameSize goals) size (frameStart goals height) (i * entrySize goals) (apart height goals (frameSize goals) under) wide in
+    let second = into-of (entryStart goals i) 8 size inner (entry-room goals bs (g .long) i lt) in (
+      subst (λ (x : ℕ). x ≤ b) (sym (ap₂ (λ (x y : ℕ). x + y) is-a is-n)) (subst (λ (x : ℕ). frameStart goals height + 40 + size ≤ x) (sym is-b) first),
+      subst (λ (x : ℕ). x ≤ length bs) (sym (ap₂ (λ (x y : ℕ). x + y) is-b is-n)) second,
+    )
+
+pub copy-is : (goals height i a b n : ℕ) (bs new : List ℕ) → a ≡ frameStart goals height + 40 → b ≡ entryStart goals i + 8 → n ≡ headsSize goals
+    → new ≡ overwrite bs b (region a n bs) → new ≡ overwrite bs (entryStart goals i + 8) (region headsStart (headsSize goals) (frameBytes goals height bs))
+copy-is goals height i a b n bs new is-a is-b is-n is =
+    is
+    ∙ ap₂ (λ (k : ℕ) (l : List ℕ). overwrite bs k l) is-b
+    (ap₂ (λ (k m : ℕ). region k m bs) is-a is-n ∙ sym (region-region (frameStart goals height) (frameSize goals) headsStart (headsSize goals) bs (omega arith)))
+
+-- ---- `append`: the heads are copied, then the small fields are written in entry k, at a, of n bytes
+module _ (goals height k : ℕ) (bs mid : List ℕ) (g : GraphBytes goals bs) (under : height < goals) (lt : k < 2 * goals)
+    (is-mid : mid ≡ overwrite bs (entryStart goals k + 8) (region headsStart (headsSize goals) (frameBytes goals height bs))) where
+  abbrev hs : List ℕ
+  hs = region headsStart (headsSize goals) (frameBytes goals height bs)
+
+  wide-frame : length (frameBytes goals height bs) ≡ frameSize goals
+  wide-frame = length-region (frameStart goals height) (frameSize goals) bs (frame-room goals bs (g .long) height under)
+
+  wide-entry : length (entryBytes goals k bs) ≡ entrySize goals
+  wide-entry = length-region (entryStart goals k) (entrySize goals) bs (entry-room goals bs (g .long) k lt)
+
+  wide-heads : length hs ≡ headsSize goals
+  wide-heads = length-region headsStart (headsSize goals) (frameBytes goals height bs) (subst (λ (x : ℕ). headsStart + headsSize goals ≤ x) (sym wide-frame) (omega arith))
+
+  inner : 8 + length hs ≤ entrySize goals
+  inner = subst (λ (x : ℕ). 8 + x ≤ entrySize goals) (sym wide-heads) (omega arith)
+
+  pub mid-length : length mid ≡ length bs
+  mid-length = ap length is-mid ∙ length-overwrite bs (entryStart goals k + 8) hs (into-of (entryStart goals k) 8 (length hs) inner (entry-room goals bs (g .long) k lt))
+
+  pub mid-bytes : GraphBytes goals mid
+  mid-bytes = graph-bytes goals bs mid g mid-length
+
+  mid-frames : FramesKept goals bs mid
+  mid-frames = subst (FramesKept goals bs) (sym is-mid) (frames-inside goals bs g k 8 hs lt inner)
+
+  mid-entries : entriesOf goals k mid ≡ entriesOf goals k bs
+  mid-entries = ap (entriesOf goals k) is-mid ∙ entries-under goals bs (g .long) k 8 hs lt inner k (omega arith)
+
+  mid-heads : (entryAt goals k mid) .heads ≡ (frameAt goals height bs) .heads
+  unfolding frameOf
+  mid-heads =
+      ap (λ (l : List ℕ). (entryOf goals l) .heads)
+      (ap (region (entryStart goals k) (entrySize goals)) is-mid ∙ region-inside bs (entryStart goals k) (entrySize goals) 8 hs inner (entry-room goals bs (g .long) k lt))
+      ∙ ap (λ (e : Entry). e .heads) (entry-heads goals (entryBytes goals k bs) wide-entry hs wide-heads)
+
+  module _ (a n : ℕ) (is-a : a ≡ entryStart goals k) (is-n : n ≡ entrySize goals) (ys : List ℕ) (kept : length ys ≡ length (part mid a (a + n))) where
+    back : returned mid a (a + n) ys ≡ overwrite mid (entryStart goals k) ys
+    back = part-back mid a (a + n) ys (omega arith) (part-room goals mid k a n mid-bytes lt is-a is-n) kept ∙ ap (λ (x : ℕ). overwrite mid x ys) is-a
+
+    whole : length ys ≡ entrySize goals
+    whole =
+        let e : a + n - a ≡ n = omega arith in
+        part-length mid a (a + n) ys (omega arith) (part-room goals mid k a n mid-bytes lt is-a is-n) kept ∙ e ∙ is-n
+
+    pub append-frames : FramesKept goals bs (returned mid a (a + n) ys)
+    append-frames = subst (FramesKept goals bs) (sym back) (frames-then goals bs mid (overwrite mid (entryStart goals k) ys) mid-frames (frames-whole goals mid mid-bytes k ys lt whole))
+
+    pub append-entries : (goal : ℕ) (overflow : Bool) (path : PathKind) (answer : Answer) → entryOf goals ys ≡ withFields (entryOf goals (part mid a (a + n))) goal overflow path answer
+        → entriesOf goals (k + 1) (returned mid a (a + n) ys)
+        ≡ entriesOf goals k bs ++ (record { input = goal; encounteredOverflow = overflow; heads = (frameAt goals height bs) .heads; pathFromHead = path; result = answer } ∷ [])
+    append-entries goal overflow path answer is =
+        ap₂ (λ (m : ℕ) (l : List ℕ). entriesOf goals m l) (add-one k) back
+        ∙ entries-push-back goals mid (mid-bytes .long) k ys lt whole
+        ∙ ap₂ (λ (l : List Entry) (e : Entry). l ++ (e ∷ [])) mid-entries
+        (is ∙ (let e = ap (λ (l : List ℕ). (entryOf goals l) .heads) (part-is goals mid k a n mid-bytes lt is-a is-n) ∙ mid-heads in
+        λ t. record { input = goal; encounteredOverflow = overflow; heads = e t; pathFromHead = path; result = answer }))

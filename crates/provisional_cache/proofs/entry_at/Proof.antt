@@ -1,0 +1,37 @@
+use Rattle.provisional_cache.proofs.Entries.{part-room, part-is}
+use borrow.Author.Needs.{needs}
+use Rattle.provisional_cache.proofs.entry_at.Statement.{statement}
+use Rattle.provisional_cache.proofs.entry_at.Tie as tie
+
+entry-start-requires : tie.Need-entry-start-requires
+entry-start-requires c κs = search needs
+
+entry-size-requires : tie.Need-entry-size-requires
+entry-size-requires c κs = search needs
+
+add-e : tie.Need-add-e
+add-e c = search needs
+
+sub-result : tie.Need-sub-result
+sub-result c = search needs
+
+part-result-start : tie.Need-part-result-start
+part-result-start c = search needs
+
+part-result-end : tie.Need-part-result-end
+part-result-end c = let s = c .before .before .before in part-room (s .args .goals) (s .args .graph .now) (s .args .i) (c .before .entry-start .result) (c .entry-size .result) (s .pre .0) (s .pre .1) (c .before .entry-start .ensures .0) (c .entry-size .ensures)
+
+returns : tie.Need-returns
+returns c = let s = c .before .before .before .before in part-is (s .args .goals) (s .args .graph .now) (s .args .i) (c .before .before .entry-start .result) (c .before .entry-size .result) (s .pre .0) (s .pre .1) (c .before .before .entry-start .ensures .0) (c .before .entry-size .ensures)
+
+pub entry-at-spec : {M : Type 1} → statement M
+entry-at-spec =
+    tie.close
+    (tie.spec
+    entry-start-requires
+    entry-size-requires
+    add-e
+    sub-result
+    part-result-start
+    part-result-end
+    returns)

@@ -1,0 +1,28 @@
+use Rattle.layout.specs.Blocks.{headsSize}
+use Rattle.provisional_cache.proofs.Entries.{heads-part}
+use borrow.Author.Needs.{needs}
+use Rattle.provisional_cache.proofs.frame_heads.Statement.{statement}
+use Rattle.provisional_cache.proofs.frame_heads.Tie as tie
+
+heads-size-requires : tie.Need-heads-size-requires
+heads-size-requires c κs = search needs
+
+add-e : tie.Need-add-e
+add-e c = search needs
+
+sub-result : tie.Need-sub-result
+sub-result c = search needs
+
+part-result-start : tie.Need-part-result-start
+part-result-start c = search needs
+
+part-result-end : tie.Need-part-result-end
+part-result-end c = search needs
+
+returns : tie.Need-returns
+returns c = let a = c .before .before .before .args in heads-part (a .frame .now) 40 (c .before .heads-size .result) (headsSize (a .goals)) (c .before .heads-size .ensures)
+
+pub frame-heads-spec : {M : Type 1} → statement M
+frame-heads-spec =
+    tie.close
+    (tie.spec heads-size-requires add-e sub-result part-result-start part-result-end returns)

@@ -1,0 +1,23 @@
+use Rattle.provisional_cache.proofs.Tests.{not-true, not-false}
+use Rattle.provisional_cache.proofs.Writes.{keep-not, keep-moved}
+use borrow.Author.Needs.{needs}
+use Rattle.provisional_cache.proofs.keep_if.Statement.{statement}
+use Rattle.provisional_cache.proofs.keep_if.Tie as tie
+
+returns : tie.Need-returns
+returns c = let s = c .before .before in keep-not (s .args .goals) (s .args .graph .now) (s .pre .0) (s .args .i) (s .args .kept) (s .args .keep) (not-true (s .args .keep) (c .if1 .taken))
+
+move-entry-requires : tie.Need-move-entry-requires
+move-entry-requires c κs = search needs
+
+add-result : tie.Need-add-result
+add-result c = search needs
+
+same-length : tie.Need-same-length
+same-length c = search needs
+
+returns-2 : tie.Need-returns-2
+returns-2 c = let s = c .before .before .before .before .before .before in keep-moved (s .args .goals) (s .args .graph .now) (s .pre .0) (s .args .i) (s .args .kept) (s .args .keep) (c .before .before .move-entry .last .0) (not-false (s .args .keep) (c .before .before .before .before .if1 .left)) (s .pre .1 .0) (s .pre .1 .1) (c .before .before .move-entry .ensures)
+
+pub keep-if-spec : {M : Type 1} → statement M
+keep-if-spec = tie.close (tie.spec returns move-entry-requires add-result same-length returns-2)

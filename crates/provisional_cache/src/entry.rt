@@ -1,0 +1,122 @@
+// One entry's bytes: 0 input, 1 overflow, 2 path from the highest head, 3 result, and
+// from 8 on the heads.
+use definition::answers::Answer;
+use definition::paths::PathKind;
+use layout::offsets;
+ghost use mathlib.Core.Path.{_≡_};
+ghost use Prim.Native.Nat.{_<_};
+ghost use Rattle.buffer.specs.Regions.{region};
+ghost use Rattle.definition.specs.Heads.{highestIndex};
+ghost use Rattle.definition.specs.ProvisionalCache.{survivesRerun};
+ghost use Rattle.layout.specs.Blocks.{headsSize};
+ghost use Rattle.layout.specs.Frame.{truth};
+ghost use Rattle.layout.specs.Entry.{entryHeadsStart, entryOf};
+ghost use Rattle.provisional_cache.specs.Entries.{EntryBytes, withPath, withFields};
+
+fn wide(b: u8) -> usize
+    ensures { λ r. ⌜ (r ≡ b) × (r < 256) ⌝ }
+{
+    b as usize
+}
+
+fn low(n: usize) -> u8
+    requires { ⌜ n < 256 ⌝ }
+    ensures { λ r. ⌜ r ≡ n ⌝ }
+{
+    n as u8
+}
+
+fn flag(b: bool) -> u8
+    ensures { λ r. ⌜ truth r ≡ b ⌝ }
+{
+    if b {
+        return 1;
+    }
+    0
+}
+
+// ---- reads
+
+pub fn input(entry: &[u8], goals: usize) -> usize
+    requires { ⌜ EntryBytes goals (now entry) ⌝ }
+    ensures { λ r. ⌜ (r ≡ (entryOf goals (now (entry .entry))) .input) × (r < 256) ⌝ }
+{
+    wide(entry[0])
+}
+
+pub fn encountered_overflow(entry: &[u8], goals: usize) -> bool
+    requires { ⌜ EntryBytes goals (now entry) ⌝ }
+    ensures { λ r. ⌜ r ≡ (entryOf goals (now (entry .entry))) .encounteredOverflow ⌝ }
+{
+    entry[1] != 0
+}
+
+pub fn path_from_head(entry: &[u8], goals: usize) -> PathKind
+    requires { ⌜ EntryBytes goals (now entry) ⌝ }
+    ensures { λ r. ⌜ r ≡ (entryOf goals (now (entry .entry))) .pathFromHead ⌝ }
+{
+    PathKind::from_number(entry[2])
+}
+
+pub fn result(entry: &[u8], goals: usize) -> Answer
+    requires { ⌜ EntryBytes goals (now entry) ⌝ }
+    ensures { λ r. ⌜ r ≡ (entryOf goals (now (entry .entry))) .result ⌝ }
+{
+    Answer::from_number(entry[3])
+}
+
+// The block of heads.
+pub fn heads(entry: &[u8], goals: usize) -> &[u8]
+    requires { ⌜ EntryBytes goals (now entry) ⌝ }
+    ensures { λ r. ⌜ now r ≡ region entryHeadsStart (headsSize goals) (now (entry .entry)) ⌝ }
+{
+    let e = 8 + offsets::heads_size(goals);
+    &entry[8..e]
+}
+
+pub fn highest_head(entry: &[u8], goals: usize) -> usize
+    requires { ⌜ EntryBytes goals (now entry) ⌝ }
+    ensures { λ r. ⌜ r ≡ highestIndex ((entryOf goals (now (entry .entry))) .heads) ⌝ }
+{
+    layout::heads::highest(heads(entry, goals), goals)
+}
+
+// Whether it does not depend on the result of the frame at index `rerun`.
+pub fn survives_rerun(entry: &[u8], goals: usize, rerun: usize) -> bool
+    requires { ⌜ EntryBytes goals (now entry) × (rerun < goals) ⌝ }
+    ensures { λ r. ⌜ r ≡ survivesRerun rerun (entryOf goals (now (entry .entry))) ⌝ }
+{
+    if highest_head(entry, goals) != rerun {
+        return true;
+    }
+    let usages = layout::heads::usages(heads(entry, goals), goals, rerun);
+    usages.is_empty()
+}
+
+// ---- writes
+
+// The small fields of a new entry; its heads are left alone.
+pub fn start(
+    entry: &mut [u8],
+    goals: usize,
+    goal: usize,
+    overflow: bool,
+    path: PathKind,
+    answer: Answer,
+)
+    requires { ⌜ EntryBytes goals (now entry) × (goal < 256) ⌝ }
+    ensures { λ _. ⌜ entryOf goals (now (entry .exit)) ≡ withFields (entryOf goals (now (entry .entry))) goal overflow path answer ⌝ }
+{
+    entry[0] = low(goal);
+    entry[1] = flag(overflow);
+    entry[2] = path.number();
+    entry[3] = answer.number();
+}
+
+// The path from the highest head.
+pub fn set_path(entry: &mut [u8], goals: usize, kind: PathKind)
+    requires { ⌜ EntryBytes goals (now entry) ⌝ }
+    ensures { λ _. ⌜ entryOf goals (now (entry .exit)) ≡ withPath (entryOf goals (now (entry .entry))) kind ⌝ }
+{
+    entry[2] = kind.number();
+}

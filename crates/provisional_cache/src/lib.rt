@@ -1,0 +1,287 @@
+// The provisional cache: results that depend on goals which are still on the stack, in
+// the order of insertion. How many there are is no byte of the graph.
+use definition::answers::Answer;
+use definition::paths::PathKind;
+use definition::paths::PathsToNested;
+use layout::heads;
+use layout::offsets;
+ghost use mathlib.Core.Path.{_≡_};
+ghost use mathlib.Core.Bool.{_&&_};
+ghost use mathlib.Core.List.{[], _∷_, _++_};
+ghost use Prim.Native.Nat.{_+_, _*_, _≤_, _<_};
+ghost use lib.ListN.{length};
+ghost use Rattle.buffer.specs.Regions.{region, overwrite};
+ghost use Rattle.definition.specs.Heads.{optLowestIndex, highestIndex};
+ghost use Rattle.definition.specs.Stack.{cyclePathKind};
+ghost use Rattle.definition.specs.Lookup.{noneOrAbove, lastHeads, entryMatches, firstMatch, entryApplies, anyEntryApplies};
+ghost use Rattle.definition.specs.ProvisionalCache.{survivors};
+ghost use Rattle.layout.specs.Blocks.{headsSize};
+ghost use Rattle.layout.specs.Frame.{headsStart};
+ghost use Rattle.layout.specs.Entry.{entryOf};
+ghost use Rattle.layout.specs.Work.{entryStart, stackOf, entriesOf};
+ghost use Rattle.stack.specs.Bytes.{FrameBytes, GraphBytes, frameBytes, frameAt};
+ghost use Rattle.provisional_cache.specs.Entries.{EntryBytes, entryBytes, entryFound, entryOn, FramesKept, Compacted};
+ghost use Rattle.provisional_cache.specs.Inserts.{Inserted};
+
+pub mod entry;
+
+// Whether an entry was inserted, or there was no room for it.
+pub enum Insertion {
+    Kept,
+    Full,
+}
+
+// The bytes of entry i.
+pub fn entry_at(graph: &[u8], goals: usize, i: usize) -> &[u8]
+    requires { ⌜ GraphBytes goals (now graph) × (i < 2 * goals) ⌝ }
+    ensures { λ r. ⌜ now r ≡ entryBytes goals i (now (graph .entry)) ⌝ }
+{
+    let a = offsets::entry_start(goals, i);
+    let e = a + offsets::entry_size(goals);
+    &graph[a..e]
+}
+
+// The block of heads of a frame.
+pub fn frame_heads(frame: &[u8], goals: usize) -> &[u8]
+    requires { ⌜ FrameBytes goals (now frame) ⌝ }
+    ensures { λ r. ⌜ now r ≡ region headsStart (headsSize goals) (now (frame .entry)) ⌝ }
+{
+    let e = 40 + offsets::heads_size(goals);
+    &frame[40..e]
+}
+
+// is_none_or(|lowest| lowest > head), of the lowest head of the top frame
+fn none_or_above(graph: &[u8], goals: usize, height: usize, head: usize) -> bool
+    requires { ⌜ GraphBytes goals (now graph) × (height ≤ goals) ⌝ }
+    ensures { λ r. ⌜ r ≡ noneOrAbove (optLowestIndex (lastHeads (stackOf goals height (now (graph .entry))))) head ⌝ }
+{
+    if height == 0 {
+        return true;
+    }
+    let hs = frame_heads(stack::frame_at(graph, goals, height - 1), goals);
+    if heads::is_empty(hs, goals) {
+        return true;
+    }
+    head < bits::lowest(heads::mask(hs, goals))
+}
+
+// Whether the entry encountered overflow and is not to be used for that.
+fn is_hidden(e: &[u8], graph: &[u8], goals: usize, height: usize, head: usize) -> bool
+    requires { ⌜ EntryBytes goals (now e) × (GraphBytes goals (now graph) × (height ≤ goals)) ⌝ }
+    ensures { λ r. ⌜ r ≡ ((entryOf goals (now (e .entry))) .encounteredOverflow && noneOrAbove (optLowestIndex (lastHeads (stackOf goals height (now (graph .entry))))) head) ⌝ }
+{
+    if entry::encountered_overflow(e, goals) {
+        return none_or_above(graph, goals, height, head);
+    }
+    false
+}
+
+// Whether the entry answers the goal as it is reached here.
+fn is_match(
+    e: &[u8],
+    graph: &[u8],
+    goals: usize,
+    height: usize,
+    goal: usize,
+    step: PathKind,
+) -> bool
+    requires { ⌜ EntryBytes goals (now e) × (GraphBytes goals (now graph) × (height ≤ goals)) ⌝ }
+    ensures { λ r. ⌜ r ≡ entryMatches (stackOf goals height (now (graph .entry))) goal step (entryOf goals (now (e .entry))) ⌝ }
+{
+    if entry::input(e, goals) != goal {
+        return false;
+    }
+    let head = entry::highest_head(e, goals);
+    if is_hidden(e, graph, goals, height, head) {
+        return false;
+    }
+    let path = entry::path_from_head(e, goals);
+    path.same(stack::cycle_path_kind(graph, goals, height, step, head))
+}
+
+// The first of the entries that answers the goal, or their number where none does.
+pub fn first_match(
+    graph: &[u8],
+    goals: usize,
+    height: usize,
+    entries: usize,
+    goal: usize,
+    step: PathKind,
+) -> usize
+    requires { ⌜ GraphBytes goals (now graph) × ((height ≤ goals) × (entries ≤ 2 * goals)) ⌝ }
+    ensures { λ r. ⌜ (r ≤ entries) × (entryFound goals entries r (now (graph .entry)) ≡ firstMatch (stackOf goals height (now (graph .entry))) goal step (entriesOf goals entries (now (graph .entry)))) ⌝ }
+{
+    let mut i: usize = 0;
+    while i < entries {
+        let e = entry_at(graph, goals, i);
+        if is_match(e, graph, goals, height, goal, step) {
+            return i;
+        }
+        i = i + 1;
+    }
+    entries
+}
+
+// Whether the entry would apply to one of the nested goals.
+fn applies(
+    e: &[u8],
+    graph: &[u8],
+    goals: usize,
+    height: usize,
+    step: PathKind,
+    nested: &[u8],
+) -> bool
+    requires { ⌜ EntryBytes goals (now e) × (GraphBytes goals (now graph) × (height ≤ goals)) ⌝ }
+    ensures { λ r. ⌜ r ≡ entryApplies (stackOf goals height (now (graph .entry))) step (now (nested .entry)) (entryOf goals (now (e .entry))) ⌝ }
+{
+    let paths = buffer::get(nested, entry::input(e, goals));
+    if paths == 0 {
+        return false;
+    }
+    if entry::encountered_overflow(e, goals) {
+        return false;
+    }
+    let head = entry::highest_head(e, goals);
+    let here = stack::cycle_path_kind(graph, goals, height, step, head);
+    let full = PathsToNested { bits: paths }.extend_with(here);
+    full.contains(entry::path_from_head(e, goals))
+}
+
+// Whether one of the entries would apply to one of the nested goals.
+pub fn any_applies(
+    graph: &[u8],
+    goals: usize,
+    height: usize,
+    entries: usize,
+    step: PathKind,
+    nested: &[u8],
+) -> bool
+    requires { ⌜ GraphBytes goals (now graph) × ((height ≤ goals) × (entries ≤ 2 * goals)) ⌝ }
+    ensures { λ r. ⌜ r ≡ anyEntryApplies (stackOf goals height (now (graph .entry))) step (now (nested .entry)) (entriesOf goals entries (now (graph .entry))) ⌝ }
+{
+    let mut i: usize = 0;
+    while i < entries {
+        let e = entry_at(graph, goals, i);
+        if applies(e, graph, goals, height, step, nested) {
+            return true;
+        }
+        i = i + 1;
+    }
+    false
+}
+
+// Entry `from` takes the place of entry `to`, which does not come after it.
+fn move_entry(graph: &mut [u8], goals: usize, from: usize, to: usize)
+    requires { ⌜ GraphBytes goals (now graph) × ((to ≤ from) × (from < 2 * goals)) ⌝ }
+    ensures { λ _. ⌜ now (graph .exit) ≡ overwrite (now (graph .entry)) (entryStart goals to) (entryBytes goals from (now (graph .entry))) ⌝ }
+{
+    if from == to {
+        return;
+    }
+    let a = offsets::entry_start(goals, from);
+    let b = offsets::entry_start(goals, to);
+    buffer::copy_within(graph, a, b, offsets::entry_size(goals));
+}
+
+// Entry i is put after the `kept` first ones, where it is to be kept: how many these are
+// then.
+pub fn keep_if(graph: &mut [u8], goals: usize, keep: bool, i: usize, kept: usize) -> usize
+    requires { ⌜ GraphBytes goals (now graph) × ((kept ≤ i) × (i < 2 * goals)) ⌝ }
+    ensures { λ r. ⌜ Compacted goals i kept keep (now (graph .entry)) (now (graph .exit)) r ⌝ }
+{
+    if !keep {
+        return kept;
+    }
+    move_entry(graph, goals, i, kept);
+    kept + 1
+}
+
+// clear_dependent_provisional_results_for_rerun: how many entries are left
+pub fn clear_for_rerun(graph: &mut [u8], goals: usize, rerun: usize, entries: usize) -> usize
+    requires { ⌜ GraphBytes goals (now graph) × ((rerun < goals) × (entries ≤ 2 * goals)) ⌝ }
+    ensures { λ r. ⌜ (r ≤ entries) × ((entriesOf goals r (now (graph .exit)) ≡ survivors rerun (entriesOf goals entries (now (graph .entry)))) × FramesKept goals (now (graph .entry)) (now (graph .exit))) ⌝ }
+{
+    let mut kept: usize = 0;
+    let mut i: usize = 0;
+    while i < entries {
+        let keep = entry::survives_rerun(entry_at(graph, goals, i), goals, rerun);
+        kept = keep_if(graph, goals, keep, i, kept);
+        i = i + 1;
+    }
+    kept
+}
+
+// Copies n bytes to a place behind them.
+fn copy_up(s: &mut [u8], from: usize, to: usize, n: usize)
+    requires { ⌜ (from + n ≤ to) × (to + n ≤ length (now s)) ⌝ }
+    ensures { λ _. ⌜ now (s .exit) ≡ overwrite (now (s .entry)) to (region from n (now (s .entry))) ⌝ }
+{
+    let mut i: usize = 0;
+    while i < n {
+        s[to + i] = s[from + i];
+        i = i + 1;
+    }
+}
+
+// The heads of the frame at index `height` become those of entry i.
+fn copy_heads(graph: &mut [u8], goals: usize, height: usize, i: usize)
+    requires { ⌜ GraphBytes goals (now graph) × ((height < goals) × (i < 2 * goals)) ⌝ }
+    ensures { λ _. ⌜ now (graph .exit) ≡ overwrite (now (graph .entry)) (entryStart goals i + 8) (region headsStart (headsSize goals) (frameBytes goals height (now (graph .entry)))) ⌝ }
+{
+    let a = offsets::frame_start(goals, height) + 40;
+    let b = offsets::entry_start(goals, i) + 8;
+    copy_up(graph, a, b, offsets::heads_size(goals));
+}
+
+// Entry i becomes a new one, with the heads of the frame at index `height`.
+fn write_entry(
+    graph: &mut [u8],
+    goals: usize,
+    height: usize,
+    i: usize,
+    goal: usize,
+    overflow: bool,
+    path: PathKind,
+    answer: Answer,
+)
+    requires { ⌜ GraphBytes goals (now graph) × ((height < goals) × ((i < 2 * goals) × (goal < 256))) ⌝ }
+    ensures { λ _. ⌜ (entriesOf goals (i + 1) (now (graph .exit)) ≡ entriesOf goals i (now (graph .entry)) ++ (entryOn goal overflow ((frameAt goals height (now (graph .entry))) .heads) path answer ∷ [])) × FramesKept goals (now (graph .entry)) (now (graph .exit)) ⌝ }
+{
+    copy_heads(graph, goals, height, i);
+    let a = offsets::entry_start(goals, i);
+    let e = a + offsets::entry_size(goals);
+    entry::start(&mut graph[a..e], goals, goal, overflow, path, answer);
+}
+
+// The kind of the path from the highest head of the frame at index `height` to it.
+fn path_from_head(graph: &[u8], goals: usize, height: usize, step: PathKind) -> PathKind
+    requires { ⌜ GraphBytes goals (now graph) × (height < goals) ⌝ }
+    ensures { λ r. ⌜ r ≡ cyclePathKind (stackOf goals height (now (graph .entry))) step (highestIndex ((frameAt goals height (now (graph .entry))) .heads)) ⌝ }
+{
+    let hs = frame_heads(stack::frame_at(graph, goals, height), goals);
+    let highest = heads::highest(hs, goals);
+    stack::cycle_path_kind(graph, goals, height, step, highest)
+}
+
+// The result of the goal whose frame stood at index `height` becomes the last entry,
+// with the heads of that frame.
+pub fn insert(
+    graph: &mut [u8],
+    goals: usize,
+    height: usize,
+    entries: usize,
+    goal: usize,
+    step: PathKind,
+    overflow: bool,
+    answer: Answer,
+) -> Insertion
+    requires { ⌜ GraphBytes goals (now graph) × ((height < goals) × (goal < 256)) ⌝ }
+    ensures { λ r. ⌜ Inserted goals height entries goal step overflow answer (now (graph .entry)) (now (graph .exit)) r ⌝ }
+{
+    if 2 * goals <= entries {
+        return Insertion::Full;
+    }
+    let path = path_from_head(graph, goals, height, step);
+    write_entry(graph, goals, height, entries, goal, overflow, path, answer);
+    Insertion::Kept
+}
