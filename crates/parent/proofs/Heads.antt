@@ -128,7 +128,7 @@ candidate-one : (o : Option (List HeadUsages)) (ms : CycleHeads) (i : ℕ) (c : 
 candidate-one none ms i c e = refl
 candidate-one (some us) ms i c e = ap (λ (l : List HeadUsages). some l) (tracked-one us ms i c e)
 
-set-none : (ms : CycleHeads) (i : ℕ) → getD (set ms i none) i none ≡ none
+pub set-none : (ms : CycleHeads) (i : ℕ) → getD (set ms i none) i none ≡ none
 set-none [] i = refl
 set-none (m ∷ ms) zero = refl
 set-none (m ∷ ms) (suc i) = set-none ms i
