@@ -26,9 +26,9 @@ use Rattle.layout.specs.Frame.{frameSize, frameOf}
 use Rattle.layout.specs.Entry.{entryHeadsStart, entrySize, entryOf}
 use Rattle.layout.specs.Work.{frameStart, entriesStart, entryStart, graphLength, stackOf, entriesOf}
 use Rattle.layout.proofs.Frames.{length-heads}
-use Rattle.layout.proofs.Graphs.{length-stack, entry-room}
+use Rattle.layout.proofs.Graphs.{length-stack, entry-room, frame-room}
 use Rattle.layout.proofs.Present.{head-known}
-use Rattle.stack.specs.Bytes.{frameAt}
+use Rattle.stack.specs.Bytes.{frameBytes, frameAt}
 use Rattle.stack.proofs.Parts.{part}
 use Rattle.stack.proofs.Loops.{top, none-left}
 use Rattle.parent.specs.Head.{addHeadAt}
@@ -177,3 +177,42 @@ update-cycle goals height head goal p bs mid out step u r lt le e w v =
     let inside : head < goals = omega arith in
     update-both goals height bs step hs false (CycleOnStack goal) r mid out (omega arith)
     (top-same goals (height - 1) (addHeadAt step (height - 1) head c f) bs mid w (addHeads step (height - 1) hs f) (cycle-heads goals head inside step (height - 1) c f (flagOf step) u is)) v
+
+-- ---- the heads of the frame above
+pub frame-heads-at : (goals : ℕ) (bs : List ℕ) (i : ℕ) → headsOf goals (region (frameStart goals i + 40) (headsSize goals) bs) ≡ (frameAt goals i bs) .heads
+unfolding frameOf
+frame-heads-at goals bs i = sym (ap (headsOf goals) (region-region (frameStart goals i) (frameSize goals) 40 (headsSize goals) bs (omega arith)))
+
+-- the frame below the one at `height`
+pub below-ends : (goals height : ℕ) → 0 < height → frameStart goals (height - 1) + frameSize goals ≤ frameStart goals height
+below-ends goals height pos = apart (height - 1) height (frameSize goals) (omega arith)
+
+further : (x y : ℕ) → x ≤ y → x ≤ y + 40
+further x y h = omega arith
+
+deeper : (a e h n : ℕ) → 40 + h ≤ e → a + e ≤ n → a + 40 + h ≤ n
+deeper a e h n q l = omega arith
+
+pub frame-behind : (goals height start : ℕ) → 0 < height → start ≡ frameStart goals height + 40 → frameStart goals (height - 1) + frameSize goals ≤ start
+frame-behind goals height start pos e = subst (λ (x : ℕ). frameStart goals (height - 1) + frameSize goals ≤ x) (sym e) (further (frameStart goals (height - 1) + frameSize goals) (frameStart goals height) (below-ends goals height pos))
+
+pub frame-fits : (goals : ℕ) (bs : List ℕ) (height start : ℕ) → length bs ≡ graphLength goals → height < goals → start ≡ frameStart goals height + 40 → start + headsSize goals ≤ length bs
+frame-fits goals bs height start long lt e =
+    subst (λ (x : ℕ). x + headsSize goals ≤ length bs) (sym e) (deeper (frameStart goals height) (frameSize goals) (headsSize goals) (length bs) (omega arith) (frame-room goals bs long height lt))
+
+pub update-frame : (goals height start : ℕ) (bs mid out : List ℕ) (step : PathKind) (o : Bool) (ctxt : UpdateParentGoalCtxt) (r : ℕ) → 0 < height → start ≡ frameStart goals height + 40
+    → TopWritten goals (height - 1) (addHeads step (height - 1) (headsOf goals (region start (headsSize goals) bs)) (frameAt goals (height - 1) bs)) bs mid
+    → TopWritten goals (height - 1) (addRest step o ctxt r (frameAt goals (height - 1) mid)) mid out
+    → (stackOf goals height out ≡ updateParentGoal (stackOf goals height bs) step ((frameAt goals height bs) .heads) o ctxt r)
+    × (((n : ℕ) → entriesOf goals n out ≡ entriesOf goals n bs)
+    × (frameBytes goals height out ≡ frameBytes goals height bs))
+update-frame goals height start bs mid out step o ctxt r pos e w v =
+    let f : Frame = frameAt goals (height - 1) bs in
+    let hs : CycleHeads = (frameAt goals height bs) .heads in
+    let was : CycleHeads = headsOf goals (region start (headsSize goals) bs) in
+    let same : was ≡ hs = ap (λ (k : ℕ). headsOf goals (region k (headsSize goals) bs)) e ∙ frame-heads-at goals bs height in
+    let up = below-ends goals height pos in
+    let both =
+    update-both goals height bs step hs o ctxt r mid out pos
+    (top-same goals (height - 1) (addHeads step (height - 1) was f) bs mid w (addHeads step (height - 1) hs f) (ap (λ (l : CycleHeads). addHeads step (height - 1) l f) same)) v in
+    (both .0, (both .1, v .above (frameStart goals height) (frameSize goals) up ∙ w .above (frameStart goals height) (frameSize goals) up))

@@ -17,7 +17,7 @@ ghost use Rattle.layout.specs.Blocks.{headsSize, headsOf};
 ghost use Rattle.layout.specs.Frame.{frameSize};
 ghost use Rattle.layout.specs.Entry.{entrySize, entryOf};
 ghost use Rattle.layout.specs.Work.{frameStart, entryStart, stackOf, entriesOf};
-ghost use Rattle.stack.specs.Bytes.{GraphBytes, frameAt};
+ghost use Rattle.stack.specs.Bytes.{GraphBytes, frameBytes, frameAt};
 ghost use Rattle.parent.specs.Head.{addHeadAt};
 ghost use Rattle.parent.specs.Top.{TopWritten};
 
@@ -168,4 +168,25 @@ pub fn update_from_cycle(
     };
     add_head(graph, goals, height - 1, step, head, cycle);
     add_cycle(graph, goals, height - 1, step, goal, reached);
+}
+
+// After the goal whose frame stood above the parent, with that frame's nested goals.
+pub fn update_from_frame(
+    graph: &mut [u8],
+    goals: usize,
+    height: usize,
+    step: PathKind,
+    overflow: bool,
+    nested: &[u8],
+    reached: usize,
+)
+    requires { ⌜ GraphBytes goals (now graph) × (height < goals) ⌝ }
+    ensures { λ _. ⌜ (stackOf goals height (now (graph .exit)) ≡ updateParentGoal (stackOf goals height (now (graph .entry))) step ((frameAt goals height (now (graph .entry))) .heads) overflow (Ordinary (now (nested .entry))) reached) × (((n : ℕ) → entriesOf goals n (now (graph .exit)) ≡ entriesOf goals n (now (graph .entry))) × (frameBytes goals height (now (graph .exit)) ≡ frameBytes goals height (now (graph .entry)))) ⌝ }
+{
+    if height == 0 {
+        return;
+    }
+    let start = offsets::frame_start(goals, height) + 40;
+    add_heads(graph, goals, height - 1, step, start);
+    add_ordinary(graph, goals, height - 1, step, overflow, nested, reached);
 }
