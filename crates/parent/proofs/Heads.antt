@@ -138,10 +138,10 @@ usages-one : (u : Option HeadUsages) (ms : CycleHeads) (own i : ℕ) (c : CycleH
 usages-one u ms own i c e =
     elim (ℕ-discrete i own) [
       | yes q ↦
-        ap₂ (λ (t : Bool) (o : Option CycleHead). addToUsages (elim t [ true ↦ used (c .usages) u | false ↦ u ]) o) (eq-eqb i own q) (ap (λ (k : ℕ). getD (set ms i none) k none) (sym q) ∙ set-none ms i)
-        ∙ sym (ap (addToUsages u) (ap (λ (k : ℕ). getD ms k none) (sym q) ∙ e))
+          ap₂ (λ (t : Bool) (o : Option CycleHead). addToUsages (elim t [ true ↦ used (c .usages) u | false ↦ u ]) o) (eq-eqb i own q) (ap (λ (k : ℕ). getD (set ms i none) k none) (sym q) ∙ set-none ms i)
+          ∙ sym (ap (addToUsages u) (ap (λ (k : ℕ). getD ms k none) (sym q) ∙ e))
       | no ne ↦
-        ap₂ (λ (t : Bool) (o : Option CycleHead). addToUsages (elim t [ true ↦ used (c .usages) u | false ↦ u ]) o) (ne-eqb i own ne) (getD-set-other ms i own none none (λ q. ne (sym q)))
+          ap₂ (λ (t : Bool) (o : Option CycleHead). addToUsages (elim t [ true ↦ used (c .usages) u | false ↦ u ]) o) (ne-eqb i own ne) (getD-set-other ms i own none none (λ q. ne (sym q)))
     ]
 
 below-one : (step : PathKind) (hs ms : CycleHeads) (own i : ℕ) (c : CycleHead) → getD ms i none ≡ some c

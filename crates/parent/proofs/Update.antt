@@ -117,7 +117,6 @@ update-slot goals height bs out step o ctxt r pos v =
 
 -- ---- one head: a goal on the stack
 module _ (goals head : ℕ) (lt : head < goals) (step : PathKind) (own : ℕ) (c : CycleHead) (f : Frame) where
-
   clear : (i : ℕ) → getD (set (set (noHeads goals) head (some c)) head none) i none ≡ none
   clear i =
       elim (ℕ-discrete i head) [

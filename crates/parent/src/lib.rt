@@ -177,16 +177,16 @@ pub fn update_from_frame(
     height: usize,
     step: PathKind,
     overflow: bool,
-    nested: &[u8],
+    child: &[u8],
     reached: usize,
 )
     requires { ⌜ GraphBytes goals (now graph) × (height < goals) ⌝ }
-    ensures { λ _. ⌜ (stackOf goals height (now (graph .exit)) ≡ updateParentGoal (stackOf goals height (now (graph .entry))) step ((frameAt goals height (now (graph .entry))) .heads) overflow (Ordinary (now (nested .entry))) reached) × (((n : ℕ) → entriesOf goals n (now (graph .exit)) ≡ entriesOf goals n (now (graph .entry))) × (frameBytes goals height (now (graph .exit)) ≡ frameBytes goals height (now (graph .entry)))) ⌝ }
+    ensures { λ _. ⌜ (stackOf goals height (now (graph .exit)) ≡ updateParentGoal (stackOf goals height (now (graph .entry))) step ((frameAt goals height (now (graph .entry))) .heads) overflow (Ordinary (now (child .entry))) reached) × (((n : ℕ) → entriesOf goals n (now (graph .exit)) ≡ entriesOf goals n (now (graph .entry))) × (frameBytes goals height (now (graph .exit)) ≡ frameBytes goals height (now (graph .entry)))) ⌝ }
 {
     if height == 0 {
         return;
     }
     let start = offsets::frame_start(goals, height) + 40;
     add_heads(graph, goals, height - 1, step, start);
-    add_ordinary(graph, goals, height - 1, step, overflow, nested, reached);
+    add_ordinary(graph, goals, height - 1, step, overflow, child, reached);
 }

@@ -9,7 +9,7 @@ use Rattle.parent.proofs.update_from_frame.Statement.{statement}
 use Rattle.parent.proofs.update_from_frame.Tie as tie
 
 returns : tie.Need-returns
-returns c = let a = c .before .before .before .args in (update.update-none (a .goals) (a .height) (a .graph .now) (a .step) ((frameAt (a .goals) (a .height) (a .graph .now)) .heads) (a .overflow) (Ordinary (a .nested .now)) (a .reached) (c .if1 .taken), (λ n. refl, refl))
+returns c = let a = c .before .before .before .args in (update.update-none (a .goals) (a .height) (a .graph .now) (a .step) ((frameAt (a .goals) (a .height) (a .graph .now)) .heads) (a .overflow) (Ordinary (a .child .now)) (a .reached) (c .if1 .taken), (λ n. refl, refl))
 
 frame-start-requires : tie.Need-frame-start-requires
 frame-start-requires c κs = let s = c .before .before .before in (s .pre .0 .few, omega (arith, s .pre .0 .few))
@@ -33,7 +33,7 @@ same-length : tie.Need-same-length
 same-length c = search needs
 
 returns-2 : tie.Need-returns-2
-returns-2 c = let a = c .before .before .before .before .before .before .before .before .before .before .before .before .args in let y = c .before .before .before .before .before .before .add-heads in let z = c .before .before .add-ordinary in update.update-frame (a .goals) (a .height) (c .before .before .before .before .before .before .before .before .frame-start .result + 40) (a .graph .now) (y .last .0) (z .last .0) (a .step) (a .overflow) (Ordinary (a .nested .now)) (a .reached) (omega arith) (ap (λ (x : ℕ). x + 40) (c .before .before .before .before .before .before .before .before .frame-start .ensures .0)) (y .ensures) (z .ensures)
+returns-2 c = let a = c .before .before .before .before .before .before .before .before .before .before .before .before .args in let y = c .before .before .before .before .before .before .add-heads in let z = c .before .before .add-ordinary in update.update-frame (a .goals) (a .height) (c .before .before .before .before .before .before .before .before .frame-start .result + 40) (a .graph .now) (y .last .0) (z .last .0) (a .step) (a .overflow) (Ordinary (a .child .now)) (a .reached) (omega arith) (ap (λ (x : ℕ). x + 40) (c .before .before .before .before .before .before .before .before .frame-start .ensures .0)) (y .ensures) (z .ensures)
 
 pub update-from-frame-spec : {M : Type 1} → statement M
 update-from-frame-spec =
