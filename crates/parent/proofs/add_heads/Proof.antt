@@ -1,10 +1,10 @@
-use mathlib.Core.Path.{_≡_, refl, sym, ap, ap₂, _∙_}
-use Prim.Native.Nat.{ℕ, _+_, _*_, _-_, _^_, _≤_, _<_}
+use mathlib.Core.Path.{_≡_, refl, sym, ap, _∙_}
+use Prim.Native.Nat.{ℕ, _+_, _-_, _^_, _≤_, _<_}
 use native.Mathlib.Omega.{arith}
-use mathlib.Core.Bool.{Bool, true, false}
+use mathlib.Core.Bool.{false}
 use mathlib.Core.List.{List, _++_}
-use lib.ListN.{length, getD, replicate}
-use Rattle.definition.specs.Parent.{addHeads, addRest, Ordinary, CycleOnStack, ProvisionalCacheHit}
+use lib.ListN.{length, replicate}
+use Rattle.definition.specs.Parent.{addHeads}
 use Rattle.bits.specs.Masks.{flags}
 use Rattle.buffer.specs.Regions.{region}
 use Rattle.buffer.proofs.Regions.{length-region}

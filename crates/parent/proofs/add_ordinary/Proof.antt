@@ -1,7 +1,7 @@
 use Rattle.definition.specs.Stack.{Frame}
 use Rattle.stack.proofs.Graph.{part-room}
 use Rattle.parent.proofs.Top.{top-written}
-use Rattle.definition.specs.Parent.{addHeads, addRest, Ordinary, CycleOnStack, ProvisionalCacheHit}
+use Rattle.definition.specs.Parent.{addRest, Ordinary}
 use borrow.Author.Needs.{needs}
 use Rattle.parent.proofs.add_ordinary.Statement.{statement}
 use Rattle.parent.proofs.add_ordinary.Tie as tie

@@ -1,7 +1,7 @@
-use mathlib.Core.Path.{_≡_, refl, sym, ap, ap₂, _∙_}
-use Prim.Native.Nat.{ℕ, _+_, _*_, _-_, _^_, _≤_, _<_}
+use mathlib.Core.Path.{refl, _∙_}
+use Prim.Native.Nat.{_-_}
 use native.Mathlib.Omega.{arith}
-use Rattle.definition.specs.Parent.{addHeads, addRest, Ordinary, CycleOnStack, ProvisionalCacheHit}
+use Rattle.definition.specs.Parent.{CycleOnStack}
 use Rattle.definition.specs.Heads.{noHeads, insertHead}
 use mathlib.Core.Bool.{false}
 use Rattle.definition.specs.Paths.{flagOf}

@@ -1,7 +1,7 @@
-use mathlib.Core.Path.{_≡_, refl, sym, ap, ap₂, _∙_}
-use Prim.Native.Nat.{ℕ, _+_, _*_, _-_, _^_, _≤_, _<_}
+use mathlib.Core.Path.{refl, ap, _∙_}
+use Prim.Native.Nat.{ℕ, _+_, _-_}
 use native.Mathlib.Omega.{arith}
-use Rattle.definition.specs.Parent.{addHeads, addRest, Ordinary, CycleOnStack, ProvisionalCacheHit}
+use Rattle.definition.specs.Parent.{Ordinary}
 use Rattle.stack.specs.Bytes.{frameAt}
 use Rattle.parent.proofs.Update as update
 use borrow.Author.Needs.{needs}

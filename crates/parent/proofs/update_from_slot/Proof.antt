@@ -1,8 +1,8 @@
-use mathlib.Core.Path.{_≡_, refl, sym, ap, ap₂, _∙_}
-use Prim.Native.Nat.{ℕ, _+_, _*_, _-_, _^_, _≤_, _<_}
+use mathlib.Core.Path.{refl}
+use Prim.Native.Nat.{_-_}
 use native.Mathlib.Omega.{arith}
-use Rattle.definition.specs.Parent.{addHeads, addRest, Ordinary, CycleOnStack, ProvisionalCacheHit}
-use Rattle.definition.specs.Heads.{noHeads, insertHead}
+use Rattle.definition.specs.Parent.{Ordinary}
+use Rattle.definition.specs.Heads.{noHeads}
 use Rattle.parent.proofs.Update as update
 use borrow.Author.Needs.{needs}
 use Rattle.parent.proofs.update_from_slot.Statement.{statement}

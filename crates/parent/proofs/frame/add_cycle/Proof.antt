@@ -1,37 +1,25 @@
 use mathlib.Core.Bool.{false}
-use Rattle.layout.specs.Frame.{truth, frameOf}
+use Rattle.layout.specs.Frame.{frameOf}
 use Rattle.parent.proofs.Frames as frames
 use borrow.Author.Needs.{needs}
 use Rattle.parent.proofs.frame.add_cycle.Statement.{statement}
 use Rattle.parent.proofs.frame.add_cycle.Tie as tie
-use Rattle.parent.proofs.frame.add_cycle.Reads as reads
-use Rattle.parent.proofs.frame.add_cycle.Lts as lts
-use Rattle.definition.proofs.paths.PathsToNested.from_kind.Reads as from-kind-reads
-use Rattle.parent.proofs.frame.insert_itself.Reads as insert-itself-reads
-use Rattle.parent.proofs.frame.insert_nested.Reads as insert-nested-reads
-use Rattle.parent.proofs.frame.reach.Reads as reach-reads
 
--- src/frame.rt:208:5
 reach-requires : tie.Need-reach-requires
 reach-requires c κs = search needs
 
--- src/frame.rt:209:9
 from-kind-requires : tie.Need-from-kind-requires
 from-kind-requires c κs = search needs
 
--- src/frame.rt:210:5
 insert-nested-requires : tie.Need-insert-nested-requires
 insert-nested-requires c κs = search needs
 
--- src/frame.rt:211:5
 insert-itself-requires : tie.Need-insert-itself-requires
 insert-itself-requires c κs = search needs
 
--- src/frame.rt:204:1
 same-length : tie.Need-same-length
 same-length c = search needs
 
--- src/frame.rt:204:1
 returns : tie.Need-returns
 returns c = let s = c .before .before .before .before .before .before .before .before .before .before .before .before .before .before in frames.cycle-added (s .args .step) false (s .args .reached) (frameOf (s .args .goals) (s .args .f .now)) (frameOf (s .args .goals) (c .before .before .before .before .before .before .before .before .before .before .before .reach .last .0)) (c .before .before .before .before .before .before .before .before .before .before .before .reach .ensures) (s .args .goal) (c .before .before .before .before .before .before .before .before .from-kind .result .bits) (frameOf (s .args .goals) (c .before .before .before .before .before .before .insert-nested .last .0)) (frameOf (s .args .goals) (c .before .before .insert-itself .last .0)) (c .before .before .before .before .before .before .before .before .from-kind .ensures) (c .before .before .before .before .before .before .insert-nested .ensures) (c .before .before .insert-itself .ensures)
 

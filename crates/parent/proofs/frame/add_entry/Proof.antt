@@ -1,26 +1,18 @@
-use Rattle.layout.specs.Frame.{truth, frameOf}
+use Rattle.layout.specs.Frame.{frameOf}
 use Rattle.parent.proofs.Frames as frames
 use borrow.Author.Needs.{needs}
 use Rattle.parent.proofs.frame.add_entry.Statement.{statement}
 use Rattle.parent.proofs.frame.add_entry.Tie as tie
-use Rattle.parent.proofs.frame.add_entry.Reads as reads
-use Rattle.parent.proofs.frame.add_entry.Lts as lts
-use Rattle.parent.proofs.frame.insert_itself.Reads as insert-itself-reads
-use Rattle.parent.proofs.frame.reach.Reads as reach-reads
 
--- src/frame.rt:199:5
 reach-requires : tie.Need-reach-requires
 reach-requires c κs = search needs
 
--- src/frame.rt:200:5
 insert-itself-requires : tie.Need-insert-itself-requires
 insert-itself-requires c κs = search needs
 
--- src/frame.rt:195:1
 same-length : tie.Need-same-length
 same-length c = search needs
 
--- src/frame.rt:195:1
 returns : tie.Need-returns
 returns c = let s = c .before .before .before .before .before .before .before .before .before in frames.entry-added (s .args .step) (s .args .overflow) (s .args .reached) (frameOf (s .args .goals) (s .args .f .now)) (frameOf (s .args .goals) (c .before .before .before .before .before .before .reach .last .0)) (c .before .before .before .before .before .before .reach .ensures) (frameOf (s .args .goals) (c .before .before .insert-itself .last .0)) (c .before .before .insert-itself .ensures)
 

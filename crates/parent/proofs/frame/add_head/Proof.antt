@@ -1,48 +1,34 @@
-use mathlib.Core.Path.{_≡_, refl, sym, ap, ap₂, _∙_}
-use Rattle.layout.specs.Frame.{truth, frameOf}
+use mathlib.Core.Path.{refl}
+use Rattle.layout.specs.Frame.{frameOf}
 use Rattle.parent.proofs.Frames as frames
 use borrow.Author.Needs.{needs}
 use Rattle.parent.proofs.frame.add_head.Statement.{statement}
 use Rattle.parent.proofs.frame.add_head.Tie as tie
-use Rattle.parent.proofs.frame.add_head.Reads as reads
-use Rattle.parent.proofs.frame.add_head.Lts as lts
-use Rattle.parent.proofs.frame.join.Reads as join-reads
-use Rattle.parent.proofs.frame.track.Reads as track-reads
-use Rattle.parent.proofs.frame.use_itself.Reads as use-itself-reads
 
--- src/frame.rt:77:5
 track-requires : tie.Need-track-requires
 track-requires c κs = search needs
 
--- src/frame.rt:79:9
 join-requires : tie.Need-join-requires
 join-requires c κs = search needs
 
--- src/frame.rt:80:9
 same-length : tie.Need-same-length
 same-length c = search needs
 
--- src/frame.rt:80:9
 returns : tie.Need-returns
 returns c = let s = c .before .before .before .before .before .before .before .before .before .before .before in frames.head-below (s .args .step) (s .args .own) (s .args .i) (s .args .head) (frameOf (s .args .goals) (s .args .f .now)) (frameOf (s .args .goals) (c .before .before .before .before .before .before .before .track .last .0)) (frameOf (s .args .goals) (c .before .before .join .last .0)) (c .before .before .before .before .before .before .before .track .ensures) (c .before .before .join .ensures) (c .before .before .before .before .if1 .taken)
 
--- src/frame.rt:83:9
 use-itself-requires : tie.Need-use-itself-requires
 use-itself-requires c κs = search needs
 
--- src/frame.rt:72:1
 same-length-2 : tie.Need-same-length-2
 same-length-2 c = search needs
 
--- src/frame.rt:72:1
 returns-2 : tie.Need-returns-2
 returns-2 c = let s = c .before .before .before .before .before .before .before .before .before .before .before .before in frames.head-own (s .args .step) (s .args .own) (s .args .i) (s .args .head) (frameOf (s .args .goals) (s .args .f .now)) (frameOf (s .args .goals) (c .before .before .before .before .before .before .before .before .track .last .0)) (frameOf (s .args .goals) (c .before .before .use-itself .last .0)) (c .before .before .before .before .before .before .before .before .track .ensures) (c .before .before .use-itself .ensures) (c .before .before .before .before .if2 .taken)
 
--- src/frame.rt:72:1
 same-length-3 : tie.Need-same-length-3
 same-length-3 c = search needs
 
--- src/frame.rt:72:1
 returns-3 : tie.Need-returns-3
 returns-3 c = let s = c .before .before .before .before .before .before .before .before in frames.head-above (s .args .step) (s .args .own) (s .args .i) (s .args .head) (frameOf (s .args .goals) (s .args .f .now)) (frameOf (s .args .goals) (c .before .before .before .before .track .last .0)) (frameOf (s .args .goals) (c .before .before .before .before .track .last .0)) (c .before .before .before .before .track .ensures) refl (c .before .if1 .left) (c .if2 .left)
 

@@ -1,26 +1,18 @@
-use Rattle.layout.specs.Frame.{truth, frameOf}
+use Rattle.layout.specs.Frame.{frameOf}
 use Rattle.parent.proofs.Frames as frames
 use borrow.Author.Needs.{needs}
 use Rattle.parent.proofs.frame.insert_itself.Statement.{statement}
 use Rattle.parent.proofs.frame.insert_itself.Tie as tie
-use Rattle.parent.proofs.frame.insert_itself.Reads as reads
-use Rattle.parent.proofs.frame.insert_itself.Lts as lts
-use Rattle.parent.proofs.frame.insert_nested.Reads as insert-nested-reads
-use Rattle.stack.proofs.frame.input.Reads as input-reads
 
--- src/frame.rt:139:9
 input-requires : tie.Need-input-requires
 input-requires c κs = search needs
 
--- src/frame.rt:140:5
 insert-nested-requires : tie.Need-insert-nested-requires
 insert-nested-requires c κs = search needs
 
--- src/frame.rt:135:1
 same-length : tie.Need-same-length
 same-length c = search needs
 
--- src/frame.rt:135:1
 returns : tie.Need-returns
 returns c = let s = c .before .before .before .before .before .before .before in let y = c .before .before .insert-nested in frames.itself-frame (frameOf (s .args .goals) (s .args .f .now)) (frameOf (s .args .goals) (y .last .0)) (c .before .before .before .before .input .result) (c .before .before .before .before .input .ensures .0) (y .ensures)
 

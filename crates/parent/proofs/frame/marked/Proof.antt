@@ -1,15 +1,11 @@
-use Rattle.layout.specs.Frame.{truth, frameOf}
+use Rattle.layout.specs.Frame.{truth}
 use Rattle.parent.proofs.Frames.{marked-yes, marked-no}
 use Rattle.parent.proofs.frame.marked.Statement.{statement}
 use Rattle.parent.proofs.frame.marked.Tie as tie
-use Rattle.parent.proofs.frame.marked.Reads as reads
-use Rattle.parent.proofs.frame.marked.Lts as lts
 
--- src/frame.rt:94:9
 returns : tie.Need-returns
 returns c = marked-yes (truth (c .before .args .before)) (c .before .args .overflow) (c .if1 .taken)
 
--- src/frame.rt:90:1
 returns-2 : tie.Need-returns-2
 returns-2 c = marked-no (truth (c .before .args .before)) (c .before .args .overflow) (c .if1 .left)
 

@@ -4,40 +4,28 @@ use Rattle.parent.proofs.Frames as frames
 use borrow.Author.Needs.{needs}
 use Rattle.parent.proofs.frame.reach.Statement.{statement}
 use Rattle.parent.proofs.frame.reach.Tie as tie
-use Rattle.parent.proofs.frame.reach.Reads as reads
-use Rattle.parent.proofs.frame.reach.Lts as lts
-use Rattle.parent.proofs.frame.lesser.Reads as lesser-reads
-use Rattle.parent.proofs.frame.marked.Reads as marked-reads
 
--- src/frame.rt:120:19
 slice-read-marked : tie.Need-slice-read-marked
 slice-read-marked c = search needs
 
--- src/frame.rt:120:12
 marked-requires : tie.Need-marked-requires
 marked-requires c κs = search needs
 
--- src/frame.rt:120:5
 slice-write-f : tie.Need-slice-write-f
 slice-write-f c = search needs
 
--- src/frame.rt:121:19
 slice-read-lesser : tie.Need-slice-read-lesser
 slice-read-lesser c = simp length-set (omega arith)
 
--- src/frame.rt:121:12
 lesser-requires : tie.Need-lesser-requires
 lesser-requires c κs = search needs
 
--- src/frame.rt:121:5
 slice-write-f-2 : tie.Need-slice-write-f-2
 slice-write-f-2 c = simp length-set (omega arith)
 
--- src/frame.rt:116:1
 same-length : tie.Need-same-length
 same-length c = search needs
 
--- src/frame.rt:116:1
 returns : tie.Need-returns
 returns c = let s = c .before .before .before .before .before in frames.reach-frame (s .args .goals) (s .args .f .now) (c .before .before .marked .result) (c .lesser .result) (s .args .overflow) (s .args .reached) (s .pre .long) (c .before .before .marked .ensures) (c .lesser .ensures)
 

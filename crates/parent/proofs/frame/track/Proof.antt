@@ -1,57 +1,40 @@
 use borrow.Author.Tests.{not-true}
-use Rattle.layout.specs.Frame.{truth, frameOf}
+use Rattle.layout.specs.Frame.{frameOf}
 use Rattle.parent.proofs.Frames as frames
 use borrow.Author.Needs.{needs}
 use Rattle.parent.proofs.frame.track.Statement.{statement}
 use Rattle.parent.proofs.frame.track.Tie as tie
-use Rattle.parent.proofs.frame.track.Reads as reads
-use Rattle.parent.proofs.frame.track.Lts as lts
-use Rattle.layout.proofs.offsets.candidate_start.Reads as candidate-start-reads
-use Rattle.layout.proofs.offsets.nested_start.Reads as nested-start-reads
-use Rattle.parent.proofs.frame.add_usages.Reads as add-usages-reads
-use Rattle.stack.proofs.frame.tracks.Reads as tracks-reads
 
--- src/frame.rt:41:9
 tracks-requires : tie.Need-tracks-requires
 tracks-requires c κs = search needs
 
--- src/frame.rt:42:9
 same-length : tie.Need-same-length
 same-length c = search needs
 
--- src/frame.rt:42:9
 returns : tie.Need-returns
 returns c = let s = c .before .before .before .before in frames.track-none (frameOf (s .args .goals) (s .args .f .now)) (s .args .i) (s .args .usages) (c .before .tracks .result) (c .before .tracks .ensures) (not-true (c .before .tracks .result) (c .if1 .taken))
 
--- src/frame.rt:44:9
 candidate-start-requires : tie.Need-candidate-start-requires
 candidate-start-requires c κs = search needs
 
--- src/frame.rt:45:9
 nested-start-requires : tie.Need-nested-start-requires
 nested-start-requires c κs = search needs
 
--- src/frame.rt:46:16
 sub-add-usages : tie.Need-sub-add-usages
 sub-add-usages c = search needs
 
--- src/frame.rt:46:16
 part-add-usages-start : tie.Need-part-add-usages-start
 part-add-usages-start c = search needs
 
--- src/frame.rt:46:16
 part-add-usages-end : tie.Need-part-add-usages-end
 part-add-usages-end c = search needs
 
--- src/frame.rt:46:5
 add-usages-requires : tie.Need-add-usages-requires
 add-usages-requires c κs = search needs
 
--- src/frame.rt:37:1
 same-length-2 : tie.Need-same-length-2
 same-length-2 c = search needs
 
--- src/frame.rt:37:1
 returns-2 : tie.Need-returns-2
 returns-2 c = let s = c .before .before .before .before .before .before .before .before .before .before in let y = c .before .before .add-usages in frames.track-frame (s .args .goals) (s .args .f .now) (y .last .0) (c .before .before .before .before .before .candidate-start .result) (c .before .before .before .before .nested-start .result) (s .args .i) (s .args .usages) (s .pre .0 .long) (c .before .before .before .before .before .candidate-start .ensures) (c .before .before .before .before .nested-start .ensures) (y .kept .0) (y .ensures)
 

@@ -2,45 +2,31 @@ use Rattle.parent.proofs.Frames as frames
 use borrow.Author.Needs.{needs}
 use Rattle.parent.proofs.frame.use_itself.Statement.{statement}
 use Rattle.parent.proofs.frame.use_itself.Tie as tie
-use Rattle.parent.proofs.frame.use_itself.Reads as reads
-use Rattle.parent.proofs.frame.use_itself.Lts as lts
-use Rattle.definition.proofs.usages.HeadUsages.add_usages_from_nested.Reads as add-usages-from-nested-reads
-use Rattle.layout.proofs.records.write_usages.Reads as write-usages-reads
-use Rattle.stack.proofs.frame.own_usages.Reads as own-usages-reads
 
--- src/frame.rt:66:9
 own-usages-requires : tie.Need-own-usages-requires
 own-usages-requires c κs = search needs
 
--- src/frame.rt:67:27
 sub-write-usages : tie.Need-sub-write-usages
 sub-write-usages c = search needs
 
--- src/frame.rt:67:27
 part-write-usages-start : tie.Need-part-write-usages-start
 part-write-usages-start c = search needs
 
--- src/frame.rt:67:27
 part-write-usages-end : tie.Need-part-write-usages-end
 part-write-usages-end c = search needs
 
--- src/frame.rt:67:42
 add-usages-from-nested-requires : tie.Need-add-usages-from-nested-requires
 add-usages-from-nested-requires c κs = search needs
 
--- src/frame.rt:67:5
 write-usages-requires : tie.Need-write-usages-requires
 write-usages-requires c κs = search needs
 
--- src/frame.rt:68:5
 slice-write-f : tie.Need-slice-write-f
 slice-write-f c = search needs
 
--- src/frame.rt:62:1
 same-length : tie.Need-same-length
 same-length c = search needs
 
--- src/frame.rt:62:1
 returns : tie.Need-returns
 returns c = let s = c .before .before .before .before .before .before .before .before in let y = c .before .before .write-usages in frames.use-frame (s .args .goals) (s .args .f .now) (y .last .0) (c .before .before .before .before .before .own-usages .result) (c .before .before .before .add-usages-from-nested .result) (s .args .usages) (s .pre .long) (c .before .before .before .before .before .own-usages .ensures) (c .before .before .before .add-usages-from-nested .ensures) (y .kept .0) (y .ensures)
 
