@@ -1,0 +1,5 @@
+pub mod Nested
+pub mod Frames
+pub mod Heads
+pub mod Top
+pub mod Update

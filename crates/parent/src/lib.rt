@@ -1,0 +1,192 @@
+// update_parent_goal of mod.rs. The parent is the frame on top of the stack.
+use definition::heads::CycleHead;
+use definition::paths::PathKind;
+use definition::paths::PathsToNested;
+use definition::usages::HeadUsages;
+use layout::heads;
+use layout::offsets;
+ghost use mathlib.Core.Path.{_≡_};
+ghost use mathlib.Core.Bool.{false};
+ghost use Prim.Native.Nat.{ℕ, _+_, _*_, _<_, _≤_};
+ghost use lib.ListN.{length};
+ghost use Rattle.definition.specs.Paths.{flagOf};
+ghost use Rattle.definition.specs.Heads.{noHeads, insertHead};
+ghost use Rattle.definition.specs.Parent.{addHeads, addRest, updateParentGoal, Ordinary, CycleOnStack, ProvisionalCacheHit};
+ghost use Rattle.buffer.specs.Regions.{region};
+ghost use Rattle.layout.specs.Blocks.{headsSize, headsOf};
+ghost use Rattle.layout.specs.Frame.{frameSize};
+ghost use Rattle.layout.specs.Entry.{entrySize, entryOf};
+ghost use Rattle.layout.specs.Work.{frameStart, entryStart, stackOf, entriesOf};
+ghost use Rattle.stack.specs.Bytes.{GraphBytes, frameBytes, frameAt};
+ghost use Rattle.parent.specs.Head.{addHeadAt};
+ghost use Rattle.parent.specs.Top.{TopWritten};
+
+pub mod frame;
+
+// ---- the frame at index `own`, on top
+
+// A head of the nested goal, at index i.
+fn add_head(graph: &mut [u8], goals: usize, own: usize, step: PathKind, i: usize, head: CycleHead)
+    requires { ⌜ GraphBytes goals (now graph) × ((own < goals) × (i < goals)) ⌝ }
+    ensures { λ _. ⌜ TopWritten goals own (addHeadAt step own i head (frameAt goals own (now (graph .entry)))) (now (graph .entry)) (now (graph .exit)) ⌝ }
+{
+    let a = offsets::frame_start(goals, own);
+    let e = a + offsets::frame_size(goals);
+    frame::add_head(&mut graph[a..e], goals, own, step, i, head);
+}
+
+// The heads of the nested goal, in the block at `start` of the graph, behind the frame.
+fn add_heads(graph: &mut [u8], goals: usize, own: usize, step: PathKind, start: usize)
+    requires { ⌜ GraphBytes goals (now graph) × ((own < goals) × ((frameStart goals own + frameSize goals ≤ start) × (start + headsSize goals ≤ length (now graph)))) ⌝ }
+    ensures { λ _. ⌜ TopWritten goals own (addHeads step own (headsOf goals (region start (headsSize goals) (now (graph .entry)))) (frameAt goals own (now (graph .entry)))) (now (graph .entry)) (now (graph .exit)) ⌝ }
+{
+    let end = start + offsets::heads_size(goals);
+    let mut left = heads::mask(&graph[start..end], goals);
+    while 0 < left {
+        let i = bits::lowest(left);
+        let head = heads::record(&graph[start..end], goals, i);
+        add_head(graph, goals, own, step, i, head);
+        left = bits::without_lowest(left);
+    }
+}
+
+// The rest, after a goal with nested goals.
+fn add_ordinary(
+    graph: &mut [u8],
+    goals: usize,
+    own: usize,
+    step: PathKind,
+    overflow: bool,
+    nested: &[u8],
+    reached: usize,
+)
+    requires { ⌜ GraphBytes goals (now graph) × (own < goals) ⌝ }
+    ensures { λ _. ⌜ TopWritten goals own (addRest step overflow (Ordinary (now (nested .entry))) reached (frameAt goals own (now (graph .entry)))) (now (graph .entry)) (now (graph .exit)) ⌝ }
+{
+    let a = offsets::frame_start(goals, own);
+    let e = a + offsets::frame_size(goals);
+    frame::add_ordinary(&mut graph[a..e], goals, step, overflow, nested, reached);
+}
+
+// The rest, after an entry.
+fn add_entry(
+    graph: &mut [u8],
+    goals: usize,
+    own: usize,
+    step: PathKind,
+    overflow: bool,
+    reached: usize,
+)
+    requires { ⌜ GraphBytes goals (now graph) × (own < goals) ⌝ }
+    ensures { λ _. ⌜ TopWritten goals own (addRest step overflow ProvisionalCacheHit reached (frameAt goals own (now (graph .entry)))) (now (graph .entry)) (now (graph .exit)) ⌝ }
+{
+    let a = offsets::frame_start(goals, own);
+    let e = a + offsets::frame_size(goals);
+    frame::add_entry(&mut graph[a..e], goals, step, overflow, reached);
+}
+
+// The rest, after a goal on the stack.
+fn add_cycle(
+    graph: &mut [u8],
+    goals: usize,
+    own: usize,
+    step: PathKind,
+    goal: usize,
+    reached: usize,
+)
+    requires { ⌜ GraphBytes goals (now graph) × (own < goals) ⌝ }
+    ensures { λ _. ⌜ TopWritten goals own (addRest step false (CycleOnStack goal) reached (frameAt goals own (now (graph .entry)))) (now (graph .entry)) (now (graph .exit)) ⌝ }
+{
+    let a = offsets::frame_start(goals, own);
+    let e = a + offsets::frame_size(goals);
+    frame::add_cycle(&mut graph[a..e], goals, step, goal, reached);
+}
+
+// ---- the parent
+
+// After a goal that was found in the global cache.
+pub fn update_from_slot(
+    graph: &mut [u8],
+    goals: usize,
+    height: usize,
+    step: PathKind,
+    overflow: bool,
+    nested: &[u8],
+    reached: usize,
+)
+    requires { ⌜ GraphBytes goals (now graph) × (height ≤ goals) ⌝ }
+    ensures { λ _. ⌜ (stackOf goals height (now (graph .exit)) ≡ updateParentGoal (stackOf goals height (now (graph .entry))) step (noHeads goals) overflow (Ordinary (now (nested .entry))) reached) × ((n : ℕ) → entriesOf goals n (now (graph .exit)) ≡ entriesOf goals n (now (graph .entry))) ⌝ }
+{
+    if height == 0 {
+        return;
+    }
+    add_ordinary(graph, goals, height - 1, step, overflow, nested, reached);
+}
+
+// After a goal that was found in the provisional cache, at entry i.
+pub fn update_from_entry(
+    graph: &mut [u8],
+    goals: usize,
+    height: usize,
+    step: PathKind,
+    i: usize,
+    overflow: bool,
+    reached: usize,
+)
+    requires { ⌜ GraphBytes goals (now graph) × ((height ≤ goals) × (i < 2 * goals)) ⌝ }
+    ensures { λ _. ⌜ (stackOf goals height (now (graph .exit)) ≡ updateParentGoal (stackOf goals height (now (graph .entry))) step ((entryOf goals (region (entryStart goals i) (entrySize goals) (now (graph .entry)))) .heads) overflow ProvisionalCacheHit reached) × ((n : ℕ) → entriesOf goals n (now (graph .exit)) ≡ entriesOf goals n (now (graph .entry))) ⌝ }
+{
+    if height == 0 {
+        return;
+    }
+    let start = offsets::entry_start(goals, i) + 8;
+    add_heads(graph, goals, height - 1, step, start);
+    add_entry(graph, goals, height - 1, step, overflow, reached);
+}
+
+// After a goal that is on the stack, at index `head`.
+pub fn update_from_cycle(
+    graph: &mut [u8],
+    goals: usize,
+    height: usize,
+    step: PathKind,
+    head: usize,
+    usages: HeadUsages,
+    goal: usize,
+    reached: usize,
+)
+    requires { ⌜ GraphBytes goals (now graph) × ((height ≤ goals) × (head < height)) ⌝ }
+    ensures { λ _. ⌜ (stackOf goals height (now (graph .exit)) ≡ updateParentGoal (stackOf goals height (now (graph .entry))) step (insertHead (noHeads goals) head (flagOf step) usages) false (CycleOnStack goal) reached) × ((n : ℕ) → entriesOf goals n (now (graph .exit)) ≡ entriesOf goals n (now (graph .entry))) ⌝ }
+{
+    if height == 0 {
+        return;
+    }
+    let paths = PathsToNested::from_kind(step);
+    let cycle = CycleHead {
+        paths: paths.bits,
+        usages,
+    };
+    add_head(graph, goals, height - 1, step, head, cycle);
+    add_cycle(graph, goals, height - 1, step, goal, reached);
+}
+
+// After the goal whose frame stood above the parent, with that frame's nested goals.
+pub fn update_from_frame(
+    graph: &mut [u8],
+    goals: usize,
+    height: usize,
+    step: PathKind,
+    overflow: bool,
+    child: &[u8],
+    reached: usize,
+)
+    requires { ⌜ GraphBytes goals (now graph) × (height < goals) ⌝ }
+    ensures { λ _. ⌜ (stackOf goals height (now (graph .exit)) ≡ updateParentGoal (stackOf goals height (now (graph .entry))) step ((frameAt goals height (now (graph .entry))) .heads) overflow (Ordinary (now (child .entry))) reached) × (((n : ℕ) → entriesOf goals n (now (graph .exit)) ≡ entriesOf goals n (now (graph .entry))) × (frameBytes goals height (now (graph .exit)) ≡ frameBytes goals height (now (graph .entry)))) ⌝ }
+{
+    if height == 0 {
+        return;
+    }
+    let start = offsets::frame_start(goals, height) + 40;
+    add_heads(graph, goals, height - 1, step, start);
+    add_ordinary(graph, goals, height - 1, step, overflow, child, reached);
+}
