@@ -18,7 +18,7 @@ const FUEL: u64 = 400;
 const WRONG_FUEL: u64 = 4_000;
 
 /// So many different cases are looked for and made small for each reading.
-const WITNESSES: usize = 8;
+const WITNESSES: usize = 12;
 
 /// Larger cases are passed over: to make them small would take long.
 const LONGEST_BOOK: usize = 60 * 16;
@@ -27,30 +27,34 @@ const LONGEST_CACHE: usize = 2_000;
 /// Cases of each class in a round.
 const ROUND: u64 = 20;
 
-/// From a cache of zeros with good books; then bad queries and books; then made caches. A later
-/// group serves only for readings that the earlier ones do not catch.
-const GROUPS: [&[&str]; 3] = [
-    &[
-        "tiny",
-        "examples",
-        "knots",
-        "random",
-        "rings",
-        "tangled",
-        "picks",
-        "nested",
-        "overflow",
-        "uncached",
-        "many-entries",
-        "extremes",
-        "only-inductive",
-        "only-coinductive",
-        "no-coinductive",
-        "no-inductive",
-        "groups",
-    ],
-    &["damaged-book", "bad-query"],
-    &["made-cache", "changed-cache", "refusals-race", "damaged-cache"],
+/// Good books and a cache of zeros.
+const HONEST: &[&str] = &[
+    "tiny",
+    "examples",
+    "knots",
+    "random",
+    "rings",
+    "tangled",
+    "picks",
+    "nested",
+    "overflow",
+    "uncached",
+    "many-entries",
+    "extremes",
+    "only-inductive",
+    "only-coinductive",
+    "no-coinductive",
+    "no-inductive",
+    "groups",
+];
+
+/// Classes, and whether a reading must show without refusals 10 and 11. A later group serves only
+/// for readings that the earlier ones do not catch.
+const GROUPS: [(&[&str], bool); 4] = [
+    (HONEST, true),
+    (HONEST, false),
+    (&["damaged-book", "bad-query"], false),
+    (&["made-cache", "changed-cache", "refusals-race", "damaged-cache"], false),
 ];
 
 #[derive(Clone, Copy, Debug)]
@@ -122,16 +126,19 @@ fn one_reply(
     (reply, report.goal_runs, report.high_water)
 }
 
-/// How the wrong reading shows in a case, if it does; `right` is what the right one replies.
-fn shows(case: &Case, right: &[Expected], reading: u32) -> Option<Shows> {
+/// How the wrong reading shows in a case, if it does, and whether refusals 10 and 11 have no
+/// part in it; `right` is what the right reading replies.
+fn shows(case: &Case, right: &[Expected], reading: u32) -> Option<(Shows, bool)> {
     read_wrongly(reading);
     let mut cache = case.cache.clone();
     let mut found = None;
     for (query, right) in case.queries.iter().zip(right) {
-        found = match one_reply(case, query, &mut cache, WRONG_FUEL).0 {
-            None => Some(Shows::NeverEnds),
-            Some(Expected::Panic) => Some(Shows::Panics),
-            Some(reply) => (reply != *right).then_some(Shows::Differs),
+        let wrong = one_reply(case, query, &mut cache, WRONG_FUEL).0;
+        let plainly = !late_refusal(right) && !wrong.as_ref().is_some_and(late_refusal);
+        found = match wrong {
+            None => Some((Shows::NeverEnds, plainly)),
+            Some(Expected::Panic) => Some((Shows::Panics, plainly)),
+            Some(reply) => (reply != *right).then_some((Shows::Differs, plainly)),
         };
         if found.is_some() {
             break;
@@ -141,8 +148,16 @@ fn shows(case: &Case, right: &[Expected], reading: u32) -> Option<Shows> {
     found
 }
 
-/// Whether the case shows the reading and the right reading replies in time and without a panic.
+fn late_refusal(reply: &Expected) -> bool {
+    matches!(reply, Expected::Reply { refusal: 10 | 11, .. })
+}
+
+/// How the case shows the reading; none if the right reading panics or takes too long.
 pub fn catches(case: &Case, reading: u32) -> Option<Shows> {
+    caught(case, reading).map(|(shows, _)| shows)
+}
+
+fn caught(case: &Case, reading: u32) -> Option<(Shows, bool)> {
     let (right, _) = right_replies(case)?;
     if right.contains(&Expected::Panic) {
         return None;
@@ -194,34 +209,44 @@ impl Catch {
     }
 }
 
-/// Cases of the recorded files, as they are.
+/// Cases of the recorded files, made small where they are not large.
 fn hunt_in_recorded(readings: &[u32]) -> (Vec<Case>, u64) {
     let files = recorded::FILES.iter().filter(|(name, _)| *name != "random");
     let cases: Vec<Case> = files.filter_map(|(name, _)| recorded::cases(name)).flatten().collect();
-    let unanswered = cases.into_iter().map(|mut case| {
+    let (mut found, tried) = (Vec::new(), cases.len() as u64);
+    for mut case in cases {
         case.queries.iter_mut().for_each(|query| query.expected = None);
-        case
-    });
-    let caught = |case: &Case| readings.iter().any(|n| catches(case, *n).is_some());
-    let found: Vec<Case> = unanswered.filter(caught).collect();
-    let tried = found.len() as u64;
+        for reading in readings.iter().filter(|n| catches(&case, **n).is_some()) {
+            let small = if case.book.len() <= LONGEST_BOOK {
+                shrink::shrink(&case, &|c| catches(c, *reading).is_some())
+            } else {
+                case.clone()
+            };
+            found.push(Case { name: format!("r{reading}-{}", case.name), ..small });
+        }
+    }
     (found, tried)
 }
 
 fn caught_by(case: &Case, readings: &[u32]) -> Vec<(u32, Shows)> {
     let Some((right, _)) = right_replies(case) else { return vec![] };
-    readings.iter().filter_map(|n| Some((*n, shows(case, &right, *n)?))).collect()
+    readings.iter().filter_map(|n| Some((*n, shows(case, &right, *n)?.0))).collect()
 }
 
 /// Small cases from the classes of a group, up to `WITNESSES` for each reading.
-fn hunt_in(group: &[&str], extent: Extent, start: Instant, readings: &[u32]) -> (Vec<Case>, u64) {
+fn hunt_in(
+    (group, plainly): (&[&str], bool),
+    extent: Extent,
+    start: Instant,
+    readings: &[u32],
+) -> (Vec<Case>, u64) {
     let mut wanted: Vec<(u32, usize)> = readings.iter().map(|n| (*n, WITNESSES)).collect();
     let (mut found, mut tried) = (Vec::new(), 0);
     for round in 0..extent.rounds {
         for class in group.iter().map(|name| class_named(name).expect("a class")) {
             for number in round * ROUND..(round + 1) * ROUND {
                 tried += 1;
-                try_case(&class.case(extent.seed, number), &mut wanted, &mut found);
+                try_case(&class.case(extent.seed, number), plainly, &mut wanted, &mut found);
             }
         }
         wanted.retain(|(_, count)| *count > 0);
@@ -232,7 +257,7 @@ fn hunt_in(group: &[&str], extent: Extent, start: Instant, readings: &[u32]) -> 
     (found, tried)
 }
 
-fn try_case(case: &Case, wanted: &mut [(u32, usize)], found: &mut Vec<Case>) {
+fn try_case(case: &Case, plainly: bool, wanted: &mut [(u32, usize)], found: &mut Vec<Case>) {
     if case.book.len() > LONGEST_BOOK || case.cache.len() > LONGEST_CACHE {
         return;
     }
@@ -240,10 +265,11 @@ fn try_case(case: &Case, wanted: &mut [(u32, usize)], found: &mut Vec<Case>) {
     if right.contains(&Expected::Panic) {
         return;
     }
+    let is_good = |shown: Option<(Shows, bool)>| shown.is_some_and(|(_, plain)| plain || !plainly);
     for (reading, count) in wanted.iter_mut().filter(|(_, count)| *count > 0) {
-        if shows(case, &right, *reading).is_some() {
-            let mut small = shrink::shrink(case, &|c| catches(c, *reading).is_some());
-            small.name = format!("h{reading}-{}", WITNESSES - *count);
+        if is_good(shows(case, &right, *reading)) {
+            let mut small = shrink::shrink(case, &|c| is_good(caught(c, *reading)));
+            small.name = format!("h{reading}-{}", case.name);
             *count -= 1;
             found.push(small);
         }

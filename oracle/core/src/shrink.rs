@@ -70,9 +70,7 @@ fn smaller_parts(part: &Part) -> Vec<Part> {
             if *kind != 0 {
                 out.push(Part::Call { goal: *goal, kind: 0, lower: *lower });
             }
-            if *goal != 0 {
-                out.push(Part::Call { goal: 0, kind: *kind, lower: *lower });
-            }
+            out.extend((0..*goal).map(|goal| Part::Call { goal, kind: *kind, lower: *lower }));
             return out;
         }
         Part::All(_) => Part::All,

@@ -12,7 +12,7 @@ use crate::{read_wrongly, recorded, shrink, work_len};
 
 /// So many near misses are remembered, and changed cases tried in a round.
 const REMEMBERED: usize = 300;
-const ROUND: u64 = 3_000;
+const ROUND: u64 = 600;
 
 /// A reading that takes other goal runs where a frame finishes without cycle usages.
 const SIGNAL: u32 = 265;
@@ -67,6 +67,7 @@ fn first() -> Vec<Case> {
         examples::no_cycle_usages(),
         recorded::caches::no_cycle_usages(),
         recorded::caches::entry_without_cycle_usages(),
+        recorded::caches::ambiguous_without_cycle_usages(),
     ]
 }
 

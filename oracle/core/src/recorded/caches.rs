@@ -12,6 +12,7 @@ pub fn all() -> Vec<Case> {
     out.extend(replaced());
     out.push(no_cycle_usages());
     out.push(entry_without_cycle_usages());
+    out.push(ambiguous_without_cycle_usages());
     let classes = ["made-cache", "changed-cache", "refusals-race"];
     for class in classes {
         out.extend(of_class(class, 4, 0..40).into_iter().filter(small).take(16));
@@ -137,4 +138,26 @@ pub(crate) fn entry_without_cycle_usages() -> Case {
     let book = super::book([1, 4, 4, 2, 1], parts);
     let slots: [(usize, usize, &[u8]); 2] = [(2, 4, &[1, 1, 3]), (2, 5, &[1, 0, 4])];
     with_slots(on("entry-without-cycle-usages", &book, &[(1, 4)]), &book, &slots)
+}
+
+/// Goal 0 finishes undecided and without cycle usages below goal 5, and the entry that goal 4
+/// left is undecided and depends on its old result. Goal 4 would overflow with the new one.
+pub(crate) fn ambiguous_without_cycle_usages() -> Case {
+    let late_yes = Part::Any(vec![call(3, 0, true), call(1, 0, true)]);
+    let parts = vec![
+        Part::All(vec![late_yes, Part::Undecided, call(5, 1, true)]),
+        Part::Pick(vec![
+            Part::All(vec![call(4, 0, true), no()]),
+            Part::All(vec![call(0, 2, true), call(2, 0, false)]),
+            call(2, 0, true),
+        ]),
+        no(),
+        no(),
+        Part::Any(vec![Part::Undecided, Part::All(vec![call(0, 0, true), call(5, 3, true)])]),
+        Part::All(vec![call(0, 0, true), call(4, 0, true)]),
+    ];
+    let book = super::book([1, 6, 5, 2, 1], parts);
+    let slots: [(usize, usize, &[u8]); 3] =
+        [(2, 4, &[1, 1, 3]), (2, 5, &[1, 0, 4]), (3, 4, &[1, 0, 3])];
+    with_slots(on("ambiguous-without-cycle-usages", &book, &[(5, 5)]), &book, &slots)
 }

@@ -110,49 +110,51 @@ fn headers() -> Vec<Case> {
     out
 }
 
-/// Refusal 4: codes, fields and counts; the good ones among them say so.
+/// A goal's part, as lines; the good ones among them say so.
+const BODIES: [(&str, &[[usize; 5]]); 38] = [
+    ("code-0", &[[0, 0, 0, 0, 0]]),
+    ("code-1", &[[1, 0, 0, 0, 0]]),
+    ("code-7", &[[7, 0, 0, 0, 0]]),
+    ("code-258", &[[258, 0, 0, 0, 0]]),
+    ("code-999", &[[999, 0, 0, 0, 0]]),
+    ("call-good", &[[2, 0, 3, 1, 0]]),
+    ("call-goal-1", &[[2, 1, 0, 0, 0]]),
+    ("call-goal-256", &[[2, 256, 0, 0, 0]]),
+    ("call-goal-999", &[[2, 999, 0, 0, 0]]),
+    ("call-kind-4", &[[2, 0, 4, 0, 0]]),
+    ("call-kind-256", &[[2, 0, 256, 0, 0]]),
+    ("call-kind-999", &[[2, 0, 999, 0, 0]]),
+    ("call-lower-2", &[[2, 0, 0, 2, 0]]),
+    ("call-lower-256", &[[2, 0, 0, 256, 0]]),
+    ("call-unused-4", &[[2, 0, 0, 0, 1]]),
+    ("all-unused-2", &[[3, 0, 1, 0, 0]]),
+    ("all-unused-3", &[[3, 0, 0, 1, 0]]),
+    ("all-unused-4", &[[3, 0, 0, 0, 999]]),
+    ("any-unused-2", &[[4, 0, 256, 0, 0]]),
+    ("any-unused-3", &[[4, 0, 0, 1, 0]]),
+    ("any-unused-4", &[[4, 0, 0, 0, 1]]),
+    ("pick-unused-2", &[[5, 0, 1, 0, 0]]),
+    ("pick-unused-3", &[[5, 0, 0, 1, 0]]),
+    ("pick-unused-4", &[[5, 0, 0, 0, 1]]),
+    ("undecided-unused-1", &[[6, 1, 0, 0, 0]]),
+    ("undecided-unused-4", &[[6, 0, 0, 0, 1]]),
+    ("all-part-missing", &[[3, 1, 0, 0, 0]]),
+    ("any-part-missing", &[[4, 2, 0, 0, 0], [6, 0, 0, 0, 0]]),
+    ("pick-part-missing", &[[5, 999, 0, 0, 0], [6, 0, 0, 0, 0]]),
+    ("all-part-too-many", &[[3, 0, 0, 0, 0], [6, 0, 0, 0, 0]]),
+    ("any-part-too-many", &[[4, 1, 0, 0, 0], [6, 0, 0, 0, 0], [6, 0, 0, 0, 0]]),
+    ("two-parts", &[[6, 0, 0, 0, 0], [6, 0, 0, 0, 0]]),
+    ("inner-code-1", &[[3, 1, 0, 0, 0], [1, 0, 0, 0, 0]]),
+    ("inner-bad-call", &[[4, 2, 0, 0, 0], [2, 0, 0, 0, 0], [2, 1, 0, 0, 0]]),
+    ("inner-good", &[[4, 2, 0, 0, 0], [2, 0, 0, 0, 0], [3, 0, 0, 0, 0]]),
+    ("picks-beside", &[[3, 2, 0, 0, 0], [5, 0, 0, 0, 0], [5, 0, 0, 0, 0]]),
+    ("pick-in-pick", &[[5, 1, 0, 0, 0], [5, 0, 0, 0, 0]]),
+    ("pick-in-all-in-pick", &[[5, 1, 0, 0, 0], [3, 1, 0, 0, 0], [5, 0, 0, 0, 0]]),
+];
+
+/// Refusal 4: codes, fields and counts.
 fn grammar() -> Vec<Case> {
-    let bodies: [(&str, &[[usize; 5]]); 38] = [
-        ("code-0", &[[0, 0, 0, 0, 0]]),
-        ("code-1", &[[1, 0, 0, 0, 0]]),
-        ("code-7", &[[7, 0, 0, 0, 0]]),
-        ("code-258", &[[258, 0, 0, 0, 0]]),
-        ("code-999", &[[999, 0, 0, 0, 0]]),
-        ("call-good", &[[2, 0, 3, 1, 0]]),
-        ("call-goal-1", &[[2, 1, 0, 0, 0]]),
-        ("call-goal-256", &[[2, 256, 0, 0, 0]]),
-        ("call-goal-999", &[[2, 999, 0, 0, 0]]),
-        ("call-kind-4", &[[2, 0, 4, 0, 0]]),
-        ("call-kind-256", &[[2, 0, 256, 0, 0]]),
-        ("call-kind-999", &[[2, 0, 999, 0, 0]]),
-        ("call-lower-2", &[[2, 0, 0, 2, 0]]),
-        ("call-lower-256", &[[2, 0, 0, 256, 0]]),
-        ("call-unused-4", &[[2, 0, 0, 0, 1]]),
-        ("all-unused-2", &[[3, 0, 1, 0, 0]]),
-        ("all-unused-3", &[[3, 0, 0, 1, 0]]),
-        ("all-unused-4", &[[3, 0, 0, 0, 999]]),
-        ("any-unused-2", &[[4, 0, 256, 0, 0]]),
-        ("any-unused-3", &[[4, 0, 0, 1, 0]]),
-        ("any-unused-4", &[[4, 0, 0, 0, 1]]),
-        ("pick-unused-2", &[[5, 0, 1, 0, 0]]),
-        ("pick-unused-3", &[[5, 0, 0, 1, 0]]),
-        ("pick-unused-4", &[[5, 0, 0, 0, 1]]),
-        ("undecided-unused-1", &[[6, 1, 0, 0, 0]]),
-        ("undecided-unused-4", &[[6, 0, 0, 0, 1]]),
-        ("all-part-missing", &[[3, 1, 0, 0, 0]]),
-        ("any-part-missing", &[[4, 2, 0, 0, 0], [6, 0, 0, 0, 0]]),
-        ("pick-part-missing", &[[5, 999, 0, 0, 0], [6, 0, 0, 0, 0]]),
-        ("all-part-too-many", &[[3, 0, 0, 0, 0], [6, 0, 0, 0, 0]]),
-        ("any-part-too-many", &[[4, 1, 0, 0, 0], [6, 0, 0, 0, 0], [6, 0, 0, 0, 0]]),
-        ("two-parts", &[[6, 0, 0, 0, 0], [6, 0, 0, 0, 0]]),
-        ("inner-code-1", &[[3, 1, 0, 0, 0], [1, 0, 0, 0, 0]]),
-        ("inner-bad-call", &[[4, 2, 0, 0, 0], [2, 0, 0, 0, 0], [2, 1, 0, 0, 0]]),
-        ("inner-good", &[[4, 2, 0, 0, 0], [2, 0, 0, 0, 0], [3, 0, 0, 0, 0]]),
-        ("picks-beside", &[[3, 2, 0, 0, 0], [5, 0, 0, 0, 0], [5, 0, 0, 0, 0]]),
-        ("pick-in-pick", &[[5, 1, 0, 0, 0], [5, 0, 0, 0, 0]]),
-        ("pick-in-all-in-pick", &[[5, 1, 0, 0, 0], [3, 1, 0, 0, 0], [5, 0, 0, 0, 0]]),
-    ];
-    bodies.iter().map(|(name, all)| body(format!("body-{name}"), all)).collect()
+    BODIES.iter().map(|(name, all)| body(format!("body-{name}"), all)).collect()
 }
 
 /// Refusal 4: the goals' lines, on books of two goals.
@@ -224,6 +226,36 @@ fn queries() -> Vec<Case> {
     out
 }
 
+/// Slots of two goals and T 3: name, number and bytes. Not all are ill-formed.
+const SLOTS: [(&str, usize, [u8; 5]); 26] = [
+    ("held-2", 0, [2, 0, 0, 0, 0]),
+    ("held-255", 9, [255, 0, 3, 0, 0]),
+    ("vacant-result", 0, [0, 1, 0, 0, 0]),
+    ("vacant-depth", 2, [0, 0, 1, 0, 0]),
+    ("vacant-flags", 9, [0, 0, 0, 0, 1]),
+    ("vacant-other-flags", 5, [0, 0, 0, 2, 0]),
+    ("result-3", 0, [1, 3, 3, 0, 0]),
+    ("result-4", 0, [1, 4, 3, 0, 0]),
+    ("result-255", 5, [1, 255, 3, 0, 0]),
+    ("overflow-result-3", 4, [1, 3, 3, 0, 0]),
+    ("overflow-result-4", 4, [1, 4, 3, 0, 0]),
+    ("depth-3", 5, [1, 1, 3, 0, 0]),
+    ("depth-4", 5, [1, 1, 4, 0, 0]),
+    ("depth-255", 0, [1, 1, 255, 0, 0]),
+    ("overflow-depth-0", 1, [1, 3, 0, 0, 0]),
+    ("overflow-depth-0-is-1", 1, [1, 3, 1, 0, 0]),
+    ("overflow-depth-1-is-0", 2, [1, 3, 0, 0, 0]),
+    ("overflow-depth-3-is-4", 4, [1, 3, 4, 0, 0]),
+    ("overflow-depth-3-is-2", 9, [1, 3, 2, 0, 0]),
+    ("overflow-depth-2", 8, [1, 3, 2, 31, 0]),
+    ("flags-31", 0, [1, 0, 3, 31, 31]),
+    ("flags-32", 0, [1, 0, 3, 32, 0]),
+    ("flags-64-of-last", 5, [1, 0, 3, 0, 64]),
+    ("flags-255", 5, [1, 0, 3, 0, 255]),
+    ("flags-128-in-overflow", 9, [1, 0, 3, 128, 0]),
+    ("all-255", 0, [255; 5]),
+];
+
 /// Refusals 7 and 8.
 fn caches() -> Vec<Case> {
     let book = super::book([1, 2, 3, 1, 1], vec![call(1, 0, true), yes()]);
@@ -234,35 +266,7 @@ fn caches() -> Vec<Case> {
         let cache = vec![0; other];
         out.push(named(format!("cache-length-{other}"), Case { cache, ..good.clone() }));
     }
-    let slots: [(&str, usize, [u8; 5]); 26] = [
-        ("held-2", 0, [2, 0, 0, 0, 0]),
-        ("held-255", 9, [255, 0, 3, 0, 0]),
-        ("vacant-result", 0, [0, 1, 0, 0, 0]),
-        ("vacant-depth", 2, [0, 0, 1, 0, 0]),
-        ("vacant-flags", 9, [0, 0, 0, 0, 1]),
-        ("vacant-other-flags", 5, [0, 0, 0, 2, 0]),
-        ("result-3", 0, [1, 3, 3, 0, 0]),
-        ("result-4", 0, [1, 4, 3, 0, 0]),
-        ("result-255", 5, [1, 255, 3, 0, 0]),
-        ("overflow-result-3", 4, [1, 3, 3, 0, 0]),
-        ("overflow-result-4", 4, [1, 4, 3, 0, 0]),
-        ("depth-3", 5, [1, 1, 3, 0, 0]),
-        ("depth-4", 5, [1, 1, 4, 0, 0]),
-        ("depth-255", 0, [1, 1, 255, 0, 0]),
-        ("overflow-depth-0", 1, [1, 3, 0, 0, 0]),
-        ("overflow-depth-0-is-1", 1, [1, 3, 1, 0, 0]),
-        ("overflow-depth-1-is-0", 2, [1, 3, 0, 0, 0]),
-        ("overflow-depth-3-is-4", 4, [1, 3, 4, 0, 0]),
-        ("overflow-depth-3-is-2", 9, [1, 3, 2, 0, 0]),
-        ("overflow-depth-2", 8, [1, 3, 2, 31, 0]),
-        ("flags-31", 0, [1, 0, 3, 31, 31]),
-        ("flags-32", 0, [1, 0, 3, 32, 0]),
-        ("flags-64-of-last", 5, [1, 0, 3, 0, 64]),
-        ("flags-255", 5, [1, 0, 3, 0, 255]),
-        ("flags-128-in-overflow", 9, [1, 0, 3, 128, 0]),
-        ("all-255", 0, [255; 5]),
-    ];
-    for (name, number, slot) in slots {
+    for (name, number, slot) in SLOTS {
         let mut case = good.clone();
         case.cache[5 * number..5 * number + 5].copy_from_slice(&slot);
         out.push(named(format!("slot-{name}"), case));
