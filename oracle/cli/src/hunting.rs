@@ -11,7 +11,7 @@ use crate::commands::{Done, print_case, read_input, say};
 
 pub fn hunt(mut given: Arguments) -> Done {
     let rounds = given.option("--rounds")?.unwrap_or(200);
-    let seconds = given.option("--seconds")?.unwrap_or(600);
+    let seconds = given.option("--seconds")?.unwrap_or(3600);
     let seed = given.option("--seed")?.unwrap_or(1);
     let only = given.option_word("--readings")?;
     given.end()?;
@@ -41,6 +41,9 @@ pub fn hunt(mut given: Arguments) -> Done {
         catch.kept.len(),
         catch.tried
     );
+    if start.elapsed() >= time {
+        eprintln!("ended by the time; another run can catch more");
+    }
     for number in &catch.not_caught {
         eprintln!("not caught: {number} ({})", label(*number));
     }
@@ -88,6 +91,9 @@ pub fn hunted_check(mut given: Arguments) -> Done {
     Ok(wrong == 0)
 }
 
+/// So many cases of a reading are named in the table.
+const NAMED: usize = 4;
+
 fn print_table(hunted: &[Hunted]) -> Result<(), String> {
     say("| number | wrong reading | caught by |")?;
     say("|---|---|---|")?;
@@ -101,7 +107,13 @@ fn print_table(hunted: &[Hunted]) -> Result<(), String> {
                 None => {}
             }
         }
-        say(&format!("| {number} | {what} | {} |", cases.join(", ")))?;
+        let more = cases.len().saturating_sub(NAMED);
+        cases.truncate(NAMED);
+        let mut named = cases.join(", ");
+        if more > 0 {
+            named += &format!(" and {more} more");
+        }
+        say(&format!("| {number} | {what} | {named} |"))?;
     }
     Ok(())
 }

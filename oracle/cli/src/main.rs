@@ -41,7 +41,7 @@ oracle: document 01's queries, answered by the original search graph
   oracle hunt [--rounds N] [--seconds S] [--seed K] [--readings N,N,..]
       Hunts small cases that catch wrong readings (feature wrong_readings) and prints few of
       them; tells the standard error how it goes and what is not caught. Ends after N rounds
-      (default 200) or S seconds (default 600).
+      (default 200) or S seconds (default 3600).
   oracle hunted-check [--table] < cases
       Confirms that each case catches the readings that its comment lists (feature
       wrong_readings); exit status 1 if not. With --table prints which cases catch which.
@@ -49,6 +49,10 @@ oracle: document 01's queries, answered by the original search graph
 
   --mutant N, with any command, switches on wrong reading N (feature wrong_readings).
 ";
+
+#[cfg(not(feature = "wrong_readings"))]
+const NO_READINGS: &str =
+    "this build has no wrong readings; build with --features wrong_readings (see README.md)";
 
 fn main() -> ExitCode {
     oracle_core::silence_panics();
@@ -82,6 +86,8 @@ fn run() -> Result<bool, String> {
         Some("hunt") => hunting::hunt(given),
         #[cfg(feature = "wrong_readings")]
         Some("hunted-check") => hunting::hunted_check(given),
+        #[cfg(not(feature = "wrong_readings"))]
+        Some("hunt" | "hunted-check") => Err(NO_READINGS.to_string()),
         Some("help" | "--help" | "-h") => {
             print!("{HELP}");
             Ok(true)
@@ -103,5 +109,5 @@ fn read_wrongly(number: u64) -> Result<(), String> {
 
 #[cfg(not(feature = "wrong_readings"))]
 fn read_wrongly(_: u64) -> Result<(), String> {
-    Err("this build has no wrong readings; build with --features wrong_readings".to_string())
+    Err(NO_READINGS.to_string())
 }
