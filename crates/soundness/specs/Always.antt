@@ -4,7 +4,7 @@ use mathlib.Core.Bool.{Bool, false}
 use mathlib.Core.Logic.{_≢_, _⊎_}
 use mathlib.Core.Option.{Option, none, some}
 use mathlib.Core.List.{List, [], _∷_}
-use Prim.Native.Nat.{ℕ, suc, _+_, _≤_, _<_}
+use Prim.Native.Nat.{ℕ, suc, _+_, _*_, _≤_, _<_}
 use lib.Dec.{T}
 use lib.ListN.{length, getD}
 use Rattle.definition.specs.declared.paths.PathKind.{PathKind}
@@ -16,13 +16,13 @@ use Rattle.definition.specs.declared.query.Refusal.{Refusal}
 use Rattle.definition.specs.declared.query.Refusal.the-variants.{ProvisionalCacheFull, CacheConflict, Unreachable}
 use Rattle.definition.specs.Nested.{NestedGoals}
 use Rattle.definition.specs.Part.{Book}
-use Rattle.definition.specs.Evaluate.{computeGoal, newFrame, evaluateGoal}
+use Rattle.definition.specs.Evaluate.{computeGoal, newFrame, evaluateGoal, insertInSlot, insertProvisionalCache}
 use Rattle.definition.specs.Query.{checks, firstFailed, newGraph, evaluateRoot, query}
 use Rattle.definition.specs.Heads.{CycleHeads}
 use Rattle.definition.specs.Stack.{Frame, Stack, stackFind}
 use Rattle.definition.specs.Graph.{Graph, Entry, withStack, Outcome, Done, Stopped, EvaluationResult}
 use Rattle.definition.specs.Task.{TaskOutcome, Evaluated, TaskStopped, evaluateGoalInTask}
-use Rattle.definition.specs.GlobalCache.{CacheData, slotAt, slotHeld, slotDepth, overflowSlot, cacheGet}
+use Rattle.definition.specs.GlobalCache.{CacheData, slotAt, slotFor, slotHeld, slotDepth, overflowSlot, conflicts, cacheGet}
 use Rattle.definition.specs.CacheForm.{cacheLength}
 
 -- ---- the goals on the stack, from its top down
@@ -97,6 +97,11 @@ HeadsOn n e = ((i : ℕ) × HasHead (e .heads) i) × ((i : ℕ) → HasHead (e .
 -- of all refusals only these two: the others of the table come before an evaluation, and no branch that is called unreachable is reached
 abbrev pub Expected : Refusal → Type 0
 Expected r = (r ≡ ProvisionalCacheFull) ⊎ (r ≡ CacheConflict)
+
+-- and each only under its condition: 2 G entries are live already, or the slot holds a different result
+pub record OnlyUnder (h : Header) (g : Graph) (goal : ℕ) (step : PathKind) (x : EvaluationResult) : Type 0 where
+  pub full : (r : Refusal) → insertProvisionalCache h g goal step x ≡ Stopped r → 2 * h .goals ≤ length (g .provisionalCache)
+  pub conflict : (r : Refusal) → insertInSlot h g goal x ≡ Stopped r → T (conflicts (slotAt h (g .globalCache) goal (slotFor x)) (x .result))
 
 -- the stack holds the goals that it held before
 abbrev pub Keeps : Header → Graph → Outcome → Type 0
