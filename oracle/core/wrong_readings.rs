@@ -2,6 +2,7 @@
 //! each behind a switch. `mutant(n)` is true when number n is switched on.
 
 use crate::Edit;
+use crate::apply::edit;
 
 /// The files that are edited, and how visible their modules are.
 pub const FILES: [(&str, &str); 4] =
@@ -81,15 +82,6 @@ pub const READINGS: &[(u32, &str)] = &[
     (189, "a goal line's number is free"),
     (190, "a call of goal G is accepted"),
 ];
-
-const fn edit(
-    file: &'static str,
-    why: &'static str,
-    find: &'static str,
-    put: &'static str,
-) -> Edit {
-    Edit { file, find, put, why }
-}
 
 pub const EDITS: &[Edit] = &[
     // delegate.rs

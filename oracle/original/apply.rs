@@ -8,6 +8,16 @@ pub struct Edit {
     pub why: &'static str,
 }
 
+/// An edit, for the lists of wrong readings.
+pub const fn edit(
+    file: &'static str,
+    why: &'static str,
+    find: &'static str,
+    put: &'static str,
+) -> Edit {
+    Edit { file, find, put, why }
+}
+
 /// The text of `file` with its edits, in order.
 pub fn edited<'a>(file: &str, text: String, edits: impl IntoIterator<Item = &'a Edit>) -> String {
     edits.into_iter().filter(|e| e.file == file).fold(text, |text, edit| apply(edit, &text))

@@ -11,6 +11,7 @@ mod reruns;
 mod values;
 
 use crate::Edit;
+use crate::apply::edit;
 
 pub struct Topic {
     /// Each wrong reading's number, and what it does.
@@ -28,12 +29,3 @@ pub const TOPICS: &[Topic] = &[
     Topic { readings: reruns::READINGS, edits: reruns::EDITS },
     Topic { readings: cache::READINGS, edits: cache::EDITS },
 ];
-
-const fn edit(
-    file: &'static str,
-    why: &'static str,
-    find: &'static str,
-    put: &'static str,
-) -> Edit {
-    Edit { file, find, put, why }
-}
