@@ -11,7 +11,7 @@ use lib.ListN.{length, getD, take, drop, set, length-drop, length-append}
 use lib.Seq.{drop-drop, getD-set-same, getD-set-other}
 use lib.Dec.{ltb}
 use borrow.Author.Tests.{lt-ltb, le-ltb}
-use Rattle.definition.specs.declared.book.Line.{Line}
+use Rattle.definition.specs.declared.format.Line.{Line}
 use Rattle.definition.specs.Part.{Part, partAt}
 use Rattle.definition.specs.Reader.{TakenPart, TakenGoals, readPart, isGoalLine, readGoal, readGoals}
 use Rattle.book.specs.Lines.{lineIn, linesIn}

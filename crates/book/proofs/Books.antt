@@ -8,11 +8,11 @@ use native.Mathlib.Omega.{arith}
 use lib.ListN.{length, drop}
 use lib.Dec.{eqb, leb}
 use borrow.Author.Tests.{leb-true, not-true, not-false}
-use Rattle.definition.specs.declared.book.Line.{Line}
-use Rattle.definition.specs.declared.book.Header.{Header}
-use Rattle.definition.specs.declared.query.Refusal.{Refusal}
+use Rattle.definition.specs.declared.format.Line.{Line}
+use Rattle.definition.specs.declared.format.Header.{Header}
+use Rattle.definition.specs.declared.replies.Refusal.{Refusal}
 use Rattle.definition.specs.Part.{Part, Book}
-use Rattle.definition.specs.declared.query.Refusal.the-variants.{BookLength, BookLine, BookHeader, BookBody}
+use Rattle.definition.specs.declared.replies.Refusal.the-variants.{BookLength, BookLine, BookHeader, BookBody}
 use Rattle.definition.specs.Reader.{TakenGoals, readGoals, endOfBody, readBody, headerInRange, headerOf, readHeader, lengthInRange, linesOf, readBook}
 use Rattle.definition.specs.Reader as reader
 use Rattle.book.specs.declared.BookRead.{BookRead}

@@ -5,7 +5,7 @@ use Prim.Native.Nat.{ℕ, zero, suc, _%_, _≤_, _<_}
 use native.Mathlib.Omega.{arith}
 use lib.Dec.{eqb, leb, ltb}
 use borrow.Author.Tests.{leb-true, le-leb, lt-leb, eq-eqb, ne-eqb}
-use Rattle.definition.specs.declared.book.Line.{Line}
+use Rattle.definition.specs.declared.format.Line.{Line}
 use Rattle.definition.specs.declared.paths.PathKind.the-variants.{ForcedAmbiguity}
 use Rattle.definition.specs.Paths.{kindOf}
 use Rattle.definition.specs.Reader.{headerInRange, headerOf, lengthInRange}

@@ -8,7 +8,7 @@ use native.Mathlib.Omega.{arith}
 use lib.ListN.{length, getD, take, drop, length-drop}
 use lib.Seq.{take-all, getD-take}
 use lib.Dec.{eqb}
-use Rattle.definition.specs.declared.book.Line.{Line}
+use Rattle.definition.specs.declared.format.Line.{Line}
 use Rattle.definition.specs.Line.{isField, fieldValue, fieldAt, lineOf, readLine, readLines}
 use Rattle.definition.specs.Reader.{linesOf}
 use Rattle.book.specs.Lines.{fieldIn, lineIn, linesFrom, linesIn, fieldFits, lineFits, linesFit, allFit, linesIf}

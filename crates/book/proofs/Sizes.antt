@@ -11,7 +11,7 @@ use lib.ListN.{length, getD, take, drop, length-drop}
 use lib.Seq.{drop-drop}
 use lib.Dec.{eqb, leb, ltb}
 use borrow.Author.Tests.{lt-ltb, le-ltb, le-leb, lt-leb, eq-eqb, ne-eqb}
-use Rattle.definition.specs.declared.book.Line.{Line}
+use Rattle.definition.specs.declared.format.Line.{Line}
 use Rattle.definition.specs.Part.{Op, All, Any, Pick, Then}
 use Rattle.definition.specs.Reader.{TakenPart, TakenParts, usesFirst, readParts, nodeOf, readByCode, readFirst, readPart, isGoalLine, readGoal}
 use Rattle.book.specs.declared.grammar.Opened.{Opened}

@@ -9,7 +9,7 @@ use native.Mathlib.Omega.{arith}
 use lib.ListN.{length}
 use lib.Dec.{eqb, leb}
 use borrow.Author.Tests.{le-leb, lt-leb}
-use Rattle.definition.specs.declared.book.Line.{Line}
+use Rattle.definition.specs.declared.format.Line.{Line}
 use Rattle.definition.specs.Paths.{kindOf}
 use Rattle.definition.specs.Part.{Op, All, Any, Pick, Part, Call, Node, UndecidedLine, Then, End}
 use Rattle.definition.specs.Reader.{TakenPart, TakenParts, usesFirst, readParts, nodeOf, readByCode, readFirst, readPart}

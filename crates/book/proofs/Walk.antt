@@ -11,7 +11,7 @@ use native.Mathlib.Decide.{decLt}
 use lib.ListN.{length, getD, take, drop}
 use lib.Dec.{eqb, leb, ltb}
 use borrow.Author.Tests.{ltb-true}
-use Rattle.definition.specs.declared.book.Line.{Line}
+use Rattle.definition.specs.declared.format.Line.{Line}
 use Rattle.definition.specs.Paths.{kindOf}
 use Rattle.definition.specs.Part.{Op, All, Any, Pick, Part, Parts, Call, Node, UndecidedLine, Then, End}
 use Rattle.definition.specs.Reader.{TakenPart, TakenParts, readParts, readByCode, readFirst, readPart}

@@ -1,7 +1,7 @@
 -- A call line.
 use Prim.Native.Nat.{ℕ}
 use lib.Dec.{eqb}
-use Rattle.definition.specs.declared.book.Line.{Line}
+use Rattle.definition.specs.declared.format.Line.{Line}
 use Rattle.definition.specs.Paths.{kindOf}
 use Rattle.book.specs.declared.part.Call.{Call}
 

@@ -5,7 +5,7 @@ use mathlib.Core.Option.{Option, none, some}
 use mathlib.Core.List.{List, [], _∷_}
 use lib.Dec.{eqb, leb, ltb}
 use lib.ListN.{drop}
-use Rattle.definition.specs.declared.book.Line.{Line}
+use Rattle.definition.specs.declared.format.Line.{Line}
 use Rattle.definition.specs.Reader.{TakenPart, TakenParts, usesFirst, readParts}
 use Rattle.book.specs.declared.grammar.Opened.{Opened}
 use Rattle.book.specs.declared.grammar.Opened.the-variants.{Parts, Nothing}

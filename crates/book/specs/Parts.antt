@@ -5,7 +5,7 @@ use mathlib.Core.Bool.{Bool, true, false, _&&_}
 use mathlib.Core.Option.{Option, none, some}
 use mathlib.Core.List.{List, [], _∷_}
 use lib.Dec.{leb}
-use Rattle.definition.specs.declared.book.Line.{Line}
+use Rattle.definition.specs.declared.format.Line.{Line}
 use Rattle.definition.specs.Part.{Part, Parts, UndecidedLine, End}
 use Rattle.definition.specs.Reader.{TakenPart, TakenParts, readPart, readParts, nestingLimit}
 use Rattle.book.specs.Lines.{linesIn}

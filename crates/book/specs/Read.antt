@@ -5,8 +5,8 @@ use mathlib.Core.Bool.{Bool, true, false}
 use mathlib.Core.Option.{Option, none, some}
 use mathlib.Core.List.{List, [], _∷_}
 use lib.ListN.{length, getD, drop}
-use Rattle.definition.specs.declared.book.Line.{Line}
-use Rattle.definition.specs.declared.book.Header.{Header}
+use Rattle.definition.specs.declared.format.Line.{Line}
+use Rattle.definition.specs.declared.format.Header.{Header}
 use Rattle.definition.specs.Part.{Part, Book, partAt}
 use Rattle.definition.specs.Reader.{TakenGoals}
 use Rattle.definition.specs.Reader as reader

@@ -1,6 +1,6 @@
 // The grammar of a book's body.
 use crate::line;
-use definition::book::Line;
+use definition::format::Line;
 ghost use mathlib.Core.Path.{_≡_};
 ghost use mathlib.Core.Bool.{Bool};
 ghost use mathlib.Core.Option.{Option};

@@ -1,6 +1,6 @@
 // A book's first line.
-use definition::book::Header;
-use definition::book::Line;
+use definition::format::Header;
+use definition::format::Line;
 ghost use mathlib.Core.Path.{_≡_};
 ghost use Rattle.definition.specs.Reader.{headerInRange, headerOf};
 

@@ -5,8 +5,8 @@ mod header;
 pub mod line;
 pub mod part;
 
-use definition::book::Header;
-use definition::query::Refusal;
+use definition::format::Header;
+use definition::replies::Refusal;
 ghost use mathlib.Core.Path.{_≡_};
 ghost use Prim.Native.Nat.{_≤_};
 ghost use lib.ListN.{length, drop};

@@ -1,5 +1,5 @@
 // A line of a book: 16 bytes, five fields of three columns and a newline.
-use definition::book::Line;
+use definition::format::Line;
 ghost use mathlib.Core.Path.{_≡_};
 ghost use Prim.Native.Nat.{_+_, _≤_, _<_};
 ghost use lib.ListN.{length};

@@ -1,6 +1,6 @@
 // The parts of a book that was read.
 use crate::line;
-use definition::book::Line;
+use definition::format::Line;
 use definition::paths::PathKind;
 ghost use mathlib.Core.Path.{_≡_};
 ghost use mathlib.Core.Bool.{Bool};

@@ -3,8 +3,8 @@ use Prim.Native.Nat.{ℕ, _<_}
 use mathlib.Core.Path.{_≡_, refl}
 use mathlib.Core.List.{List, [], _∷_, _++_}
 use lib.ListN.{replicate, take, getD}
-use Rattle.definition.specs.declared.query.Refusal.the-variants.{ProvisionalCacheFull, CacheConflict}
-use Rattle.definition.specs.declared.query.Response.the-variants.{Refused}
+use Rattle.definition.specs.declared.replies.Refusal.the-variants.{ProvisionalCacheFull, CacheConflict}
+use Rattle.definition.specs.declared.replies.Response.the-variants.{Refused}
 use Rattle.definition.specs.Usages.{counterLimit}
 use Rattle.definition.specs.Query.{query, workLength}
 use Rattle.definition.proofs.Example.{line, book, Example, Right, replyTo, noExample, each-right, workFor}

@@ -6,10 +6,10 @@ use Rattle.definition.specs.declared.paths.PathKind.{PathKind}
 use Rattle.definition.specs.declared.paths.PathKind.the-variants.{Inductive, Unknown, Coinductive, ForcedAmbiguity}
 use Rattle.definition.specs.declared.answers.Answer.{Answer}
 use Rattle.definition.specs.declared.answers.Answer.the-variants.{No, Yes, Undecided, Overflow}
-use Rattle.definition.specs.declared.query.Refusal.{Refusal}
-use Rattle.definition.specs.declared.query.Refusal.the-variants.{BookLength, BookLine, BookHeader, BookBody, UnknownGoal, DepthAboveTop, CacheLength, CacheForm, WorkLength, ProvisionalCacheFull, CacheConflict, Unreachable}
-use Rattle.definition.specs.declared.query.Response.{Response}
-use Rattle.definition.specs.declared.query.Response.the-variants.{Answered, Refused}
+use Rattle.definition.specs.declared.replies.Refusal.{Refusal}
+use Rattle.definition.specs.declared.replies.Refusal.the-variants.{BookLength, BookLine, BookHeader, BookBody, UnknownGoal, DepthAboveTop, CacheLength, CacheForm, WorkLength, ProvisionalCacheFull, CacheConflict, Unreachable}
+use Rattle.definition.specs.declared.replies.Response.{Response}
+use Rattle.definition.specs.declared.replies.Response.the-variants.{Answered, Refused}
 
 abbrev pub answerNumber : Answer → ℕ
 answerNumber No = 0

@@ -9,8 +9,8 @@ use Rattle.definition.specs.declared.paths.PathKind.{PathKind}
 use Rattle.definition.specs.declared.usages.HeadUsages.{HeadUsages}
 use Rattle.definition.specs.declared.answers.Answer.{Answer}
 use Rattle.definition.specs.declared.answers.Answer.the-variants.{No, Yes, Undecided, Overflow}
-use Rattle.definition.specs.declared.book.Header.{Header}
-use Rattle.definition.specs.declared.query.Refusal.the-variants.{ProvisionalCacheFull, CacheConflict, Unreachable}
+use Rattle.definition.specs.declared.format.Header.{Header}
+use Rattle.definition.specs.declared.replies.Refusal.the-variants.{ProvisionalCacheFull, CacheConflict, Unreachable}
 use Rattle.definition.specs.Usages.{mergeUsages}
 use Rattle.definition.specs.Answers.{combine, sameAnswer}
 use Rattle.definition.specs.Heads.{noHeads, headsEmpty, highestIndex}

@@ -5,7 +5,7 @@ use mathlib.Core.Option.{Option, none, some}
 use mathlib.Core.List.{List}
 use Rattle.definition.specs.declared.paths.PathKind.{PathKind}
 use Rattle.definition.specs.declared.answers.Answer.{Answer}
-use Rattle.definition.specs.declared.query.Refusal.{Refusal}
+use Rattle.definition.specs.declared.replies.Refusal.{Refusal}
 use Rattle.definition.specs.Heads.{CycleHeads}
 use Rattle.definition.specs.Nested.{NestedGoals}
 use Rattle.definition.specs.Stack.{Frame, Stack, requiredDepthOf}

@@ -7,7 +7,7 @@ use lib.Dec.{eqb, ltb}
 use lib.ListN.{getD}
 use Rattle.definition.specs.declared.paths.PathKind.{PathKind}
 use Rattle.definition.specs.declared.answers.Answer.{Answer}
-use Rattle.definition.specs.declared.book.Header.{Header}
+use Rattle.definition.specs.declared.format.Header.{Header}
 use Rattle.definition.specs.Paths.{sameKind, extendWith, containsPath, flagOf}
 use Rattle.definition.specs.Usages.{noUsages, addUsage}
 use Rattle.definition.specs.Answers.{initialProvisionalResult}

@@ -4,7 +4,7 @@ use mathlib.Core.Bool.{Bool}
 use mathlib.Core.Option.{Option, none, some}
 use mathlib.Core.List.{List, [], _∷_}
 use Rattle.definition.specs.declared.paths.PathKind.{PathKind}
-use Rattle.definition.specs.declared.book.Header.{Header}
+use Rattle.definition.specs.declared.format.Header.{Header}
 
 pub data Op : Type 0 where
   All Any Pick : Op

@@ -6,10 +6,10 @@ use mathlib.Core.List.{List, [], _∷_}
 use lib.Dec.{eqb, leb, ltb}
 use lib.ListN.{length, replicate}
 use Rattle.definition.specs.declared.paths.PathKind.the-variants.{Inductive}
-use Rattle.definition.specs.declared.query.Refusal.{Refusal}
-use Rattle.definition.specs.declared.query.Refusal.the-variants.{UnknownGoal, DepthAboveTop, CacheLength, CacheForm, WorkLength}
-use Rattle.definition.specs.declared.query.Response.{Response}
-use Rattle.definition.specs.declared.query.Response.the-variants.{Answered, Refused}
+use Rattle.definition.specs.declared.replies.Refusal.{Refusal}
+use Rattle.definition.specs.declared.replies.Refusal.the-variants.{UnknownGoal, DepthAboveTop, CacheLength, CacheForm, WorkLength}
+use Rattle.definition.specs.declared.replies.Response.{Response}
+use Rattle.definition.specs.declared.replies.Response.the-variants.{Answered, Refused}
 use Rattle.definition.specs.Part.{Book}
 use Rattle.definition.specs.Graph.{Graph, Outcome, Done, Stopped}
 use Rattle.definition.specs.Reader.{BookRead, Accepted, Rejected, readBook}

@@ -10,7 +10,7 @@ use borrow.Author.Tests.{le-leb, lt-leb, eq-eqb, ne-eqb}
 use lib.Bits.{bitOr}
 use lib.Dec.{leb, eqb, eqb·suc-suc}
 use lib.ListN.{length, getD, take, drop}
-use Rattle.definition.specs.declared.book.Header.{Header}
+use Rattle.definition.specs.declared.format.Header.{Header}
 use Rattle.definition.specs.CacheForm.{allAtMost, depthFits, slotFits, slotsFit, goalsFit}
 use Rattle.definition.specs.GlobalCache.{slotAt, slotsPerGoal}
 use Rattle.global_cache.specs.Cache.{headerWith}

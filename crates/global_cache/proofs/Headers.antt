@@ -6,7 +6,7 @@ use mathlib.Core.Option.{Option}
 use Prim.Native.Nat.{ℕ, zero, suc, _+_, _*_}
 use lib.Dec.{eqb, leb}
 use lib.ListN.{getD, drop}
-use Rattle.definition.specs.declared.book.Header.{Header}
+use Rattle.definition.specs.declared.format.Header.{Header}
 use Rattle.definition.specs.Graph.{EvaluationResult}
 use Rattle.definition.specs.GlobalCache.{slotAt, slotStart, writeSlot, slotsPerGoal, cacheInsert}
 use Rattle.definition.specs.CacheForm.{cacheLength, allAtMost, depthFits, slotFits, slotsFit, goalsFit, cacheFits}

@@ -10,8 +10,8 @@ use borrow.Author.Tests.{le-leb, lt-leb, lt-ltb, le-ltb}
 use lib.Dec.{leb}
 use Rattle.definition.specs.declared.paths.PathKind.{PathKind}
 use Rattle.definition.specs.declared.answers.Answer.{Answer}
-use Rattle.definition.specs.declared.book.Header.{Header}
-use Rattle.definition.specs.declared.query.Refusal.the-variants.{ProvisionalCacheFull}
+use Rattle.definition.specs.declared.format.Header.{Header}
+use Rattle.definition.specs.declared.replies.Refusal.the-variants.{ProvisionalCacheFull}
 use Rattle.definition.specs.Graph.{Entry, Outcome, Done, Stopped, withProvisionalCache, EvaluationResult}
 use Rattle.definition.specs.Heads.{highestIndex}
 use Rattle.definition.specs.Stack.{cyclePathKind}

@@ -13,7 +13,7 @@ use Rattle.definition.specs.Heads.{CycleHeads, ignoreAtHead, ignoreAtHeads, usa
 use Rattle.definition.specs.Parent.{handleOverflow, orNoUsages}
 use Rattle.definition.specs.Stack.{Frame, Stack}
 use Rattle.definition.specs.Usages.{mergeUsages, noUsages, subtractCounter, usagesCover}
-use Rattle.definition.specs.declared.book.Header.{Header}
+use Rattle.definition.specs.declared.format.Header.{Header}
 use Rattle.definition.specs.declared.heads.CycleHead.{CycleHead}
 use Rattle.definition.specs.declared.paths.PathKind.{PathKind}
 use Rattle.definition.specs.declared.usages.HeadUsages.{HeadUsages}

@@ -19,9 +19,9 @@ use Rattle.definition.specs.Stack.{Frame, Stack, stackFind}
 use Rattle.definition.specs.Task.{Evaluated, TaskOutcome, TaskStopped, evaluateGoalInTask}
 use Rattle.definition.specs.declared.answers.Answer.{Answer}
 use Rattle.definition.specs.declared.answers.Answer.the-variants.{No, Overflow, Yes}
-use Rattle.definition.specs.declared.book.Header.{Header}
+use Rattle.definition.specs.declared.format.Header.{Header}
 use Rattle.definition.specs.declared.paths.PathKind.{PathKind}
-use Rattle.definition.specs.declared.query.Refusal.the-variants.{CacheConflict, ProvisionalCacheFull, Unreachable}
+use Rattle.definition.specs.declared.replies.Refusal.the-variants.{CacheConflict, ProvisionalCacheFull, Unreachable}
 use Rattle.soundness.specs.Always.{Apart, Distinct, Every, FrameInOrder, FramesInOrder, HasHead, Known, goalsOf}
 use Rattle.soundness.specs.Sets.{holds}
 use Rattle.soundness.proofs.Logic.{clash, inside, nobody, of-false, outside}

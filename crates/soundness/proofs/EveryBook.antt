@@ -18,13 +18,13 @@ use Rattle.definition.specs.Reader.{Accepted, BookRead, Rejected, readBook}
 use Rattle.definition.specs.Stack.{Stack, stackFind}
 use Rattle.definition.specs.Task.{Evaluated, TaskOutcome, TaskStopped, evaluateGoalInTask}
 use Rattle.definition.specs.declared.answers.Answer.{Answer}
-use Rattle.definition.specs.declared.book.Header.{Header}
-use Rattle.definition.specs.declared.book.Line.{Line}
+use Rattle.definition.specs.declared.format.Header.{Header}
+use Rattle.definition.specs.declared.format.Line.{Line}
 use Rattle.definition.specs.declared.paths.PathKind.{PathKind}
 use Rattle.definition.specs.declared.paths.PathKind.the-variants.{Inductive}
-use Rattle.definition.specs.declared.query.Refusal.{Refusal}
-use Rattle.definition.specs.declared.query.Refusal.the-variants.{Unreachable}
-use Rattle.definition.specs.declared.query.Response.the-variants.{Refused}
+use Rattle.definition.specs.declared.replies.Refusal.{Refusal}
+use Rattle.definition.specs.declared.replies.Refusal.the-variants.{Unreachable}
+use Rattle.definition.specs.declared.replies.Response.the-variants.{Refused}
 use Rattle.soundness.specs.Always.{Always, Apart, Distinct, Ends, EntryInOrder, Every, Expected, FinishesFrame, Follows, HasHead, HeadsOn, InOrder, Keeps, Known, NeverUnreachable, goalsOf}
 use Rattle.soundness.specs.Statement.{EveryLine}
 use Rattle.soundness.proofs.Logic.{and-left, and-right, clash, of-true}

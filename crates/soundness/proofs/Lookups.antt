@@ -20,7 +20,7 @@ use Rattle.definition.specs.Paths.{extend, extendAll, flagOf}
 use Rattle.definition.specs.Stack.{Frame, OnStack, Stack, cyclePathKind, cycleStepKinds, stackFind, stepKinds}
 use Rattle.definition.specs.Usages.{addUsage, noUsages, oneUsage}
 use Rattle.definition.specs.declared.answers.Answer.{Answer}
-use Rattle.definition.specs.declared.book.Header.{Header}
+use Rattle.definition.specs.declared.format.Header.{Header}
 use Rattle.definition.specs.declared.heads.CycleHead.{CycleHead}
 use Rattle.definition.specs.declared.paths.PathKind.{PathKind}
 use Rattle.definition.specs.declared.paths.PathKind.the-variants.{Coinductive, ForcedAmbiguity, Inductive, Unknown}

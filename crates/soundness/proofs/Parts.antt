@@ -16,7 +16,7 @@ use Rattle.definition.specs.Usages.{mergeUsages, noUsages}
 use Rattle.definition.specs.declared.answers.Answer.{Answer}
 use Rattle.definition.specs.declared.answers.Answer.the-variants.{No, Undecided, Yes}
 use Rattle.definition.specs.declared.paths.PathKind.{PathKind}
-use Rattle.definition.specs.declared.query.Refusal.the-variants.{Unreachable}
+use Rattle.definition.specs.declared.replies.Refusal.the-variants.{Unreachable}
 use Rattle.definition.specs.declared.usages.HeadUsages.{HeadUsages}
 use Rattle.soundness.specs.Sets.{Goals, _⊆_, everyHolds, holds, someHolds}
 use Rattle.soundness.proofs.Logic.{both, not-and-left, not-and-right, not-or, of-true, or-left, or-right, outside, twice}

@@ -16,10 +16,10 @@ use Rattle.definition.specs.Part.{Book}
 use Rattle.definition.specs.Query.{Check, Reply, checks, evaluateRoot, firstFailed, newGraph, query, queryBook, replyOf, untouched, zeros}
 use Rattle.definition.specs.Reader.{Accepted, BookRead, Rejected, readBook}
 use Rattle.definition.specs.declared.answers.Answer.the-variants.{No, Yes}
-use Rattle.definition.specs.declared.book.Header.{Header}
+use Rattle.definition.specs.declared.format.Header.{Header}
 use Rattle.definition.specs.declared.paths.PathKind.the-variants.{Inductive}
-use Rattle.definition.specs.declared.query.Refusal.{Refusal}
-use Rattle.definition.specs.declared.query.Response.the-variants.{Refused}
+use Rattle.definition.specs.declared.replies.Refusal.{Refusal}
+use Rattle.definition.specs.declared.replies.Response.the-variants.{Refused}
 use Rattle.soundness.specs.Always.{CacheInOrder}
 use Rattle.soundness.specs.Sets.{Goals}
 use Rattle.soundness.specs.Statement.{AllRight, Query, RightReply, replyTo}

@@ -13,11 +13,11 @@ use Rattle.definition.specs.Line.{readLine, readLines}
 use Rattle.definition.specs.Part.{All, Any, Book, Call, Op, Part, Pick, Then, UndecidedLine}
 use Rattle.definition.specs.Paths.{kindOf}
 use Rattle.definition.specs.Reader.{Accepted, BookRead, Rejected, TakenGoals, TakenPart, TakenParts, endOfBody, headerInRange, headerOf, isGoalLine, lengthInRange, linesOf, nestingLimit, nodeOf, readBody, readBook, readByCode, readFirst, readGoal, readGoals, readHeader, readNode, readPart, readParts, readPick, usesFirst}
-use Rattle.definition.specs.declared.book.Header.{Header}
-use Rattle.definition.specs.declared.book.Line.{Line}
+use Rattle.definition.specs.declared.format.Header.{Header}
+use Rattle.definition.specs.declared.format.Line.{Line}
 use Rattle.definition.specs.declared.paths.PathKind.{PathKind}
-use Rattle.definition.specs.declared.query.Refusal.{Refusal}
-use Rattle.definition.specs.declared.query.Refusal.the-variants.{BookBody, BookHeader, BookLength, BookLine, Unreachable}
+use Rattle.definition.specs.declared.replies.Refusal.{Refusal}
+use Rattle.definition.specs.declared.replies.Refusal.the-variants.{BookBody, BookHeader, BookLength, BookLine, Unreachable}
 use Rattle.soundness.specs.Statement.{EveryLine}
 use Rattle.soundness.proofs.Logic.{and-left, and-right, clash, of-true}
 use Rattle.soundness.proofs.World.{AllCalls, BookOk, CallOk, Calls, EveryPart}

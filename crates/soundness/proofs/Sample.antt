@@ -9,7 +9,7 @@ use lib.ListN.{replicate}
 use Rattle.definition.specs.Part.{Book, Call}
 use Rattle.definition.specs.Query.{workLength}
 use Rattle.definition.specs.Usages.{counterLimit}
-use Rattle.definition.specs.declared.book.Line.{Line}
+use Rattle.definition.specs.declared.format.Line.{Line}
 use Rattle.definition.specs.declared.paths.PathKind.{PathKind}
 use Rattle.definition.specs.declared.paths.PathKind.the-variants.{Coinductive, Inductive}
 use Rattle.soundness.specs.Sets.{greatest, least}

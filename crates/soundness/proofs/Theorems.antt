@@ -6,7 +6,7 @@ use Prim.Native.Nat.{ℕ}
 use Rattle.definition.specs.Graph.{EvaluationResult, Graph}
 use Rattle.definition.specs.Part.{Book}
 use Rattle.definition.specs.Reader.{Accepted, readBook}
-use Rattle.definition.specs.declared.book.Header.{Header}
+use Rattle.definition.specs.declared.format.Header.{Header}
 use Rattle.definition.specs.declared.paths.PathKind.{PathKind}
 use Rattle.definition.specs.declared.paths.PathKind.the-variants.{Coinductive, Inductive}
 use Rattle.soundness.specs.Always.{Always, Follows, InOrder, NeverUnreachable, OnlyUnder}

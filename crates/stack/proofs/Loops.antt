@@ -10,7 +10,7 @@ use lib.ListN.{length, getD, take}
 use lib.Dec.{eqb}
 use Rattle.definition.specs.declared.paths.PathKind.{PathKind}
 use Rattle.definition.specs.declared.answers.Answer.{Answer}
-use Rattle.definition.specs.declared.book.Header.{Header}
+use Rattle.definition.specs.declared.format.Header.{Header}
 use Rattle.definition.specs.Paths.{extend, extendAll}
 use Rattle.definition.specs.Nested.{NestedGoals}
 use Rattle.definition.specs.Stack.{Frame, Stack, OnStack, stepKinds, cyclePathKind, stackFind}

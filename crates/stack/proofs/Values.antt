@@ -10,7 +10,7 @@ use borrow.Author.Tests.{eq-eqb, ne-eqb}
 use lib.Dec.{eqb}
 use Rattle.definition.specs.declared.usages.HeadUsages.{HeadUsages}
 use Rattle.definition.specs.declared.answers.Answer.{Answer}
-use Rattle.definition.specs.declared.book.Header.{Header}
+use Rattle.definition.specs.declared.format.Header.{Header}
 use Rattle.definition.specs.Answers.{answerOf}
 use Rattle.definition.specs.Usages.{noUsages}
 use Rattle.definition.specs.Stack.{Frame, Stack}

@@ -12,7 +12,7 @@ ghost use mathlib.Core.Path.{_≡_};
 ghost use mathlib.Core.List.{[], _∷_};
 ghost use Prim.Native.Nat.{ℕ, _+_, _<_};
 ghost use lib.ListN.{length};
-ghost use Rattle.definition.specs.declared.book.Header.{Header};
+ghost use Rattle.definition.specs.declared.format.Header.{Header};
 ghost use Rattle.definition.specs.Paths.{kindNumber};
 ghost use Rattle.definition.specs.Answers.{answerNumber};
 ghost use Rattle.definition.specs.Nested.{insertNested};

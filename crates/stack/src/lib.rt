@@ -8,7 +8,7 @@ use layout::offsets;
 ghost use mathlib.Core.Path.{_≡_};
 ghost use mathlib.Core.List.{_∷_};
 ghost use Prim.Native.Nat.{ℕ, _+_, _<_, _≤_};
-ghost use Rattle.definition.specs.declared.book.Header.{Header};
+ghost use Rattle.definition.specs.declared.format.Header.{Header};
 ghost use Rattle.definition.specs.Stack.{cyclePathKind, stackFind};
 ghost use Rattle.definition.specs.Parent.{handleOverflow};
 ghost use Rattle.definition.specs.Task.{rerunFrame};

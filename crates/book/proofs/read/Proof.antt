@@ -7,7 +7,7 @@ use mathlib.Core.Path.{_≡_, sym, ap, _∙_}
 use Prim.Native.Nat.{ℕ}
 use native.Mathlib.Omega.{arith}
 use lib.ListN.{length}
-use Rattle.definition.specs.declared.book.Header.{Header}
+use Rattle.definition.specs.declared.format.Header.{Header}
 use Rattle.definition.specs.Reader.{linesOf}
 use Rattle.book.specs.Lines.{linesIn, linesIf}
 use Rattle.book.proofs.Tests.{held}

@@ -3,11 +3,11 @@ use Prim.Native.Nat.{_<_}
 use native.Mathlib.Omega.{arith}
 use lib.Dec.{lit<}
 use Rattle.definition.specs.Answers.{refusalNumber}
-use Rattle.definition.specs.declared.query.Refusal.{Refusal}
-use Rattle.definition.specs.declared.query.Refusal.the-variants.{BookLength, BookLine, BookHeader, BookBody, UnknownGoal, DepthAboveTop, CacheLength, CacheForm, WorkLength, ProvisionalCacheFull, CacheConflict, Unreachable}
+use Rattle.definition.specs.declared.replies.Refusal.{Refusal}
+use Rattle.definition.specs.declared.replies.Refusal.the-variants.{BookLength, BookLine, BookHeader, BookBody, UnknownGoal, DepthAboveTop, CacheLength, CacheForm, WorkLength, ProvisionalCacheFull, CacheConflict, Unreachable}
 use borrow.Author.Needs.{needs}
-use Rattle.definition.proofs.query.Response.code.Statement.{statement}
-use Rattle.definition.proofs.query.Response.code.Tie as tie
+use Rattle.definition.proofs.replies.Response.code.Statement.{statement}
+use Rattle.definition.proofs.replies.Response.code.Tie as tie
 
 small : (r : Refusal) → refusalNumber r < 256
 small BookLength = lit< tt
