@@ -11,7 +11,7 @@ use oracle_core::generate::{CLASSES, class_named};
 use oracle_core::recorded;
 use oracle_core::{Limits, Outcome, reply_within, work_len, wrong_readings};
 
-use crate::arguments::Arguments;
+use oracle_core::arguments::Arguments;
 
 pub type Done = Result<bool, String>;
 

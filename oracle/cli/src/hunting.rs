@@ -6,8 +6,8 @@ use oracle_core::case::{Case, read_cases};
 use oracle_core::hunt::{self, Extent, Hunted, Shows};
 use oracle_core::wrong_readings;
 
-use crate::arguments::Arguments;
 use crate::commands::{Done, print_case, read_input, say};
+use oracle_core::arguments::Arguments;
 
 pub fn hunt(mut given: Arguments) -> Done {
     let rounds = given.option("--rounds")?.unwrap_or(200);

@@ -1,13 +1,12 @@
 //! The program `oracle`: queries answered by the original.
 
-mod arguments;
 mod commands;
 #[cfg(feature = "wrong_readings")]
 mod hunting;
 
 use std::process::ExitCode;
 
-use arguments::Arguments;
+use oracle_core::arguments::Arguments;
 
 const HELP: &str = "\
 oracle: document 01's queries, answered by the original search graph

@@ -1,5 +1,6 @@
 //! Document 01's queries, answered by the original.
 
+pub mod arguments;
 pub mod book;
 pub mod case;
 pub mod demand3;
