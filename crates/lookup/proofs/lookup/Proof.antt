@@ -1,46 +1,36 @@
+use mathlib.Core.Path.{refl, _∙_}
+use Rattle.definition.specs.declared.answers.Answer.the-variants as answer
+use Rattle.lookup.proofs.Hits.{known-pushes, depth-allowed, depth-overflow}
 use borrow.Author.Needs.{needs}
 use Rattle.lookup.proofs.lookup.Statement.{statement}
 use Rattle.lookup.proofs.lookup.Tie as tie
-use Rattle.lookup.proofs.lookup.Reads as reads
-use Rattle.lookup.proofs.lookup.Lts as lts
-use Rattle.lookup.proofs.lookup_at_depth.Reads as lookup-at-depth-reads
-use Rattle.stack.proofs.allowed_depth_for_nested.Reads as allowed-depth-for-nested-reads
-use Rattle.stack.proofs.mark_top_overflow.Reads as mark-top-overflow-reads
 
--- src/lib.rt:298:9
 allowed-depth-for-nested-requires : tie.Need-allowed-depth-for-nested-requires
 allowed-depth-for-nested-requires c κs = search needs
 
--- src/lib.rt:299:27
 enum-known-depth : tie.Need-enum-known-depth
 enum-known-depth c = search needs
 
--- src/lib.rt:300:9
 lookup-at-depth-requires : tie.Need-lookup-at-depth-requires
-lookup-at-depth-requires c κs = ?
+lookup-at-depth-requires c κs = let q = c .before .before .before .before .before .before .before .before .pre in let p = c .before .before .depth in record { graph = record { bytes = q .bytes; height = q .height; entries = q .entries }; cache = q .cache; goal = q .goal; available = c .before .before .before .before .allowed-depth-for-nested .ensures .1 (p .given .0 .0) (p .given .1) }
 
--- src/lib.rt:300:9
 same-length : tie.Need-same-length
 same-length c = search needs
 
--- src/lib.rt:300:9
 returns : tie.Need-returns
-returns c = ?
+returns c = let a = c .before .before .before .before .before .before .before .before .before .before .before .args in let p = c .before .before .before .before .before .depth in let y = c .before .before .lookup-at-depth in (λ compute. depth-allowed (a .h) (a .root) (a .height) (a .entries) (a .goal) (a .step) (a .lower) (a .graph .now) (a .cache .now) (c .before .before .before .before .before .before .before .allowed-depth-for-nested .result) (c .before .before .before .before .before .before .before .allowed-depth-for-nested .ensures .0 (a .h) refl) compute (p .given .0 .0) (p .given .1) ∙ y .ensures .0 (a .root) compute, λ d e. y .ensures .1 d e)
 
 enum-told : tie.Need-enum-told
 enum-told c = search needs
 
--- src/lib.rt:302:5
 mark-top-overflow-requires : tie.Need-mark-top-overflow-requires
 mark-top-overflow-requires c κs = search needs
 
--- src/lib.rt:284:1
 same-length-2 : tie.Need-same-length-2
 same-length-2 c = search needs
 
--- src/lib.rt:284:1
 returns-2 : tie.Need-returns-2
-returns-2 c = ?
+returns-2 c = let a = c .before .before .before .before .before .before .before .before .before .before .args in let y = c .before .before .mark-top-overflow in (λ compute. depth-overflow (a .h) (a .root) (a .height) (a .entries) (a .goal) (a .step) (a .lower) (a .graph .now) (a .cache .now) (c .before .before .before .before .before .before .allowed-depth-for-nested .result) (c .before .before .before .before .before .before .allowed-depth-for-nested .ensures .0 (a .h) refl) compute (c .before .before .before .before .enum-told .given .1) (y .last .0) (y .ensures .0) (y .ensures .1), λ d e. known-pushes answer.Overflow d e)
 
 pub lookup-spec : {M : Type 1} → statement M
 lookup-spec =

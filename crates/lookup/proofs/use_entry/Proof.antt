@@ -1,36 +1,26 @@
+use Rattle.provisional_cache.proofs.Entries.{entry-bytes}
+use Rattle.lookup.proofs.Uses.{entry-used}
 use borrow.Author.Needs.{needs}
 use Rattle.lookup.proofs.use_entry.Statement.{statement}
 use Rattle.lookup.proofs.use_entry.Tie as tie
-use Rattle.lookup.proofs.use_entry.Reads as reads
-use Rattle.lookup.proofs.use_entry.Lts as lts
-use Rattle.parent.proofs.update_from_entry.Reads as update-from-entry-reads
-use Rattle.provisional_cache.proofs.entry.encountered_overflow.Reads as encountered-overflow-reads
-use Rattle.provisional_cache.proofs.entry.result.Reads as result-reads
-use Rattle.provisional_cache.proofs.entry_at.Reads as entry-at-reads
 
--- src/lib.rt:56:9
 entry-at-requires : tie.Need-entry-at-requires
 entry-at-requires c κs = search needs
 
--- src/lib.rt:57:9
 encountered-overflow-requires : tie.Need-encountered-overflow-requires
-encountered-overflow-requires c κs = ?
+encountered-overflow-requires c κs = let s = c .before .before .before in entry-bytes (s .args .goals) (s .args .graph .now) (c .entry-at .result .now) (s .args .i) (s .pre .0) (s .pre .1 .1) (c .entry-at .ensures)
 
--- src/lib.rt:58:9
 result-requires : tie.Need-result-requires
-result-requires c κs = ?
+result-requires c κs = let s = c .before .before .before .before in entry-bytes (s .args .goals) (s .args .graph .now) (c .before .entry-at .result .now) (s .args .i) (s .pre .0) (s .pre .1 .1) (c .before .entry-at .ensures)
 
--- src/lib.rt:59:5
 update-from-entry-requires : tie.Need-update-from-entry-requires
 update-from-entry-requires c κs = search needs
 
--- src/lib.rt:45:1
 same-length : tie.Need-same-length
 same-length c = search needs
 
--- src/lib.rt:45:1
 returns : tie.Need-returns
-returns c = ?
+returns c = let a = c .before .before .before .before .before .before .before .before .before .args in let y = c .before .before .update-from-entry in entry-used (a .goals) (a .height) (a .graph .now) (y .last .0) (a .step) (a .available) (y .ensures .1) (a .i) (c .before .before .before .before .before .before .entry-at .result .now) (c .before .before .before .before .before .before .entry-at .ensures) (c .before .before .before .before .before .encountered-overflow .result) (c .before .before .before .before .before .encountered-overflow .ensures) (c .before .before .before .before .result .result) (c .before .before .before .before .result .ensures) (y .ensures .0)
 
 pub use-entry-spec : {M : Type 1} → statement M
 use-entry-spec =
