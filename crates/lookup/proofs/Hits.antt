@@ -30,7 +30,6 @@ use Rattle.provisional_cache.proofs.Outcomes.{found-some, found-none}
 use Rattle.lookup.specs.Lookups.{applicable, hitOf, found}
 use Rattle.lookup.specs.declared.Hit.{Hit}
 use Rattle.lookup.specs.declared.Hit.the-variants.{Result, Nothing}
-use Rattle.lookup.specs.declared.Found.{Found}
 use Rattle.lookup.specs.declared.Found.the-variants.{Known, Push}
 
 -- ---- which variant it is

@@ -1,7 +1,7 @@
 -- What answers the goal changes the parent.
 use mathlib.Core.Path.{_≡_, ap, ap₂, _∙_}
 use mathlib.Core.Bool.{Bool, false}
-use mathlib.Core.Option.{Option, some}
+use mathlib.Core.Option.{some}
 use mathlib.Core.List.{List}
 use Prim.Native.Nat.{ℕ, _-_}
 use Rattle.definition.specs.declared.paths.PathKind.{PathKind}
@@ -12,7 +12,7 @@ use Rattle.definition.specs.Paths.{flagOf}
 use Rattle.definition.specs.Usages.{noUsages, addUsage}
 use Rattle.definition.specs.Heads.{noHeads, insertHead}
 use Rattle.definition.specs.Nested.{NestedGoals}
-use Rattle.definition.specs.Stack.{Stack, cyclePathKind}
+use Rattle.definition.specs.Stack.{cyclePathKind}
 use Rattle.definition.specs.Graph.{Done}
 use Rattle.definition.specs.Parent.{updateParentGoal, Ordinary, CycleOnStack, ProvisionalCacheHit}
 use Rattle.definition.specs.GlobalCache.{slotResult, slotDepth, slotNested, cacheData}
@@ -44,8 +44,8 @@ module _ (h : Header) (height : ℕ) (old new : List ℕ) (step : PathKind) (ava
   slot-used slot nested overflow depth reached answer is-depth is-reached is-nested is-answer stack root n cache =
       let d : reached ≡ available - slotDepth slot = is-reached ∙ ap (λ (k : ℕ). available - k) is-depth in
       let s =
-          stack
-          ∙ ap₂ (λ (ns : NestedGoals) (k : ℕ). updateParentGoal (stackOf (h .goals) height old) step (noHeads (h .goals)) overflow (Ordinary ns) k) is-nested d in
+      stack
+      ∙ ap₂ (λ (ns : NestedGoals) (k : ℕ). updateParentGoal (stackOf (h .goals) height old) step (noHeads (h .goals)) overflow (Ordinary ns) k) is-nested d in
       λ t. some (Done (record { rootDepth = root; stack = s t; provisionalCache = es n t; globalCache = cache }) (is-answer t))
 
   -- ---- `close_cycle`
@@ -56,6 +56,6 @@ module _ (h : Header) (height : ℕ) (old new : List ℕ) (step : PathKind) (ava
       let u : usages ≡ addUsage noUsages (cyclePathKind (stackOf (h .goals) height old) step head) = is-usages ∙ ap₂ addUsage is-zero is-kind in
       let a = is-answer ∙ ap (cycleResult (provisionalOf p)) is-kind in
       let s =
-          stack
-          ∙ ap (λ (x : HeadUsages). updateParentGoal (stackOf (h .goals) height old) step (insertHead (noHeads (h .goals)) head (flagOf step) x) false (CycleOnStack goal) available) u in
+      stack
+      ∙ ap (λ (x : HeadUsages). updateParentGoal (stackOf (h .goals) height old) step (insertHead (noHeads (h .goals)) head (flagOf step) x) false (CycleOnStack goal) available) u in
       λ t. Done (record { rootDepth = root; stack = s t; provisionalCache = es n t; globalCache = cache }) (a t)
