@@ -145,6 +145,9 @@ enter-frame goals bs ys a e long is-a is-e kept clear =
     ∙ ap₂ (λ (k : ℕ) (l : List HeadUsages). withCandidateUsages (frameOf goals b1) (whenSet k l)) one clear
     ∙ ap (λ (f : Frame). withCandidateUsages f (some (noCandidateUsages goals))) (frame-has-candidate goals bs long 1)
 
+pub enter-room : (goals : ℕ) (bs : List ℕ) (e : ℕ) → length bs ≡ frameSize goals → e ≡ nestedStart goals → e ≤ length (set bs 7 1)
+enter-room goals bs e long is-e = let l1 = length-set bs 7 1 in omega arith
+
 pub enter-length : (goals : ℕ) (bs ys : List ℕ) (a e : ℕ) → length bs ≡ frameSize goals → a ≡ candidateStart goals → e ≡ nestedStart goals → length ys ≡ length (part (set bs 7 1) a e)
     → length (returned (set bs 7 1) a e ys) ≡ length bs
 enter-length goals bs ys a e long is-a is-e kept =

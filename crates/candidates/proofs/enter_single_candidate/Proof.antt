@@ -1,47 +1,37 @@
+use mathlib.Core.Option.{some}
+use Rattle.definition.specs.Candidates.{noCandidateUsages}
+use Rattle.stack.proofs.Graph.{part-room}
+use Rattle.candidates.proofs.Parts as parts
 use borrow.Author.Needs.{needs}
 use Rattle.candidates.proofs.enter_single_candidate.Statement.{statement}
 use Rattle.candidates.proofs.enter_single_candidate.Tie as tie
-use Rattle.candidates.proofs.enter_single_candidate.Reads as reads
-use Rattle.candidates.proofs.enter_single_candidate.Lts as lts
-use Rattle.candidates.proofs.frame.enter.Reads as enter-reads
-use Rattle.layout.proofs.offsets.frame_size.Reads as frame-size-reads
-use Rattle.layout.proofs.offsets.frame_start.Reads as frame-start-reads
 
--- src/lib.rt:29:9
 frame-start-requires : tie.Need-frame-start-requires
 frame-start-requires c κs = search needs
 
--- src/lib.rt:30:17
 frame-size-requires : tie.Need-frame-size-requires
 frame-size-requires c κs = search needs
 
--- src/lib.rt:30:13
 add-e : tie.Need-add-e
 add-e c = search needs
 
--- src/lib.rt:31:18
 sub-enter : tie.Need-sub-enter
 sub-enter c = search needs
 
--- src/lib.rt:31:18
 part-enter-start : tie.Need-part-enter-start
 part-enter-start c = search needs
 
--- src/lib.rt:31:18
 part-enter-end : tie.Need-part-enter-end
-part-enter-end c = ?
+part-enter-end c = let s = c .before .before .before in part-room (s .args .goals) (s .args .graph .now) (s .args .own) (c .before .frame-start .result) (c .frame-size .result) (s .pre .0) (s .pre .1) (c .before .frame-start .ensures .0) (c .frame-size .ensures)
 
--- src/lib.rt:31:5
 enter-requires : tie.Need-enter-requires
 enter-requires c κs = search needs
 
--- src/lib.rt:25:1
 same-length : tie.Need-same-length
 same-length c = search needs
 
--- src/lib.rt:25:1
 returns : tie.Need-returns
-returns c = ?
+returns c = let s = c .before .before .before .before .before .before .before in parts.tracked-written (s .args .goals) (s .args .graph .now) (s .args .own) (c .before .before .before .before .before .frame-start .result) (c .before .before .before .before .frame-size .result) (some (noCandidateUsages (s .args .goals))) (s .pre .0) (s .pre .1) (c .before .before .before .before .before .frame-start .ensures .0) (c .before .before .before .before .frame-size .ensures) (c .before .before .enter .last .0) (c .before .before .enter .kept .0) (c .before .before .enter .ensures)
 
 pub enter-single-candidate-spec : {M : Type 1} → statement M
 enter-single-candidate-spec =

@@ -1,67 +1,54 @@
+use Prim.Native.Nat.{_^_, _<_}
+use Rattle.candidates.proofs.Parts as parts
+use Rattle.candidates.proofs.Loops as loops
+use borrow.Author.Needs.{needs}
 use Rattle.candidates.proofs.ignore_at_heads.Statement.{statement}
 use Rattle.candidates.proofs.ignore_at_heads.Tie as tie
-use Rattle.candidates.proofs.ignore_at_heads.Reads as reads
-use Rattle.candidates.proofs.ignore_at_heads.Lts as lts
-use Rattle.bits.proofs.lowest.Reads as lowest-reads
-use Rattle.bits.proofs.without_lowest.Reads as without-lowest-reads
-use Rattle.candidates.proofs.block.mask.Reads as mask-reads
-use Rattle.candidates.proofs.ignore_head.Reads as ignore-head-reads
-use Rattle.candidates.proofs.merged.Reads as merged-reads
-use Rattle.layout.proofs.candidate.usages.Reads as usages-reads
 
 abbrev Inv-loop : tie.InvT-loop
-Inv-loop work₀ goals own left₀ work left = ?
+Inv-loop work₀ goals own left₀ work left = loops.Ignoring goals own work₀ work left
 
 abbrev μ-loop : tie.MeasureT-loop
-μ-loop work₀ goals own left₀ work left = ?
+μ-loop work₀ goals own left₀ work left = left
 
--- src/lib.rt:159:32
+small : (c : tie.After-mask Inv-loop μ-loop) → c .mask .result < 2 ^ 64
+small c = search needs
+
 merged-requires : tie.Need-merged-requires Inv-loop μ-loop
-merged-requires c κs = ?
+merged-requires c κs = search needs
 
--- src/lib.rt:159:9
 mask-requires : tie.Need-mask-requires Inv-loop μ-loop
-mask-requires c κs = ?
+mask-requires c κs = let s = c .before .before .before in parts.merged-bytes (s .args .goals) (s .args .work .now) (s .pre .0) (s .args .own) (s .pre .1) (c .merged .result .now) (c .merged .ensures)
 
--- src/lib.rt:160:5
 loop-holds : tie.Need-loop-holds Inv-loop μ-loop
-loop-holds c = ?
+loop-holds c = let s = c .before .before .before .before in loops.ignore-start (s .args .goals) (s .args .own) (s .pre .1) (s .args .work .now) (s .pre .0) (c .before .merged .result .now) (c .mask .result) (c .before .merged .ensures) (small c) (c .mask .ensures)
 
--- src/lib.rt:161:13
 lowest-requires : tie.Need-lowest-requires Inv-loop μ-loop
-lowest-requires c κs = ?
+lowest-requires c κs = search needs
 
--- src/lib.rt:162:35
 merged-requires-2 : tie.Need-merged-requires-2 Inv-loop μ-loop
-merged-requires-2 c κs = ?
+merged-requires-2 c κs = let s = c .before .before .before .before .before .before .before .before in let l = c .before .before .before .loop in (parts.same-bytes (s .args .goals) (s .args .work .now) (s .pre .0) (l .work) (l .inv .same-length), s .pre .1)
 
--- src/lib.rt:162:13
 usages-requires : tie.Need-usages-requires Inv-loop μ-loop
-usages-requires c κs = ?
+usages-requires c κs = let s = c .before .before .before .before .before .before .before .before .before in let l = c .before .before .before .before .loop in (parts.merged-bytes (s .args .goals) (l .work) (parts.same-bytes (s .args .goals) (s .args .work .now) (s .pre .0) (l .work) (l .inv .same-length)) (s .args .own) (s .pre .1) (c .merged2 .result .now) (c .merged2 .ensures), loops.turn-below (l .left) (c .before .before .lowest .result) (c .before .before .before .loop-test .taken) (l .inv .small) (c .before .before .lowest .ensures) (s .args .goals) (l .inv .below))
 
--- src/lib.rt:163:9
 ignore-head-requires : tie.Need-ignore-head-requires Inv-loop μ-loop
-ignore-head-requires c κs = ?
+ignore-head-requires c κs = let s = c .before .before .before .before .before .before .before .before .before .before .before in let l = c .before .before .before .before .before .before .loop in (parts.same-bytes (s .args .goals) (s .args .work .now) (s .pre .0) (l .work) (l .inv .same-length), (s .pre .1, loops.turn-below (l .left) (c .before .before .before .before .lowest .result) (c .before .before .before .before .before .loop-test .taken) (l .inv .small) (c .before .before .before .before .lowest .ensures) (s .args .goals) (l .inv .below)))
 
--- src/lib.rt:164:9
 without-lowest-requires : tie.Need-without-lowest-requires Inv-loop μ-loop
-without-lowest-requires c κs = ?
+without-lowest-requires c κs = c .before .before .before .before .before .before .before .before .loop-test .taken
 
--- src/lib.rt:160:5
 loop-less : tie.Need-loop-less Inv-loop μ-loop
-loop-less c = ?
+loop-less c = c .without-lowest .ensures .1
 
--- src/lib.rt:160:5
 loop-again : tie.Need-loop-again Inv-loop μ-loop
-loop-again c = ?
+loop-again c = let s = c .before .before .before .before .before .before .before .before .before .before .before .before .before .before .before in let l = c .before .before .before .before .before .before .before .before .before .before .loop in loops.ignore-next (s .args .goals) (s .args .own) (s .pre .1) (s .args .work .now) (s .pre .0) (l .work) (l .left) (l .inv) (parts.same-bytes (s .args .goals) (s .args .work .now) (s .pre .0) (l .work) (l .inv .same-length)) (c .before .before .before .before .before .before .before .before .lowest .result) (c .before .before .before .before .before .before .before .before .before .loop-test .taken) (c .before .before .before .before .before .before .before .before .lowest .ensures) (c .before .before .before .before .before .before .merged2 .result .now) (c .before .before .before .before .before .before .merged2 .ensures) (c .before .before .before .before .before .usages .result) (c .before .before .before .before .before .usages .ensures) (c .before .before .before .ignore-head .last .0) (c .before .before .before .ignore-head .kept .0) (c .before .before .before .ignore-head .ensures) (c .without-lowest .result) (c .without-lowest .ensures .0) (c .without-lowest .ensures .1)
 
--- src/lib.rt:155:1
 same-length : tie.Need-same-length Inv-loop μ-loop
-same-length c = ?
+same-length c = c .before .loop .inv .same-length
 
--- src/lib.rt:155:1
 returns : tie.Need-returns Inv-loop μ-loop
-returns c = ?
+returns c = let s = c .before .before .before .before .before .before in let l = c .before .loop in loops.ignore-done (s .args .goals) (s .args .own) (s .pre .1) (s .args .work .now) (s .pre .0) (l .work) (l .left) (l .inv) (c .loop-test .left)
 
 pub ignore-at-heads-spec : {M : Type 1} → statement M
 ignore-at-heads-spec =

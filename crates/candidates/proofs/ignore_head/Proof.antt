@@ -1,47 +1,35 @@
+use Rattle.candidates.specs.Steps.{ignoreHeadAt}
+use Rattle.candidates.proofs.Parts as parts
 use borrow.Author.Needs.{needs}
 use Rattle.candidates.proofs.ignore_head.Statement.{statement}
 use Rattle.candidates.proofs.ignore_head.Tie as tie
-use Rattle.candidates.proofs.ignore_head.Reads as reads
-use Rattle.candidates.proofs.ignore_head.Lts as lts
-use Rattle.candidates.proofs.frame.ignore_head.Reads as ignore-head-reads
-use Rattle.layout.proofs.offsets.frame_size.Reads as frame-size-reads
-use Rattle.layout.proofs.offsets.frame_start.Reads as frame-start-reads
 
--- src/lib.rt:139:9
 frame-start-requires : tie.Need-frame-start-requires
 frame-start-requires c κs = search needs
 
--- src/lib.rt:140:17
 frame-size-requires : tie.Need-frame-size-requires
 frame-size-requires c κs = search needs
 
--- src/lib.rt:140:13
 add-e : tie.Need-add-e
 add-e c = search needs
 
--- src/lib.rt:141:24
 sub-ignore-head : tie.Need-sub-ignore-head
 sub-ignore-head c = search needs
 
--- src/lib.rt:141:24
 part-ignore-head-start : tie.Need-part-ignore-head-start
 part-ignore-head-start c = search needs
 
--- src/lib.rt:141:24
 part-ignore-head-end : tie.Need-part-ignore-head-end
-part-ignore-head-end c = ?
+part-ignore-head-end c = let s = c .before .before .before in parts.top-room (s .args .goals) (s .args .work .now) (s .pre .0) (s .args .own) (s .pre .1 .0) (c .before .frame-start .result) (c .frame-size .result) (c .before .frame-start .ensures .0) (c .frame-size .ensures)
 
--- src/lib.rt:141:5
 ignore-head-requires : tie.Need-ignore-head-requires
 ignore-head-requires c κs = search needs
 
--- src/lib.rt:135:1
 same-length : tie.Need-same-length
 same-length c = search needs
 
--- src/lib.rt:135:1
 returns : tie.Need-returns
-returns c = ?
+returns c = let s = c .before .before .before .before .before .before .before in parts.frame-written (s .args .goals) (s .args .work .now) (s .pre .0) (s .args .own) (s .pre .1 .0) (c .before .before .before .before .before .frame-start .result) (c .before .before .before .before .frame-size .result) (c .before .before .before .before .before .frame-start .ensures .0) (c .before .before .before .before .frame-size .ensures) (ignoreHeadAt (s .args .i) (s .args .u)) (c .before .before .ignore-head .last .0) (c .before .before .ignore-head .kept .0) (c .before .before .ignore-head .ensures)
 
 pub ignore-head-spec : {M : Type 1} → statement M
 ignore-head-spec =

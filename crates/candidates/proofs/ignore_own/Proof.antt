@@ -1,47 +1,35 @@
+use Rattle.candidates.specs.Steps.{ignoreOwn}
+use Rattle.candidates.proofs.Parts as parts
 use borrow.Author.Needs.{needs}
 use Rattle.candidates.proofs.ignore_own.Statement.{statement}
 use Rattle.candidates.proofs.ignore_own.Tie as tie
-use Rattle.candidates.proofs.ignore_own.Reads as reads
-use Rattle.candidates.proofs.ignore_own.Lts as lts
-use Rattle.candidates.proofs.frame.ignore_own.Reads as ignore-own-reads
-use Rattle.layout.proofs.offsets.frame_size.Reads as frame-size-reads
-use Rattle.layout.proofs.offsets.frame_start.Reads as frame-start-reads
 
--- src/lib.rt:149:9
 frame-start-requires : tie.Need-frame-start-requires
 frame-start-requires c κs = search needs
 
--- src/lib.rt:150:17
 frame-size-requires : tie.Need-frame-size-requires
 frame-size-requires c κs = search needs
 
--- src/lib.rt:150:13
 add-e : tie.Need-add-e
 add-e c = search needs
 
--- src/lib.rt:151:23
 sub-ignore-own : tie.Need-sub-ignore-own
 sub-ignore-own c = search needs
 
--- src/lib.rt:151:23
 part-ignore-own-start : tie.Need-part-ignore-own-start
 part-ignore-own-start c = search needs
 
--- src/lib.rt:151:23
 part-ignore-own-end : tie.Need-part-ignore-own-end
-part-ignore-own-end c = ?
+part-ignore-own-end c = let s = c .before .before .before in parts.top-room (s .args .goals) (s .args .work .now) (s .pre .0) (s .args .own) (s .pre .1) (c .before .frame-start .result) (c .frame-size .result) (c .before .frame-start .ensures .0) (c .frame-size .ensures)
 
--- src/lib.rt:151:5
 ignore-own-requires : tie.Need-ignore-own-requires
 ignore-own-requires c κs = search needs
 
--- src/lib.rt:145:1
 same-length : tie.Need-same-length
 same-length c = search needs
 
--- src/lib.rt:145:1
 returns : tie.Need-returns
-returns c = ?
+returns c = let s = c .before .before .before .before .before .before .before in parts.frame-written (s .args .goals) (s .args .work .now) (s .pre .0) (s .args .own) (s .pre .1) (c .before .before .before .before .before .frame-start .result) (c .before .before .before .before .frame-size .result) (c .before .before .before .before .before .frame-start .ensures .0) (c .before .before .before .before .frame-size .ensures) (ignoreOwn (s .args .u)) (c .before .before .ignore-own .last .0) (c .before .before .ignore-own .kept .0) (c .before .before .ignore-own .ensures)
 
 pub ignore-own-spec : {M : Type 1} → statement M
 ignore-own-spec =

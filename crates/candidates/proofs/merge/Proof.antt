@@ -1,67 +1,54 @@
+use Prim.Native.Nat.{_^_, _<_}
+use Rattle.candidates.proofs.Parts as parts
+use Rattle.candidates.proofs.Loops as loops
+use borrow.Author.Needs.{needs}
 use Rattle.candidates.proofs.merge.Statement.{statement}
 use Rattle.candidates.proofs.merge.Tie as tie
-use Rattle.candidates.proofs.merge.Reads as reads
-use Rattle.candidates.proofs.merge.Lts as lts
-use Rattle.bits.proofs.lowest.Reads as lowest-reads
-use Rattle.bits.proofs.without_lowest.Reads as without-lowest-reads
-use Rattle.candidates.proofs.add_at.Reads as add-at-reads
-use Rattle.candidates.proofs.frame.tracked.Reads as tracked-reads
-use Rattle.candidates.proofs.frame.tracked_mask.Reads as tracked-mask-reads
-use Rattle.candidates.proofs.top.Reads as top-reads
 
 abbrev Inv-loop : tie.InvT-loop
-Inv-loop work₀ goals own left₀ work left = ?
+Inv-loop work₀ goals own left₀ work left = loops.Merging goals own work₀ work left
 
 abbrev μ-loop : tie.MeasureT-loop
-μ-loop work₀ goals own left₀ work left = ?
+μ-loop work₀ goals own left₀ work left = left
 
--- src/lib.rt:92:40
+small : (c : tie.After-tracked-mask Inv-loop μ-loop) → c .tracked-mask .result < 2 ^ 64
+small c = search needs
+
 top-requires : tie.Need-top-requires Inv-loop μ-loop
-top-requires c κs = ?
+top-requires c κs = search needs
 
--- src/lib.rt:92:9
 tracked-mask-requires : tie.Need-tracked-mask-requires Inv-loop μ-loop
-tracked-mask-requires c κs = ?
+tracked-mask-requires c κs = let s = c .before .before .before in parts.top-bytes (s .args .goals) (s .args .work .now) (s .pre .0) (s .args .own) (s .pre .1) (c .top .result .now) (c .top .ensures)
 
--- src/lib.rt:93:5
 loop-holds : tie.Need-loop-holds Inv-loop μ-loop
-loop-holds c = ?
+loop-holds c = let s = c .before .before .before .before in loops.merge-start (s .args .goals) (s .args .own) (s .args .work .now) (c .before .top .result .now) (c .tracked-mask .result) (c .before .top .ensures) (small c) (c .tracked-mask .ensures)
 
--- src/lib.rt:94:13
 lowest-requires : tie.Need-lowest-requires Inv-loop μ-loop
-lowest-requires c κs = ?
+lowest-requires c κs = search needs
 
--- src/lib.rt:95:32
 top-requires-2 : tie.Need-top-requires-2 Inv-loop μ-loop
-top-requires-2 c κs = ?
+top-requires-2 c κs = let s = c .before .before .before .before .before .before .before .before in let l = c .before .before .before .loop in (parts.same-bytes (s .args .goals) (s .args .work .now) (s .pre .0) (l .work) (l .inv .same-length), s .pre .1)
 
--- src/lib.rt:95:13
 tracked-requires : tie.Need-tracked-requires Inv-loop μ-loop
-tracked-requires c κs = ?
+tracked-requires c κs = let s = c .before .before .before .before .before .before .before .before .before in let l = c .before .before .before .before .loop in (parts.top-bytes (s .args .goals) (l .work) (parts.same-bytes (s .args .goals) (s .args .work .now) (s .pre .0) (l .work) (l .inv .same-length)) (s .args .own) (s .pre .1) (c .top2 .result .now) (c .top2 .ensures), loops.turn-below (l .left) (c .before .before .lowest .result) (c .before .before .before .loop-test .taken) (l .inv .small) (c .before .before .lowest .ensures) (s .args .goals) (l .inv .below))
 
--- src/lib.rt:96:9
 add-at-requires : tie.Need-add-at-requires Inv-loop μ-loop
-add-at-requires c κs = ?
+add-at-requires c κs = let s = c .before .before .before .before .before .before .before .before .before .before .before in let l = c .before .before .before .before .before .before .loop in (parts.same-bytes (s .args .goals) (s .args .work .now) (s .pre .0) (l .work) (l .inv .same-length), (s .pre .1, loops.turn-below (l .left) (c .before .before .before .before .lowest .result) (c .before .before .before .before .before .loop-test .taken) (l .inv .small) (c .before .before .before .before .lowest .ensures) (s .args .goals) (l .inv .below)))
 
--- src/lib.rt:97:9
 without-lowest-requires : tie.Need-without-lowest-requires Inv-loop μ-loop
-without-lowest-requires c κs = ?
+without-lowest-requires c κs = c .before .before .before .before .before .before .before .before .loop-test .taken
 
--- src/lib.rt:93:5
 loop-less : tie.Need-loop-less Inv-loop μ-loop
-loop-less c = ?
+loop-less c = c .without-lowest .ensures .1
 
--- src/lib.rt:93:5
 loop-again : tie.Need-loop-again Inv-loop μ-loop
-loop-again c = ?
+loop-again c = let s = c .before .before .before .before .before .before .before .before .before .before .before .before .before .before .before in let l = c .before .before .before .before .before .before .before .before .before .before .loop in loops.merge-next (s .args .goals) (s .args .own) (s .args .work .now) (l .work) (l .left) (l .inv) (c .before .before .before .before .before .before .before .before .lowest .result) (c .before .before .before .before .before .before .before .before .before .loop-test .taken) (c .before .before .before .before .before .before .before .before .lowest .ensures) (c .before .before .before .before .before .before .top2 .result .now) (c .before .before .before .before .before .before .top2 .ensures) (c .before .before .before .before .before .tracked .result) (c .before .before .before .before .before .tracked .ensures) (c .before .before .before .add-at .last .0) (c .before .before .before .add-at .kept .0) (c .before .before .before .add-at .ensures) (c .without-lowest .result) (c .without-lowest .ensures .0) (c .without-lowest .ensures .1)
 
--- src/lib.rt:88:1
 same-length : tie.Need-same-length Inv-loop μ-loop
-same-length c = ?
+same-length c = c .before .loop .inv .same-length
 
--- src/lib.rt:88:1
 returns : tie.Need-returns Inv-loop μ-loop
-returns c = ?
+returns c = let s = c .before .before .before .before .before .before in let l = c .before .loop in loops.merge-done (s .args .goals) (s .args .own) (s .args .work .now) (l .work) (l .left) (l .inv) (c .loop-test .left)
 
 pub merge-spec : {M : Type 1} → statement M
 merge-spec =

@@ -1,38 +1,28 @@
+use Rattle.candidates.proofs.Parts as parts
 use borrow.Author.Needs.{needs}
 use Rattle.candidates.proofs.merged.Statement.{statement}
 use Rattle.candidates.proofs.merged.Tie as tie
-use Rattle.candidates.proofs.merged.Reads as reads
-use Rattle.candidates.proofs.merged.Lts as lts
-use Rattle.layout.proofs.offsets.block_size.Reads as block-size-reads
-use Rattle.layout.proofs.offsets.merged_start.Reads as merged-start-reads
 
--- src/lib.rt:60:9
 merged-start-requires : tie.Need-merged-start-requires
 merged-start-requires c κs = search needs
 
--- src/lib.rt:61:17
 block-size-requires : tie.Need-block-size-requires
 block-size-requires c κs = search needs
 
--- src/lib.rt:61:13
 add-e : tie.Need-add-e
 add-e c = search needs
 
--- src/lib.rt:62:5
 sub-result : tie.Need-sub-result
 sub-result c = search needs
 
--- src/lib.rt:62:5
 part-result-start : tie.Need-part-result-start
 part-result-start c = search needs
 
--- src/lib.rt:62:5
 part-result-end : tie.Need-part-result-end
-part-result-end c = ?
+part-result-end c = let s = c .before .before .before in parts.merged-room (s .args .goals) (s .args .work .now) (s .pre .0) (s .args .own) (s .pre .1) (c .before .merged-start .result) (c .block-size .result) (c .before .merged-start .ensures .0) (c .block-size .ensures)
 
--- src/lib.rt:56:1
 returns : tie.Need-returns
-returns c = ?
+returns c = let s = c .before .before .before .before in parts.merged-part (s .args .goals) (s .args .work .now) (s .pre .0) (s .args .own) (s .pre .1) (c .before .before .merged-start .result) (c .before .block-size .result) (c .before .before .merged-start .ensures .0) (c .before .block-size .ensures)
 
 pub merged-spec : {M : Type 1} → statement M
 merged-spec =

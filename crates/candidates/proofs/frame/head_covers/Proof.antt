@@ -1,27 +1,19 @@
+use Rattle.candidates.proofs.Fields as fields
 use borrow.Author.Needs.{needs}
 use Rattle.candidates.proofs.frame.head_covers.Statement.{statement}
 use Rattle.candidates.proofs.frame.head_covers.Tie as tie
-use Rattle.candidates.proofs.frame.head_covers.Reads as reads
-use Rattle.candidates.proofs.frame.head_covers.Lts as lts
-use Rattle.candidates.proofs.frame.head_block.Reads as head-block-reads
-use Rattle.definition.proofs.usages.HeadUsages.covers.Reads as covers-reads
-use Rattle.layout.proofs.heads.usages.Reads as usages-reads
 
--- src/frame.rt:88:32
 head-block-requires : tie.Need-head-block-requires
 head-block-requires c κs = search needs
 
--- src/frame.rt:88:9
 usages-requires : tie.Need-usages-requires
-usages-requires c κs = ?
+usages-requires c κs = let s = c .before .before in (fields.heads-block (s .args .goals) (s .args .f .now) (c .head-block .result .now) (s .pre .0) (c .head-block .ensures), s .pre .1)
 
--- src/frame.rt:89:5
 covers-requires : tie.Need-covers-requires
 covers-requires c κs = search needs
 
--- src/frame.rt:84:1
 returns : tie.Need-returns
-returns c = ?
+returns c = let a = c .before .before .before .before .args in fields.covers-head (a .goals) (a .f .now) (c .before .before .head-block .result .now) (a .i) (a .u) (c .before .usages .result) (c .covers .result) (c .before .before .head-block .ensures) (c .before .usages .ensures) (c .covers .ensures)
 
 pub head-covers-spec : {M : Type 1} → statement M
 head-covers-spec = tie.close (tie.spec head-block-requires usages-requires covers-requires returns)

@@ -1,36 +1,26 @@
+use borrow.Author.Tests.{not-true, not-false}
+use Rattle.candidates.proofs.Fields as fields
 use borrow.Author.Needs.{needs}
 use Rattle.candidates.proofs.frame.tracked.Statement.{statement}
 use Rattle.candidates.proofs.frame.tracked.Tie as tie
-use Rattle.candidates.proofs.frame.tracked.Reads as reads
-use Rattle.candidates.proofs.frame.tracked.Lts as lts
-use Rattle.candidates.proofs.frame.candidate_block.Reads as candidate-block-reads
-use Rattle.definition.proofs.usages.HeadUsages.none.Reads as none-reads
-use Rattle.layout.proofs.candidate.usages.Reads as usages-reads
-use Rattle.stack.proofs.frame.tracks.Reads as tracks-reads
 
--- src/frame.rt:77:9
 tracks-requires : tie.Need-tracks-requires
 tracks-requires c κs = search needs
 
--- src/frame.rt:78:9
 none-requires : tie.Need-none-requires
 none-requires c κs = search needs
 
--- src/frame.rt:78:9
 returns : tie.Need-returns
-returns c = ?
+returns c = let s = c .before .before .before .before in fields.tracked-none (s .args .goals) (s .args .f .now) (c .before .before .tracks .result) (c .before .before .tracks .ensures) (not-true (c .before .before .tracks .result) (c .before .if1 .taken)) (s .args .i) (c .none .result) (c .none .ensures)
 
--- src/frame.rt:80:23
 candidate-block-requires : tie.Need-candidate-block-requires
 candidate-block-requires c κs = search needs
 
--- src/frame.rt:80:5
 usages-requires : tie.Need-usages-requires
-usages-requires c κs = ?
+usages-requires c κs = let s = c .before .before .before .before in ((fields.candidate-block (s .args .goals) (s .args .f .now) (c .candidate-block .result .now) (s .pre .0) (c .candidate-block .ensures)), s .pre .1)
 
--- src/frame.rt:73:1
 returns-2 : tie.Need-returns-2
-returns-2 c = ?
+returns-2 c = let s = c .before .before .before .before .before in fields.tracked-some (s .args .goals) (s .args .f .now) (c .before .before .before .tracks .result) (c .before .before .before .tracks .ensures) (not-false (c .before .before .before .tracks .result) (c .before .before .if1 .left)) (c .before .candidate-block .result .now) (c .before .candidate-block .ensures) (s .args .i) (c .usages .result) (c .usages .ensures)
 
 pub tracked-spec : {M : Type 1} → statement M
 tracked-spec =

@@ -1,32 +1,30 @@
+use borrow.Author.Tests.{not-true, not-false}
+use Rattle.candidates.proofs.Fields as fields
 use borrow.Author.Needs.{needs}
 use Rattle.candidates.proofs.frame.tracked_mask.Statement.{statement}
 use Rattle.candidates.proofs.frame.tracked_mask.Tie as tie
-use Rattle.candidates.proofs.frame.tracked_mask.Reads as reads
-use Rattle.candidates.proofs.frame.tracked_mask.Lts as lts
-use Rattle.candidates.proofs.block.mask.Reads as mask-reads
-use Rattle.candidates.proofs.frame.candidate_block.Reads as candidate-block-reads
-use Rattle.stack.proofs.frame.tracks.Reads as tracks-reads
 
--- src/frame.rt:66:9
 tracks-requires : tie.Need-tracks-requires
 tracks-requires c κs = search needs
 
--- src/frame.rt:67:9
 returns : tie.Need-returns
-returns c = ?
+returns c = let s = c .before .before .before in fields.names-none (s .args .goals) (s .args .f .now) (c .before .tracks .result) (c .before .tracks .ensures) (s .pre .few) (not-true (c .before .tracks .result) (c .if1 .taken))
 
--- src/frame.rt:69:17
 candidate-block-requires : tie.Need-candidate-block-requires
 candidate-block-requires c κs = search needs
 
--- src/frame.rt:69:5
 mask-requires : tie.Need-mask-requires
-mask-requires c κs = ?
+mask-requires c κs = let s = c .before .before .before .before in fields.candidate-block (s .args .goals) (s .args .f .now) (c .candidate-block .result .now) (s .pre) (c .candidate-block .ensures)
 
--- src/frame.rt:62:1
 returns-2 : tie.Need-returns-2
-returns-2 c = ?
+returns-2 c = let s = c .before .before .before .before .before in fields.names-some (s .args .goals) (s .args .f .now) (c .before .before .before .tracks .result) (c .before .before .before .tracks .ensures) (not-false (c .before .before .before .tracks .result) (c .before .before .if1 .left)) (c .before .candidate-block .result .now) (c .mask .result) (c .before .candidate-block .ensures) (c .mask .ensures)
 
 pub tracked-mask-spec : {M : Type 1} → statement M
 tracked-mask-spec =
-    tie.close (tie.spec tracks-requires returns candidate-block-requires mask-requires returns-2)
+    tie.close
+    (tie.spec
+    tracks-requires
+    returns
+    candidate-block-requires
+    mask-requires
+    returns-2)
