@@ -5,8 +5,7 @@ use mathlib.Core.Option.{Option, none, some}
 use mathlib.Core.List.{List, [], _∷_, _++_}
 use Prim.Native.Nat.{ℕ, zero, suc, _+_, _*_, _-_, _≤_, _<_}
 use native.Mathlib.Omega.{arith}
-use lib.ListN.{length, getD, set, take, replicate, length-set}
-use lib.Seq.{getD-set-same}
+use lib.ListN.{length, getD, set, take, replicate}
 use Rattle.definition.specs.declared.usages.HeadUsages.{HeadUsages}
 use Rattle.definition.specs.declared.heads.CycleHead.{CycleHead}
 use Rattle.definition.specs.Usages.{noUsages, addUsages, ignoreUsages, usagesCover}
@@ -18,7 +17,7 @@ use Rattle.bits.specs.Masks.{flags}
 use Rattle.bits.proofs.Flags.{length-flags, flags-zero}
 use Rattle.buffer.specs.Numbers.{numberOf}
 use Rattle.buffer.specs.Regions.{region, overwrite}
-use Rattle.buffer.proofs.Regions.{length-region}
+use Rattle.buffer.proofs.Regions.{length-region, length-overwrite, region-same}
 use Rattle.layout.specs.Blocks.{usagesSize, usagesOf, flagAt, headOf, headsSize, headsOf, blockSize, usagesIn, candidateOf, HeadsBlock, UsagesBlock, present}
 use Rattle.layout.specs.Frame.{candidateStart, nestedStart, headsStart, frameSize, whenSet, frameOf}
 use Rattle.layout.proofs.Blocks.{kept-clear}
@@ -26,9 +25,9 @@ use Rattle.layout.proofs.Present.{head-known, head-unknown}
 use Rattle.layout.proofs.Frames.{frame-has-candidate, frame-usages, frame-heads, frame-candidate, withHeads, withOwnUsages, withCandidateUsages}
 use Rattle.stack.specs.Bytes.{FrameBytes}
 use Rattle.stack.specs.Results.{isSome}
-use Rattle.stack.proofs.Parts.{part, returned, part-length, part-back, returned-length}
+use Rattle.stack.proofs.Parts.{part, returned, part-length, part-back}
 use Rattle.candidates.specs.Steps.{Names, keep, trackedOf, addAt, ignoreAt, withTracked, ignoreHeadAt, ignoreOwn}
-use Rattle.candidates.proofs.Kept.{false-true, keep-up, keep-no-usages, no-usages-at, no-flag, below-only, ignore-nothing}
+use Rattle.candidates.proofs.Kept.{false-true, keep-up, keep-no-usages, no-usages-at, no-flag, below-only}
 
 -- ---- a block of usages
 pub mask-names : (goals : ℕ) (bs : List ℕ) (n m : ℕ) → goals ≤ 64 → n ≡ numberOf (region 0 8 bs) → flags 64 m ≡ take goals (flags 64 n) ++ replicate (64 - goals) false → Names goals m (candidateOf goals bs)
@@ -38,8 +37,8 @@ mask-names goals bs n m few is-n is-m =
     let e : flags 64 m ≡ take goals xs ++ replicate (64 - goals) false = is-m ∙ ap (λ (k : ℕ). take goals (flags 64 k) ++ replicate (64 - goals) false) is-n in
     record {
       all =
-        ap (λ (l : List Bool). keep l (candidateOf goals bs)) e
-        ∙ keep-up (usagesIn bs) goals xs (64 - goals) (rw length-flags few) (λ i l c. kept-clear usagesOf noUsages usagesSize bs i c);
+          ap (λ (l : List Bool). keep l (candidateOf goals bs)) e
+          ∙ keep-up (usagesIn bs) goals xs (64 - goals) (rw length-flags few) (λ i l c. kept-clear usagesOf noUsages usagesSize bs i c);
       below = λ i h. below-only goals xs (64 - goals) i (ap (λ (l : List Bool). getD l i false) (sym e) ∙ h);
     }
 
@@ -133,26 +132,16 @@ covers-head goals bs r i u v t is-r is-v is-t = is-t ∙ ap (λ (x : HeadUsages)
 
 -- ---- `enter`, `finish`
 pub enter-frame : (goals : ℕ) (bs ys : List ℕ) (a e : ℕ) → length bs ≡ frameSize goals → a ≡ candidateStart goals → e ≡ nestedStart goals
-    → length ys ≡ length (part (set bs 7 1) a e) → candidateOf goals ys ≡ noCandidateUsages goals
-    → frameOf goals (returned (set bs 7 1) a e ys) ≡ withTracked (some (noCandidateUsages goals)) (frameOf goals bs)
+    → length ys ≡ length (part bs a e) → candidateOf goals ys ≡ noCandidateUsages goals
+    → frameOf goals (set (returned bs a e ys) 7 1) ≡ withTracked (some (noCandidateUsages goals)) (frameOf goals bs)
 enter-frame goals bs ys a e long is-a is-e kept clear =
-    let b1 : List ℕ = set bs 7 1 in
-    let l1 : length b1 ≡ frameSize goals = length-set bs 7 1 ∙ long in
-    let n : length ys ≡ blockSize goals = omega (arith, part-length b1 a e ys (omega arith) (omega arith) kept) in
-    let one : getD b1 7 0 ≡ 1 = getD-set-same bs 7 1 0 (omega arith) in
-    ap (frameOf goals) (part-back b1 a e ys (omega arith) (omega arith) kept ∙ ap (λ (k : ℕ). overwrite b1 k ys) is-a)
-    ∙ frame-candidate goals b1 l1 ys n
-    ∙ ap₂ (λ (k : ℕ) (l : List HeadUsages). withCandidateUsages (frameOf goals b1) (whenSet k l)) one clear
-    ∙ ap (λ (f : Frame). withCandidateUsages f (some (noCandidateUsages goals))) (frame-has-candidate goals bs long 1)
-
-pub enter-room : (goals : ℕ) (bs : List ℕ) (e : ℕ) → length bs ≡ frameSize goals → e ≡ nestedStart goals → e ≤ length (set bs 7 1)
-enter-room goals bs e long is-e = let l1 = length-set bs 7 1 in omega arith
-
-pub enter-length : (goals : ℕ) (bs ys : List ℕ) (a e : ℕ) → length bs ≡ frameSize goals → a ≡ candidateStart goals → e ≡ nestedStart goals → length ys ≡ length (part (set bs 7 1) a e)
-    → length (returned (set bs 7 1) a e ys) ≡ length bs
-enter-length goals bs ys a e long is-a is-e kept =
-    let l1 = length-set bs 7 1 in
-    returned-length (set bs 7 1) a e ys (omega arith) (omega arith) kept ∙ l1
+    let n : length ys ≡ blockSize goals = omega (arith, part-length bs a e ys (omega arith) (omega arith) kept) in
+    let o : List ℕ = overwrite bs (candidateStart goals) ys in
+    let lo : length o ≡ frameSize goals = length-overwrite bs (candidateStart goals) ys (omega arith) ∙ long in
+    let there : region (candidateStart goals) (blockSize goals) o ≡ ys = ap (λ (m : ℕ). region (candidateStart goals) m o) (sym n) ∙ region-same bs (candidateStart goals) ys (omega arith) in
+    ap (λ (l : List ℕ). frameOf goals (set l 7 1)) (part-back bs a e ys (omega arith) (omega arith) kept ∙ ap (λ (k : ℕ). overwrite bs k ys) is-a)
+    ∙ frame-has-candidate goals o lo 1
+    ∙ ap₂ (λ (f : Frame) (us : List HeadUsages). withCandidateUsages f (some us)) (frame-candidate goals bs long ys n) (ap (candidateOf goals) there ∙ clear)
 
 pub finish-frame : (goals : ℕ) (bs : List ℕ) → length bs ≡ frameSize goals → frameOf goals (set bs 7 0) ≡ withTracked none (frameOf goals bs)
 finish-frame goals bs long = frame-has-candidate goals bs long 0

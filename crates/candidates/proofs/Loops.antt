@@ -1,8 +1,8 @@
 -- The loops over the indices that a mask names: what is left, and what is done, make the whole.
 use mathlib.Core.Path.{_≡_, refl, sym, ap, ap₂, _∙_, subst}
 use mathlib.Core.Bool.{Bool, true, false, _&&_}
-use mathlib.Core.List.{List, [], _∷_, _++_}
-use Prim.Native.Nat.{ℕ, suc, _+_, _*_, _-_, _^_, _≤_, _<_}
+use mathlib.Core.List.{List, _∷_, _++_}
+use Prim.Native.Nat.{ℕ, _+_, _-_, _^_, _≤_, _<_}
 use native.Mathlib.Omega.{arith}
 use lib.ListN.{length, getD, set, take, replicate}
 use Rattle.definition.specs.declared.usages.HeadUsages.{HeadUsages}
@@ -20,7 +20,7 @@ use Rattle.layout.specs.Blocks.{candidateOf}
 use Rattle.layout.proofs.Graphs.{length-stack}
 use Rattle.stack.specs.Bytes.{frameAt}
 use Rattle.evaluation.specs.Workspace.{WorkBytes, graphIn}
-use Rattle.candidates.specs.Steps.{keep, Names, trackedOf, addAt, ignoreAt, ignoreHeadAt, ignoreHeads, ignoreOwn}
+use Rattle.candidates.specs.Steps.{keep, Names, trackedOf, addAt, ignoreHeadAt, ignoreHeads, ignoreOwn}
 use Rattle.candidates.specs.Written.{mergedBytes, topBytes, topOf, MergedWritten, FrameWritten}
 use Rattle.candidates.proofs.Kept.{keep-get, keep-at, keep-set, kept-none, below-only, below-same, first-set, still-set, merge-none, merge-one, ignore-none, ignore-one, cover-same, cover-one, cover-none, cover-fails}
 use Rattle.candidates.proofs.Parts.{stack-top, merged-is, frame-now, frame-again, frame-same, frame-kept}
@@ -96,18 +96,18 @@ module _ (goals own : ℕ) (old : List ℕ) where
           below = turn-still left i pos (inv .small) is left′ is-left goals (inv .below);
           written = record { written = refl; others = λ j l. w .others j l ∙ inv .written .others j l; graph = w .graph ∙ graph };
           rest =
-            ap₂ mergeUsages (w .written) (turn-rest left i pos (inv .small) is left′ is-left vs)
-            ∙ merge-one (mergedOf goals own now) (keep (flags 64 left) vs) i u at
-            ∙ inv .rest;
+              ap₂ mergeUsages (w .written) (turn-rest left i pos (inv .small) is left′ is-left vs)
+              ∙ merge-one (mergedOf goals own now) (keep (flags 64 left) vs) i u at
+              ∙ inv .rest;
         }
 
     pub merge-done : left ≤ 0 → MergedWritten goals own (mergeUsages (mergedOf goals own old) (candidateUsagesOf goals (stackOf goals (own + 1) (graphIn goals old)))) old now
     merge-done h =
         record {
           written =
-            sym (merge-none (mergedOf goals own now) (keep (flags 64 left) (trackedOf goals (topOf goals own old))) (none-left left h (trackedOf goals (topOf goals own old))))
-            ∙ inv .rest
-            ∙ sym (ap (λ (s : Stack). mergeUsages (mergedOf goals own old) (candidateUsagesOf goals s)) (stack-top goals own (graphIn goals old)));
+              sym (merge-none (mergedOf goals own now) (keep (flags 64 left) (trackedOf goals (topOf goals own old))) (none-left left h (trackedOf goals (topOf goals own old))))
+              ∙ inv .rest
+              ∙ sym (ap (λ (s : Stack). mergeUsages (mergedOf goals own old) (candidateUsagesOf goals s)) (stack-top goals own (graphIn goals old)));
           others = inv .written .others;
           graph = inv .written .graph;
         }
@@ -146,9 +146,9 @@ module _ (own : ℕ) (hs : CycleHeads) (us : List HeadUsages) where
             small = less left′ left (2 ^ 64) lt (inv .small);
             below = turn-still left i pos (inv .small) is left′ is-left own (inv .below);
             rest =
-              ap (headsCover own hs) (turn-rest left i pos (inv .small) is left′ is-left us)
-              ∙ cover-one own hs (keep (flags 64 left) us) i covered
-              ∙ inv .rest;
+                ap (headsCover own hs) (turn-rest left i pos (inv .small) is left′ is-left us)
+                ∙ cover-one own hs (keep (flags 64 left) us) i covered
+                ∙ inv .rest;
           }
 
       pub cover-stops : t ≡ false → false ≡ headsCover own hs us
@@ -225,9 +225,9 @@ module _ (goals own : ℕ) (lt : own < goals) (old : List ℕ) (bytes : WorkByte
           below = turn-still left i pos (inv .small) is left′ is-left goals (inv .below);
           written = frame-same goals own g old new (frame-again goals own f old now (inv .written) g new w) (topOf goals own new) (sym top-new);
           rest =
-            ap₂ ignoreHeads (turn-rest left i pos (inv .small) is left′ is-left us) top-new
-            ∙ ap (withThose f) (ignore-one (f .heads) (keep (flags 64 left) us) i u at)
-            ∙ inv .rest;
+              ap₂ ignoreHeads (turn-rest left i pos (inv .small) is left′ is-left us) top-new
+              ∙ ap (withThose f) (ignore-one (f .heads) (keep (flags 64 left) us) i u at)
+              ∙ inv .rest;
         }
 
     pub ignore-done : left ≤ 0 → FrameWritten goals own (ignoreHeads (mergedOf goals own old) (topOf goals own old)) old now
@@ -248,11 +248,10 @@ ignored goals own old mid new b u lt ok w is-b is-u v =
     let f : Frame = topOf goals own old in
     let fs : Stack = stackOf goals own (graphIn goals old) in
     let at : u ≡ getD us own noUsages = is-u ∙ ap (λ (l : List HeadUsages). getD l own noUsages) (merged-is goals mid ok own lt b is-b ∙ w .merged own lt) in
-    let a = frame-again goals own (ignoreHeads us f) old mid w (ignoreOwn u (topOf goals own mid)) new v in
-    (
+    let a = frame-again goals own (ignoreHeads us f) old mid w (ignoreOwn u (topOf goals own mid)) new v in (
       a .stack
-      ∙ ap₂ (λ (g : Frame) (x : HeadUsages). ignoreOwn x g ∷ fs) (frame-now goals own (ignoreHeads us f) old mid w) at
-      ∙ ap (λ (n : ℕ). withUsages f (ignoreAtHeads (f .heads) us) (ignoreOwnUsages (f .usages) (getD us n noUsages)) (f .candidateUsages) ∷ fs) (sym (length-stack goals own (graphIn goals old)))
-      ∙ sym (ap (ignoreOnTop us) (stack-top goals own (graphIn goals old))),
-      (a .entries, a .merged)
+          ∙ ap₂ (λ (g : Frame) (x : HeadUsages). ignoreOwn x g ∷ fs) (frame-now goals own (ignoreHeads us f) old mid w) at
+          ∙ ap (λ (n : ℕ). withUsages f (ignoreAtHeads (f .heads) us) (ignoreOwnUsages (f .usages) (getD us n noUsages)) (f .candidateUsages) ∷ fs) (sym (length-stack goals own (graphIn goals old)))
+          ∙ sym (ap (ignoreOnTop us) (stack-top goals own (graphIn goals old))),
+      (a .entries, a .merged),
     )

@@ -1,8 +1,8 @@
 -- The parts of the workspace: the frame at index `own`, and its merged usages; lent, and back.
-use mathlib.Core.Path.{_≡_, refl, sym, ap, ap₂, _∙_, subst}
-use mathlib.Core.List.{List, [], _∷_}
+use mathlib.Core.Path.{_≡_, refl, sym, ap, ap₂, _∙_}
+use mathlib.Core.List.{List, _∷_}
 use mathlib.Core.Option.{Option}
-use Prim.Native.Nat.{ℕ, suc, _+_, _*_, _-_, _≤_, _<_}
+use Prim.Native.Nat.{ℕ, _+_, _*_, _-_, _≤_, _<_}
 use native.Mathlib.Nat.{zero-add}
 use native.Mathlib.Numerals.{add-one}
 use native.Mathlib.Omega.{arith}
@@ -18,7 +18,7 @@ use Rattle.layout.specs.Frame.{frameSize, frameOf}
 use Rattle.layout.specs.Entry.{entrySize}
 use Rattle.layout.specs.Work.{frameStart, entriesStart, graphLength, mergedStart, stackOf, entriesOf, mergedOf}
 use Rattle.layout.proofs.Graphs.{work-length, stack-unfold, stack-push, entries-push, merged-whole, merged-other, merged-graph, graph-merged}
-use Rattle.stack.specs.Bytes.{FrameBytes, GraphBytes, frameBytes, frameAt}
+use Rattle.stack.specs.Bytes.{FrameBytes, GraphBytes, frameAt}
 use Rattle.stack.proofs.Parts.{part, returned, part-length, part-back}
 use Rattle.stack.proofs.Graph.{part-is, stack-written, entries-written}
 use Rattle.evaluation.specs.Workspace.{WorkBytes, graphIn}

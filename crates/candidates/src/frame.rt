@@ -25,10 +25,10 @@ pub fn enter(f: &mut [u8], goals: usize)
     requires { ⌜ FrameBytes goals (now f) ⌝ }
     ensures { λ _. ⌜ frameOf goals (now (f .exit)) ≡ withTracked (some (noCandidateUsages goals)) (frameOf goals (now (f .entry))) ⌝ }
 {
-    f[7] = 1;
     let a = offsets::candidate_start(goals);
     let e = offsets::nested_start(goals);
     candidate::clear(&mut f[a..e], goals);
+    f[7] = 1;
 }
 
 // finish_single_candidate, which forgets the candidate's usages

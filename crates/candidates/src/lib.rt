@@ -17,8 +17,8 @@ ghost use Rattle.evaluation.specs.Workspace.{WorkBytes, graphIn};
 ghost use Rattle.candidates.specs.Steps.{addAt, ignoreHeadAt, ignoreHeads, ignoreOwn};
 ghost use Rattle.candidates.specs.Written.{mergedBytes, topBytes, topOf, MergedWritten, FrameWritten};
 
-pub mod block;
-pub mod frame;
+mod block;
+mod frame;
 
 // ---- one candidate
 
