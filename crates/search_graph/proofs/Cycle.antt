@@ -101,7 +101,7 @@ module _ (book starts cache work : List ℕ) (h : Header) (root height n goal : 
 
   pub known : (a : Answer) → r ≡ Known a
       → Comes (h .goals) root height height (evaluator book h height (graphOf (h .goals) root height n (graphIn (h .goals) work) cache) goal step lower) work work1 cache (Done a n)
-  unfolding outcomeOf
+  unfolding outcomeOf found
   known a e =
       record {
         is = sym (finds ∙ ap (λ (x : Found). found h (computeBy (bookIn book) (h .goals - height)) goal step x (graphOf (h .goals) root height n (graphIn (h .goals) work1) cache)) e);
@@ -112,6 +112,7 @@ module _ (book starts cache work : List ℕ) (h : Header) (root height n goal : 
   module _ (d : ℕ) (e : r ≡ Push d) where
     pushes : evaluator book h height (graphOf (h .goals) root height n (graphIn (h .goals) work) cache) goal step lower
         ≡ evaluateNewFrame h (computeBy (bookIn book) (h .goals - height)) (graphOf (h .goals) root height n (graphIn (h .goals) work1) cache) goal step d
+    unfolding found
     pushes = finds ∙ ap (λ (x : Found). found h (computeBy (bookIn book) (h .goals - height)) goal step x (graphOf (h .goals) root height n (graphIn (h .goals) work1) cache)) e
 
     -- every goal is on the stack

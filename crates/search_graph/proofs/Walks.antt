@@ -12,7 +12,7 @@ use Rattle.definition.specs.declared.answers.Answer.{Answer}
 use Rattle.definition.specs.declared.answers.Answer.the-variants as answers
 use Rattle.definition.specs.declared.format.Line.{Line}
 use Rattle.definition.specs.declared.format.Header.{Header}
-use Rattle.definition.specs.Part.{Part, Parts, Node, UndecidedLine, Then, End}
+use Rattle.definition.specs.Part.{Part, Parts, Node, UndecidedLine, Then}
 use Rattle.definition.specs.Part as part
 use Rattle.definition.specs.Graph.{Graph, andThen}
 use Rattle.definition.specs.Graph as graph
@@ -31,9 +31,10 @@ use Rattle.delegate.specs.declared.Op.{Op}
 use Rattle.delegate.specs.declared.Op.the-variants.{All, Any, Pick}
 use Rattle.delegate.specs.declared.Group.{Group}
 use Rattle.delegate.specs.declared.Step.{Step}
-use Rattle.delegate.specs.declared.Step.the-variants.{Ended, More}
-use Rattle.delegate.specs.Groups.{opOf, restBy, nextBy, rest, next, entered}
-use Rattle.delegate.specs.Steps.{Kept, Begun, Before, After, AtEnd, stepOf, FewSteps}
+use Rattle.delegate.specs.declared.Step.the-variants.{End, More}
+use Rattle.delegate.specs.Groups.{opOf, isPick, rest, next}
+use Rattle.delegate.proofs.Laws.{rest-turn}
+use Rattle.delegate.specs.Steps.{Kept, Begun, Entered, Stepped, Ended, stepOf}
 use Rattle.search_graph.specs.declared.steps.Shape.{Shape}
 use Rattle.search_graph.specs.declared.steps.Shape.the-variants as shapes
 use Rattle.search_graph.specs.Shapes.{shapeOf, insideOf}
@@ -82,33 +83,21 @@ in-part goals inPick p l is reads s shaped op e =
     (sym (part-from 16 p))
     (grouped goals inPick p l is reads s shaped op e)
 
--- ---- a group's parts, one by one
-then-rest : (ev : Evaluator) (goals : ℕ) (op : Op) (met : Bool) (combined : Answer) (p : Part) (ps : Parts) (others : List HeadUsages) (g : Graph)
-    → restBy ev goals op met combined (Then p ps) others g ≡ andThen (evalPart ev goals p (entered goals op g)) (nextBy ev goals op met combined ps others)
-then-rest ev goals All met combined p ps others g = refl
-then-rest ev goals Any met combined p ps others g = refl
-then-rest ev goals Pick met combined p ps others g = refl
-
--- only a pick looks at the merged usages
-same-next : (ev : Evaluator) (goals : ℕ) (op : Op) (met : Bool) (combined : Answer) (ps : Parts) (us vs : List HeadUsages)
-    → (op ≡ Pick → us ≡ vs) → nextBy ev goals op met combined ps us ≡ nextBy ev goals op met combined ps vs
-same-next ev goals All met combined ps us vs e = refl
-same-next ev goals Any met combined ps us vs e = refl
-same-next ev goals Pick met combined ps us vs e = ap (nextBy ev goals Pick met combined ps) (e refl)
-
 -- ---- which merged usages are kept
-kept-by : (op : Op) (inPick : Bool) (goals height : ℕ) (old new : List ℕ) → (op ≡ Pick → inPick ≡ false) → Kept op goals height old new
+kept-by : (op : Op) (inPick : Bool) (goals height : ℕ) (old new : List ℕ) → (op ≡ Pick → inPick ≡ false) → Kept op goals (height - 1) old new
     → (i : ℕ) → i < keptBelow inPick height → mergedOf goals i new ≡ mergedOf goals i old
 kept-by op false goals height old new alone k i lt = k .below i lt
 kept-by op true goals height old new alone k i lt =
     elim (decLt i (height - 1)) [
       | yes h ↦ k .below i h
       | no h ↦ let e : i ≡ height - 1 = omega arith in
-          ap (λ (x : ℕ). mergedOf goals x new) e ∙ k .own (λ d. other (alone d)) ∙ ap (λ (x : ℕ). mergedOf goals x old) (sym e)
+          ap (λ (x : ℕ). mergedOf goals x new) e ∙ k .here (no-pick op alone) ∙ ap (λ (x : ℕ). mergedOf goals x old) (sym e)
     ]
   where
-    other : true ≡ false → ⊥
-    other d = let z : _≡_ {A = ℕ} 1 0 = ap (λ (b : Bool). elim b [ true ↦ 1 | false ↦ 0 ]) d in omega arith
+    no-pick : (x : Op) → (x ≡ Pick → true ≡ false) → isPick x ≡ false
+    no-pick All e = refl
+    no-pick Any e = refl
+    no-pick Pick e = e refl
 
 inside-keeps : (op : Op) (inPick : Bool) (height i : ℕ) → i < keptBelow inPick height → i < keptBelow (insideOf op inPick) height
 inside-keeps All inPick height i lt = lt
@@ -119,6 +108,11 @@ inside-keeps Pick false height i lt = omega arith
 under-goals : (inPick : Bool) (height goals i : ℕ) → height ≤ goals → i < keptBelow inPick height → i < goals
 under-goals true height goals i le lt = omega arith
 under-goals false height goals i le lt = omega arith
+
+is-pick-op : (x : Op) → isPick x ≡ true → x ≡ Pick
+is-pick-op All e = let z : _≡_ {A = ℕ} 0 1 = ap (λ (b : Bool). elim b [ true ↦ 1 | false ↦ 0 ]) e in absurd (omega arith)
+is-pick-op Any e = let z : _≡_ {A = ℕ} 0 1 = ap (λ (b : Bool). elim b [ true ↦ 1 | false ↦ 0 ]) e in absurd (omega arith)
+is-pick-op Pick e = refl
 
 -- a turn of the loop over the parts: those that are left, and that they make the whole; `first` are the values before the loop
 pub record Walk (ev : Evaluator) (goals root height : ℕ) (inPick inside : Bool) (op : Op) (whole : graph.Outcome) (room : ℕ) (first work cache : List ℕ) (g : Group) (t : List ℕ) (k : ℕ) : Type 0 where
@@ -134,86 +128,86 @@ pub record Walk (ev : Evaluator) (goals root height : ℕ) (inPick inside : Bool
 module _ (ev : Evaluator) (goals root height : ℕ) (inPick inside : Bool) (op : Op) (whole : graph.Outcome) (room : ℕ) (first work cache : List ℕ) (g : Group) (t : List ℕ) (k : ℕ)
     (some-frame : 1 ≤ height) (few-frames : height ≤ goals) (walk : Walk ev goals root height inPick inside op whole room first work cache g t k) where
   -- after the last part
-  pub walk-ends : k ≤ 0 → (work1 : List ℕ) (r : Outcome) → AtEnd g goals height work work1 r
+  pub walk-ends : k ≤ 0 → (work1 : List ℕ) (r : Outcome) → Ended goals height g work work1 r
       → Comes goals root height (keptBelow inPick height) whole first work1 cache r
   walk-ends z work1 r end =
       record {
-        is = end .is ev root cache
+        is = end .whole ev root cache
             ∙ ap (λ (ps : Parts). rest ev goals g ps (mergedOf goals (height - 1) work) (graphOf goals root height (g .entries) (graphIn goals work) cache)) (sym (no-parts goals inside k t (walk .parts) z))
             ∙ walk .value;
         few = end .few;
-        merged = λ i lt. end .merged i (under-goals inPick height goals i few-frames lt) ∙ walk .merged i lt;
+        merged = λ i lt. end .kept i (under-goals inPick height goals i few-frames lt) ∙ walk .merged i lt;
       }
 
   module _ (pos : 0 < k) where
     pub walk-reads : Reads goals inside t
     walk-reads = first-reads goals inside k t (walk .parts) pos
 
-    module _ (work1 : List ℕ) (enter : Before (g .op) goals height work work1)
+    module _ (work1 : List ℕ) (enter : Entered goals height (g .op) work work1)
         (work2 cache2 : List ℕ) (o : Outcome)
         (read : Comes goals root height (keptBelow inside height) (evalPart ev goals (partIn goals inside t) (graphOf goals root height (g .entries) (graphIn goals work1) cache)) work1 work2 cache2 o)
-        (work3 : List ℕ) (r : Step) (after : After o g goals height work2 work3 r) where
+        (work3 : List ℕ) (r : Step) (after : Stepped goals height o g work2 work3 r) where
       own-kept : g .op ≡ Pick → mergedOf goals (height - 1) work2 ≡ mergedOf goals (height - 1) work
       own-kept e =
           read .merged (height - 1) (subst (λ (b : Bool). height - 1 < keptBelow b height) (sym (walk .within ∙ ap (λ (x : Op). insideOf x inPick) (sym (walk .same) ∙ e))) (omega arith))
-          ∙ enter .merged (height - 1) (omega arith)
+          ∙ enter .kept (height - 1) (omega arith)
 
       steps-on : (ps : Parts) → partsIn goals inside k t ≡ Then (partIn goals inside t) ps
-          → stepOf ev goals root height ps (mergedOf goals (height - 1) work3) (graphIn goals work3) cache2 r ≡ whole
+          → stepOf ev goals height ps root work3 cache2 r ≡ whole
       steps-on ps e =
-          after .is ev ps root cache2
-          ∙ (λ i. andThen (read .is i) (same-next ev goals (g .op) (g .met) (g .combined) ps _ _ own-kept i))
-          ∙ ap (λ (x : Graph). andThen (evalPart ev goals (partIn goals inside t) x) (nextBy ev goals (g .op) (g .met) (g .combined) ps (mergedOf goals (height - 1) work))) (enter .is root (g .entries) cache)
-          ∙ sym (then-rest ev goals (g .op) (g .met) (g .combined) (partIn goals inside t) ps (mergedOf goals (height - 1) work) (graphOf goals root height (g .entries) (graphIn goals work) cache))
+          after .whole ev ps root cache2
+          ∙ (λ i. andThen ((read .is ∙ ap (evalPart ev goals (partIn goals inside t)) (enter .whole root (g .entries) cache)) i) (next ev goals g ps (mergedOf goals (height - 1) work2)))
+          ∙ sym (rest-turn ev goals g (partIn goals inside t) ps (mergedOf goals (height - 1) work) (mergedOf goals (height - 1) work2) (graphOf goals root height (g .entries) (graphIn goals work) cache) (λ e. sym (own-kept (is-pick-op (g .op) e))))
           ∙ ap (λ (qs : Parts). rest ev goals g qs (mergedOf goals (height - 1) work) (graphOf goals root height (g .entries) (graphIn goals work) cache)) (sym e)
           ∙ walk .value
 
       merged-on : (i : ℕ) → i < keptBelow inPick height → mergedOf goals i work3 ≡ mergedOf goals i first
       merged-on i lt =
-          kept-by op inPick goals height work2 work3 (walk .alone) (subst (λ (x : Op). Kept x goals height work2 work3) (walk .same) (after .kept)) i lt
+          kept-by op inPick goals height work2 work3 (walk .alone) (subst (λ (x : Op). Kept x goals (height - 1) work2 work3) (walk .same) (after .kept)) i lt
           ∙ read .merged i (subst (λ (b : Bool). i < keptBelow b height) (sym (walk .within)) (inside-keeps op inPick height i lt))
-          ∙ enter .merged i (under-goals inPick height goals i few-frames lt)
+          ∙ enter .kept i (under-goals inPick height goals i few-frames lt)
           ∙ walk .merged i lt
 
-      pub walk-stops : (x : Outcome) → r ≡ Ended x → Comes goals root height (keptBelow inPick height) whole first work3 cache2 x
+      pub walk-stops : (x : Outcome) → r ≡ End x → Comes goals root height (keptBelow inPick height) whole first work3 cache2 x
+      unfolding stepOf
       walk-stops x e =
           let ps = others-of goals inside k t (walk .parts) pos in
           record {
-            is = sym (ap (stepOf ev goals root height ps (mergedOf goals (height - 1) work3) (graphIn goals work3) cache2) e) ∙ steps-on ps (first-and goals inside k t (walk .parts) pos);
-            few = subst (FewSteps goals (g .op)) e (after .few);
+            is = sym (ap (stepOf ev goals height ps root work3 cache2) e) ∙ steps-on ps (first-and goals inside k t (walk .parts) pos);
+            few = after .ended x e;
             merged = merged-on;
           }
 
       pub walk-next : (x : Group) → r ≡ More x → (u : List ℕ) → linesIn u ≡ restIn goals inside t → length u < length t
           → Walk ev goals root height inPick inside op whole room first work3 cache2 x u (k - 1)
+      unfolding stepOf
       walk-next x e u after-t lt =
-          let f = subst (FewSteps goals (g .op)) e (after .few) in
           let s = walk .shorter in
           let ps = partsIn goals inside (k - 1) u in
           record {
             alone = walk .alone;
             within = walk .within;
-            same = f .1 ∙ walk .same;
-            few = f .0;
+            same = after .kind x e ∙ walk .same;
+            few = after .count x e;
             parts = others-read goals inside k t (walk .parts) pos u after-t;
             shorter = omega arith;
-            value = sym (ap (stepOf ev goals root height ps (mergedOf goals (height - 1) work3) (graphIn goals work3) cache2) e) ∙ steps-on ps (first-then goals inside k t (walk .parts) pos u after-t);
+            value = sym (ap (stepOf ev goals height ps root work3 cache2) e) ∙ steps-on ps (first-then goals inside k t (walk .parts) pos u after-t);
             merged = merged-on;
           }
 
 -- ---- before the first part
 module _ (ev : Evaluator) (goals root height n : ℕ) (inPick : Bool) (p : List ℕ) (op : Op) (work cache : List ℕ) (work1 : List ℕ) (g : Group)
-    (few : n ≤ 2 * goals) (begun : Begun op goals height n work work1 g) (inside : Bool) (within : inside ≡ insideOf op inPick)
+    (few : n ≤ 2 * goals) (begun : Begun goals height n op work work1 g) (inside : Bool) (within : inside ≡ insideOf op inPick)
     (k : ℕ) (t : List ℕ)
     (group : (op ≡ Pick → inPick ≡ false) × ((partIn goals inPick p ≡ Node (opOf op) (partsIn goals (insideOf op inPick) k t)) × ReadsParts goals (insideOf op inPick) k t)) where
   pub walk-starts : length t < length p
       → Walk ev goals root height inPick inside (g .op) (rest ev goals g (partsIn goals inside k t) (mergedOf goals (height - 1) work1) (graphOf goals root height (g .entries) (graphIn goals work1) cache)) (length p) work1 work1 cache g t k
   walk-starts shorter =
       record {
-        alone = λ e. group .0 (sym (begun .same) ∙ e);
-        within = within ∙ ap (λ (x : Op). insideOf x inPick) (sym (begun .same));
+        alone = λ e. group .0 (sym (begun .kind) ∙ e);
+        within = within ∙ ap (λ (x : Op). insideOf x inPick) (sym (begun .kind));
         same = refl;
-        few = rw (begun .entries) few;
+        few = rw (begun .count) few;
         parts = subst (λ (b : Bool). ReadsParts goals b k t) (sym within) (group .1 .1);
         shorter = shorter;
         value = refl;
@@ -227,8 +221,8 @@ module _ (ev : Evaluator) (goals root height n : ℕ) (inPick : Bool) (p : List 
   walk-whole new cache1 r c =
       record {
         is = c .is
-            ∙ (λ i. rest ev goals g (partsIn goals (within i) k t) (mergedOf goals (height - 1) work1) (graphOf goals root height (begun .entries i) (graphIn goals work1) cache))
-            ∙ begun .is ev (partsIn goals (insideOf op inPick) k t) root cache
+            ∙ (λ i. rest ev goals g (partsIn goals (within i) k t) (mergedOf goals (height - 1) work1) (graphOf goals root height (begun .count i) (graphIn goals work1) cache))
+            ∙ begun .whole ev (partsIn goals (insideOf op inPick) k t) root cache
             ∙ ap (λ (x : Part). evalPart ev goals x (graphOf goals root height n (graphIn goals work) cache)) (sym (group .1 .0));
         few = c .few;
         merged = λ i lt. c .merged i lt ∙ kept-by op inPick goals height work work1 (group .0) (begun .kept) i lt;

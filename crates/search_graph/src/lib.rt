@@ -172,7 +172,7 @@ fn read_part(
                 );
                 let next = delegate::after(o, group, work, h.goals, height);
                 match next {
-                    Step::Ended(outcome) => {
+                    Step::End(outcome) => {
                         return outcome;
                     }
                     Step::More(g) => {

@@ -260,7 +260,7 @@ read-part-before-requires : (t : ℕ) → read-part-lts.Need-before-requires (re
 read-part-before-requires t c κs =
     let s = c .before .before .before .before .before .before .before .before .before .before .before .before .before .before .before .before .before .before .before .before in let a = s .args in let run = s .pre .1 .0 in let reads = s .pre .1 .1 .1 in let some-frame = s .pre .1 .1 .0 in
     let l = c .before .before .loop in let walk = l .inv .0 in
-    record { bytes = work-next _ (run .bytes) (l .inv .1 .0 ∙ c .before .before .before .before .before .before .before .begin .kept .1 .0); some = some-frame; few = run .stack }
+    (work-next _ (run .bytes) (l .inv .1 .0 ∙ c .before .before .before .before .before .before .before .begin .kept .1 .0), (some-frame, run .stack))
 
 -- src/lib.rt:161:21
 read-part-read-part-requires : (t : ℕ) → read-part-lts.Need-read-part-requires (read-part-claims t) (read-part-at t) read-part.Post read-part-Inv-loop read-part-μ-loop
@@ -280,7 +280,7 @@ read-part-after-requires : (t : ℕ) → read-part-lts.Need-after-requires (read
 read-part-after-requires t c κs =
     let s = c .before .before .before .before .before .before .before .before .before .before .before .before .before .before .before .before .before .before .before .before .before .before .before .before .before .before .before .before .before .before .before in let a = s .args in let run = s .pre .1 .0 in let reads = s .pre .1 .1 .1 in let some-frame = s .pre .1 .1 .0 in
     let l = c .before .before .before .before .before .before .before .before .before .before .before .before .before .loop in let walk = l .inv .0 in
-    (record { bytes = work-next _ (run .bytes) (c .before .before .before .before .before .read-part .kept .1 .1 .1 .1 .0 ∙ c .before .before .before .before .before .before .before .before .before .before .before2 .kept .1 .0 ∙ l .inv .1 .0 ∙ c .before .before .before .before .before .before .before .before .before .before .before .before .before .before .before .before .before .before .begin .kept .1 .0); some = some-frame; few = run .stack }, c .before .before .before .before .before .read-part .ensures .few)
+    (work-next _ (run .bytes) (c .before .before .before .before .before .read-part .kept .1 .1 .1 .1 .0 ∙ c .before .before .before .before .before .before .before .before .before .before .before2 .kept .1 .0 ∙ l .inv .1 .0 ∙ c .before .before .before .before .before .before .before .before .before .before .before .before .before .before .before .before .before .before .begin .kept .1 .0), (some-frame, (run .stack, c .before .before .before .before .before .read-part .ensures .few)))
 
 -- src/lib.rt:175:33
 read-part-enum-known-next : (t : ℕ) → read-part-lts.Need-enum-known-next (read-part-claims t) (read-part-at t) read-part.Post read-part-Inv-loop read-part-μ-loop
@@ -336,7 +336,7 @@ read-part-end-requires : (t : ℕ) → read-part-lts.Need-end-requires (read-par
 read-part-end-requires t c κs =
     let s = c .before .before .before .before .before .before .before .before .before .before .before .before .before .before .before .before .before .before .before .before in let a = s .args in let run = s .pre .1 .0 in let reads = s .pre .1 .1 .1 in let some-frame = s .pre .1 .1 .0 in
     let l = c .before .before .loop in let walk = l .inv .0 in
-    (record { bytes = work-next _ (run .bytes) (l .inv .1 .0 ∙ c .before .before .before .before .before .before .before .begin .kept .1 .0); some = some-frame; few = run .stack }, walk .few)
+    (work-next _ (run .bytes) (l .inv .1 .0 ∙ c .before .before .before .before .before .before .before .begin .kept .1 .0), (some-frame, (run .stack, walk .few)))
 
 -- src/lib.rt:117:1
 read-part-returns-2 : (t : ℕ) → read-part-lts.Need-returns-2 (read-part-claims t) (read-part-at t) read-part.Post read-part-Inv-loop read-part-μ-loop
