@@ -22,11 +22,17 @@ slice-aggregate-query-book : tie.Need-slice-aggregate-query-book
 slice-aggregate-query-book c = search needs
 
 query-book-requires : tie.Need-query-book-requires
-query-book-requires c κs = is-book (c .before .before .before .before .before .before .before .before .before .before .before .before .args .book .now) (c .before .before .before .before .before .before .before .read .last .1 .0) (c .before .before .before .before .read3 .given .0 .0) (sym (c .before .before .before .before .read3 .given .1) ∙ c .before .before .before .before .before .before .before .read .ensures .0) (c .before .before .before .before .before .before .before .read .ensures .1)
+query-book-requires c κs =
+    let x = c .before .before .before .before .read3 in
+    let r = c .before .before .before .before .before .before .before in
+    is-book (r .before .before .before .before .before .args .book .now) (r .read .last .1 .0) (x .given .0 .0) (sym (x .given .1) ∙ r .read .ensures .0) (r .read .ensures .1)
 
 returns : tie.Need-returns
-returns c = let a = c .before .before .before .before .before .before .before .before .before .args in
-    let e = rejected (a .book .now) (a .cache .now) (a .work .now) (a .goal) (a .depth) (c .before .before .before .before .read .result) (c .before .before .before .before .read .ensures .0) (c .before .read2 .given .0 .0) (c .before .read2 .given .1) in
+returns c =
+    let x = c .before .read2 in
+    let r = c .before .before .before .before in
+    let a = r .before .before .before .before .before .args in
+    let e = rejected (a .book .now) (a .cache .now) (a .work .now) (a .goal) (a .depth) (r .read .result) (r .read .ensures .0) (x .given .0 .0) (x .given .1) in
     (e, right-query (a .book .now) (a .cache .now) (a .work .now) (a .goal) (a .depth) _ e)
 
 same-length : tie.Need-same-length
@@ -36,9 +42,12 @@ same-length-2 : tie.Need-same-length-2
 same-length-2 c = search needs
 
 returns-2 : tie.Need-returns-2
-returns-2 c = let a = c .before .before .before .before .before .before .before .before .before .before .before .before .before .before .before .before .before .args in
-    let is = is-book (a .book .now) (c .before .before .before .before .before .before .before .before .before .before .before .before .read .last .1 .0) (c .before .before .before .before .before .before .before .before .before .read3 .given .0 .0) (sym (c .before .before .before .before .before .before .before .before .before .read3 .given .1) ∙ c .before .before .before .before .before .before .before .before .before .before .before .before .read .ensures .0) (c .before .before .before .before .before .before .before .before .before .before .before .before .read .ensures .1) in
-    let e = accepted (a .book .now) (a .cache .now) (a .work .now) (a .goal) (a .depth) (c .before .before .before .before .before .before .before .before .before .before .before .before .read .last .1 .0) (c .before .before .before .before .before .before .before .before .before .read3 .given .0 .0) is _ (c .before .before .before .before .query-book .ensures) in
+returns-2 c =
+    let x = c .before .before .before .before .before .before .before .before .before .read3 in
+    let r = c .before .before .before .before .before .before .before .before .before .before .before .before in
+    let a = r .before .before .before .before .before .args in
+    let is = is-book (a .book .now) (r .read .last .1 .0) (x .given .0 .0) (sym (x .given .1) ∙ r .read .ensures .0) (r .read .ensures .1) in
+    let e = accepted (a .book .now) (a .cache .now) (a .work .now) (a .goal) (a .depth) (r .read .last .1 .0) (x .given .0 .0) is _ (c .before .before .before .before .query-book .ensures) in
     (e, right-query (a .book .now) (a .cache .now) (a .work .now) (a .goal) (a .depth) _ e)
 
 pub query-spec : {M : Type 1} → statement M

@@ -13,9 +13,11 @@ enum-told : tie.Need-enum-told
 enum-told c = search needs
 
 evaluate-requires : tie.Need-evaluate-requires
-evaluate-requires c κs = let s = c .before .before .before .before .before .before .before .before .before .before .before in
+evaluate-requires c κs =
+    let f = c .before .before .before .before in
+    let s = f .before .before .before .before .before .before .before in
     let a = s .args in
-    ready (a .book .now) (a .starts .now) (a .h) (s .pre) (a .cache .now) (a .work .now) (a .goal) (a .depth) (c .before .before .before .before .first-failed .result) (c .before .before .before .before .first-failed .ensures) (c .before .before .enum-told .given .1)
+    ready (a .book .now) (a .starts .now) (a .h) (s .pre) (a .cache .now) (a .work .now) (a .goal) (a .depth) (f .first-failed .result) (f .first-failed .ensures) (c .before .before .enum-told .given .1)
 
 reply-requires : tie.Need-reply-requires
 reply-requires c κs = search needs
@@ -27,9 +29,12 @@ same-length-2 : tie.Need-same-length-2
 same-length-2 c = search needs
 
 returns : tie.Need-returns
-returns c = let s = c .before .before .before .before .before .before .before .before .before .before in
+returns c =
+    let x = c .before .checked in
+    let f = c .before .before .before in
+    let s = f .before .before .before .before .before .before .before in
     let a = s .args in
-    refused (a .book .now) (a .starts .now) (a .h) (s .pre) (a .cache .now) (a .work .now) (a .goal) (a .depth) (c .before .before .before .first-failed .result) (c .before .before .before .first-failed .ensures) (c .before .checked .given .0 .0) (c .before .checked .given .1)
+    refused (a .book .now) (a .starts .now) (a .h) (s .pre) (a .cache .now) (a .work .now) (a .goal) (a .depth) (f .first-failed .result) (f .first-failed .ensures) (x .given .0 .0) (x .given .1)
 
 same-length-3 : tie.Need-same-length-3
 same-length-3 c = search needs
@@ -38,9 +43,14 @@ same-length-4 : tie.Need-same-length-4
 same-length-4 c = search needs
 
 returns-2 : tie.Need-returns-2
-returns-2 c = let s = c .before .before .before .before .before .before .before .before .before .before .before .before .before .before .before .before .before .before .before .before .before .before .before in
+returns-2 c =
+    let t = c .before .before .before .before .before .before .before .before .before .before .before .before .before .before in
+    let e = c .before .before .before .before .before .before .before .before .before .before .before .evaluate in
+    let f = t .before .before in
+    let s = f .before .before .before .before .before .before .before in
     let a = s .args in
-    evaluated (a .book .now) (a .starts .now) (a .h) (s .pre) (a .cache .now) (a .work .now) (a .goal) (a .depth) (c .before .before .before .before .before .before .before .before .before .before .before .before .before .before .before .before .first-failed .result) (c .before .before .before .before .before .before .before .before .before .before .before .before .before .before .before .before .first-failed .ensures) (c .before .before .before .before .before .before .before .before .before .before .before .before .before .before .enum-told .given .1) (c .before .before .before .before .before .before .before .before .before .before .before .evaluate .last .1 .1 .1 .0) (c .before .before .before .before .before .before .before .before .before .before .before .evaluate .last .1 .1 .0) (c .before .before .before .before .before .before .before .before .before .before .before .evaluate .result) (c .before .before .before .before .before .before .before .before .before .before .before .evaluate .ensures) (c .before .before .before .before .before .before .before .before .before .before .before .evaluate .kept .1 .1 .0) (c .before .before .before .before .before .before .before .before .before .before .before .evaluate .kept .1 .1 .1 .0) _ (c .before .before .before .before .reply .ensures)
+    evaluated (a .book .now) (a .starts .now) (a .h) (s .pre) (a .cache .now) (a .work .now) (a .goal) (a .depth) (f .first-failed .result) (f .first-failed .ensures) (t .enum-told .given .1) (e .last .1 .1 .1 .0) (e .last .1 .1 .0) (e .result)
+    (e .ensures) (e .kept .1 .1 .0) (e .kept .1 .1 .1 .0) _ (c .before .before .before .before .reply .ensures)
 
 pub query-book-spec : {M : Type 1} → statement M
 query-book-spec =
