@@ -50,3 +50,10 @@ cache-deep goals top h = outside (goalsInRange goals && topInRange top) (cacheLe
 pub cache-within : (goals top r : ℕ) → goals ≤ 64 → top ≤ 63 → r ≡ cacheLength (headerWith goals top) → r ≡ cacheLengthOr0 goals top
 cache-within zero top r h k e = omega arith
 cache-within (suc n) top r h k e = e ∙ within (goalsInRange (suc n) && topInRange top) (cacheLength (headerWith (suc n) top)) (both (goalsInRange (suc n)) (topInRange top) (goals-within n h) (le-leb top 63 k))
+
+-- ---- examples, out of range and at its ends
+work-lengths : (workLengthOr0 0 ≡ 0) × (workLengthOr0 1 ≡ 260) × (workLengthOr0 64 ≡ 677888) × (workLengthOr0 65 ≡ 0)
+work-lengths = (refl, refl, refl, refl)
+
+cache-lengths : (cacheLengthOr0 0 1 ≡ 0) × (cacheLengthOr0 1 0 ≡ 8) × (cacheLengthOr0 64 63 ≡ 278720) × (cacheLengthOr0 65 63 ≡ 0) × (cacheLengthOr0 64 64 ≡ 0)
+cache-lengths = (refl, refl, refl, refl, refl)

@@ -126,6 +126,7 @@ fn query_book(
 }
 
 // Answers a goal at a depth. The cache is carried from query to query on the same book.
+// `right` is demand 3, of a cache that earlier queries left.
 pub fn query(book: &[u8], cache: &mut [u8], work: &mut [u8], goal: usize, depth: usize) -> Response
     ensures { λ r. ⌜ replied r (now (cache .exit)) (now (work .exit)) ≡ query (now (book .entry)) (now (cache .entry)) (now (work .entry)) goal depth ⌝ }
     ensures right { λ r. ⌜ (Carried (now (book .entry)) (now (cache .entry)) → RightQuery (now (book .entry)) goal (replied r (now (cache .exit)) (now (work .exit)))) ⌝ }
@@ -139,7 +140,8 @@ pub fn query(book: &[u8], cache: &mut [u8], work: &mut [u8], goal: usize, depth:
 }
 
 // Asks a list of questions, goal, depth, goal, depth and so on, from a new cache, and
-// writes the code of each response as long as there is room.
+// writes the code of each response as long as there is room. `right` is demand 3, of the
+// codes.
 pub fn query_list(
     book: &[u8],
     cache: &mut [u8],
