@@ -27,7 +27,7 @@ use Rattle.evaluation.specs.declared.Outcome.{Outcome}
 use Rattle.evaluation.specs.declared.Outcome.the-variants.{Done, Stopped}
 use Rattle.evaluation.specs.Outcomes.{outcomeOf}
 use Rattle.evaluation.specs.Workspace.{WorkBytes, graphIn}
-use Rattle.search_graph.specs.Calls.{Evaluating, Settled}
+use Rattle.search_graph.specs.Calls.{Running, evaluator, Comes}
 use Rattle.query.specs.declared.Checked.{Checked}
 use Rattle.query.specs.declared.Checked.the-variants.{Passed, Failed}
 use Rattle.query.specs.Replies.{replied, refusalIn}
@@ -69,31 +69,35 @@ module _ (bytes starts : List ℕ) (h : Header) (is : IsBook bytes starts h) (ca
   refused r e = sym (by-checks ∙ ap (λ (y : Checked). checkedBook (bookIn bytes) cache work goal depth (refusalIn y)) e)
 
   module _ (passed : x ≡ Passed) where
-    pub ready : Evaluating bytes starts cache work h depth 0 0 goal
-    ready =
-        let p = subst (λ (k : Header). AllPassed k cache work goal depth) (is .header) (all-passed (bookIn bytes) cache work goal depth (sym (ap refusalIn passed) ∙ in-book)) in
-        record {
-          book = is;
-          work = record { some = is .in-range .some-goals; few = is .in-range .few-goals; long = p .work-long };
-          cache = record { few = is .in-range .few-goals; low = is .in-range .top-fits; whole = p .cache-long };
-          stack = omega arith;
-          entries = omega arith;
-          goal = p .known;
-          root = omega (arith, p .low, is .in-range .top-fits);
-        }
+    all : AllPassed h cache work goal depth
+    all = subst (λ (k : Header). AllPassed k cache work goal depth) (is .header) (all-passed (bookIn bytes) cache work goal depth (sym (ap refusalIn passed) ∙ in-book))
+
+    pub ready : h .goals ≤ length starts → Running bytes starts cache work h depth 0 0 × (goal < h .goals)
+    ready places = (
+      record {
+        read = is;
+        places = places;
+        slots = record { few = is .in-range .few-goals; low = is .in-range .top-fits; whole = all .cache-long };
+        bytes = record { some = is .in-range .some-goals; few = is .in-range .few-goals; long = all .work-long };
+        stack = omega arith;
+        entries = omega arith;
+        shallow = omega (arith, all .low, is .in-range .top-fits);
+      },
+      all .known,
+    )
 
     empty-graph : graphOf (h .goals) depth 0 0 (graphIn (h .goals) work) cache ≡ newGraph depth cache
     unfolding stackOf entriesOf listUp
     empty-graph = refl
 
-    pub evaluated : (work′ cache′ : List ℕ) (o : Outcome) → Settled bytes h depth 0 0 goal Inductive true work cache work′ cache′ o
+    pub evaluated : (work′ cache′ : List ℕ) (o : Outcome) → Comes (h .goals) depth 0 0 (evaluator bytes h 0 (graphOf (h .goals) depth 0 0 (graphIn (h .goals) work) cache) goal Inductive true) work work′ cache′ o
         → length cache′ ≡ length cache → length work′ ≡ length work
         → (y : Reply) → ((goals root : ℕ) (bs : List ℕ) → y ≡ replyOf cache′ work′ (outcomeOf goals root 0 bs cache′ o))
         → y ≡ queryBook (bookIn bytes) cache work goal depth
     evaluated work′ cache′ o s lc lw y said =
         let off : h .goals - 0 ≡ bookIn bytes .header .goals = (let e : h .goals - 0 ≡ h .goals = omega arith in e ∙ sym (ap (λ (k : Header). k .goals) (is .header))) in
         let root : outcomeOf (h .goals) depth 0 (graphIn (h .goals) work′) cache′ o ≡ evaluateRoot (bookIn bytes) cache goal depth =
-        s .outcome ∙ ap₂ (λ (n : ℕ) (g : graph.Graph). evaluateGoal (bookIn bytes) n g goal Inductive true) off empty-graph in
+        s .is ∙ ap₂ (λ (n : ℕ) (g : graph.Graph). evaluateGoal (bookIn bytes) n g goal Inductive true) off empty-graph in
         said (h .goals) depth (graphIn (h .goals) work′)
         ∙ same-reply cache cache′ work work′ lc lw (outcomeOf (h .goals) depth 0 (graphIn (h .goals) work′) cache′ o)
         ∙ ap (replyOf cache work) root
