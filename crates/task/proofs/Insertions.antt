@@ -1,19 +1,18 @@
 -- The result goes to one of the caches.
-use mathlib.Core.Path.{_≡_, refl, sym, ap, ap₂, _∙_, subst}
+use mathlib.Core.Path.{_≡_, refl, sym, ap, _∙_, subst}
 use mathlib.Core.Bool.{Bool, true, false}
 use mathlib.Core.Option.{Option, none, some}
 use mathlib.Core.List.{List}
 use Prim.Native.Nat.{ℕ, _+_, _*_, _-_, _≤_, _<_}
 use native.Mathlib.Omega.{arith}
 use borrow.Author.Tests.{le-leb, lt-leb}
-use lib.Dec.{leb}
 use Rattle.definition.specs.declared.paths.PathKind.{PathKind}
 use Rattle.definition.specs.declared.answers.Answer.{Answer}
 use Rattle.definition.specs.declared.format.Header.{Header}
 use Rattle.definition.specs.declared.replies.Refusal.{Refusal}
 use Rattle.definition.specs.declared.replies.Refusal.the-variants.{ProvisionalCacheFull, CacheConflict, Unreachable}
 use Rattle.definition.specs.Heads.{headsEmpty}
-use Rattle.definition.specs.Stack.{Stack, Frame, requiredDepthOf}
+use Rattle.definition.specs.Stack.{Frame, requiredDepthOf}
 use Rattle.definition.specs.Graph.{Graph, EvaluationResult, withGlobalCache, finalize}
 use Rattle.definition.specs.Graph as graph
 use Rattle.definition.specs.Parent.{updateParentGoal, Ordinary}
@@ -21,7 +20,7 @@ use Rattle.definition.specs.GlobalCache.{cacheInsert}
 use Rattle.definition.specs.Evaluate.{insertInSlot, insertGlobalCache, insertProvisionalCache, insertResult, afterTask}
 use Rattle.layout.specs.Frame.{frameOf}
 use Rattle.layout.specs.Work.{stackOf, entriesOf, graphOf}
-use Rattle.stack.specs.Bytes.{GraphBytes, frameBytes, frameAt}
+use Rattle.stack.specs.Bytes.{frameBytes, frameAt}
 use Rattle.global_cache.specs.declared.Insertion.{Insertion}
 use Rattle.global_cache.specs.declared.Insertion.the-variants.{Kept, Conflict}
 use Rattle.global_cache.specs.Cache.{headerWith, evaluated, inserted}
@@ -30,11 +29,10 @@ use Rattle.provisional_cache.specs.declared.Insertion as provisional
 use Rattle.provisional_cache.specs.declared.Insertion.the-variants as provisional-variants
 use Rattle.provisional_cache.specs.Inserts.{Inserted}
 use Rattle.provisional_cache.proofs.Outcomes.{insert-stops, insert-goes, kept-under, full-past}
-use Rattle.evaluation.specs.declared.Outcome.{Outcome}
 use Rattle.evaluation.specs.declared.Outcome.the-variants.{Done, Stopped}
 use Rattle.evaluation.specs.declared.TaskOutcome.{TaskOutcome}
 use Rattle.evaluation.specs.declared.TaskOutcome.the-variants.{Evaluated, TaskStopped}
-use Rattle.evaluation.specs.Outcomes.{outcomeOf, taskOutcomeOf, FewEntries, FewTaskEntries}
+use Rattle.evaluation.specs.Outcomes.{outcomeOf, taskOutcomeOf, FewTaskEntries}
 
 module _ (h : Header) (root height n goal : ℕ) (overflow : Bool) (answer : Answer) (bs cache : List ℕ) where
   -- the popped frame, the result and the graph

@@ -1,21 +1,24 @@
 -- The nested goals of a frame, and a copy of them.
-use mathlib.Core.Path.{_≡_, refl, sym, ap, ap₂, _∙_}
-use mathlib.Core.List.{List, [], _∷_, _++_, append-nil}
-use Prim.Native.Nat.{ℕ, zero, suc, _+_, _*_, _-_, _≤_, _<_}
+use mathlib.Core.Path.{_≡_, sym, ap, ap₂, _∙_}
+use mathlib.Core.Bool.{Bool}
+use mathlib.Core.List.{List, _++_, append-nil}
+use Prim.Native.Nat.{ℕ, _+_, _-_, _≤_, _<_}
 use native.Mathlib.Numerals.{add-one}
 use native.Mathlib.Omega.{arith}
-use lib.ListN.{length, getD, take, drop, set, drop-of-length-le}
+use lib.ListN.{length, getD, take, drop, set, replicate, drop-of-length-le}
 use lib.Seq.{take-length, paste, paste-suc}
-use Rattle.buffer.specs.Regions.{region, overwrite}
+use Rattle.buffer.specs.Regions.{region}
 use Rattle.buffer.proofs.Regions.{length-region, region-region, region-same}
-use Rattle.definition.specs.Heads.{headsEmpty}
-use Rattle.definition.specs.Stack.{requiredDepthOf}
+use Rattle.definition.specs.declared.paths.PathKind.{PathKind}
+use Rattle.definition.specs.Heads.{CycleHeads, headsEmpty}
+use Rattle.definition.specs.Stack.{Stack, requiredDepthOf}
+use Rattle.definition.specs.Parent.{updateParentGoal, Ordinary}
 use Rattle.layout.specs.Blocks.{headsSize, headsOf}
 use Rattle.layout.specs.Frame.{frameSize, headsStart, nestedStart, frameOf}
 use Rattle.layout.specs.Work.{frameStart}
 use Rattle.layout.proofs.Graphs.{frame-room}
 use Rattle.stack.specs.Bytes.{GraphBytes, frameBytes, frameAt}
-use Rattle.stack.proofs.Parts.{part, returned, part-back}
+use Rattle.stack.proofs.Parts.{part, returned, part-length, part-back, returned-length}
 
 -- ---- `nested_at`
 module _ (goals : ℕ) (bs : List ℕ) (i s n : ℕ) (is-s : s ≡ frameStart goals i) (is-n : n ≡ nestedStart goals) where
@@ -56,14 +59,30 @@ copied-all d s l j e len h =
     ∙ ap₂ (λ (l m : List ℕ). (take 0 d ++ l) ++ m) (take-length s) (drop-of-length-le d {i = 0 + length s} (omega arith))
     ∙ append-nil s
 
--- ---- `update_parent`: the copy in the first bytes of an array
-pub array-first : (xs ys zs : List ℕ) (n : ℕ) → n ≤ length xs → length ys ≡ n → ys ≡ zs → part (returned xs 0 n ys) 0 n ≡ zs
-array-first xs ys zs n fits len e =
-    let z : n - 0 ≡ n = omega arith in
-    ap (λ (l : List ℕ). part l 0 n) (ap (λ (k : ℕ). take 0 xs ++ (ys ++ drop k (drop 0 xs))) (z ∙ sym len))
-    ∙ ap (λ (k : ℕ). region 0 k (overwrite xs 0 ys)) (z ∙ sym len)
-    ∙ region-same xs 0 ys (omega arith)
-    ∙ e
+-- ---- `update_parent`: the copy stands first in an array of 64 bytes
+abbrev zeros : List ℕ
+zeros = replicate 64 0
+
+module _ (goals : ℕ) (few : goals ≤ 64) where
+  pub array-part : (ns : List ℕ) → length ns ≡ goals → length (part zeros 0 goals) ≡ length ns
+  array-part ns len = length-region 0 (goals - 0) zeros (omega arith) ∙ bare goals ∙ sym len
+    where
+      bare : (n : ℕ) → n - 0 ≡ n
+      bare n = omega arith
+
+  module _ (ys : List ℕ) (kept : length ys ≡ length (part zeros 0 goals)) where
+    pub array-room : goals ≤ length (returned zeros 0 goals ys)
+    array-room = omega (arith, few, returned-length zeros 0 goals ys (omega arith) few kept)
+
+    pub array-first : part (returned zeros 0 goals ys) 0 goals ≡ ys
+    array-first =
+        let len : length ys ≡ goals - 0 = part-length zeros 0 goals ys (omega arith) few kept in
+        ap₂ (λ (l : List ℕ) (k : ℕ). region 0 k l) (part-back zeros 0 goals ys (omega arith) few kept) (sym len)
+        ∙ region-same zeros 0 ys (omega (arith, few))
+
+pub parent-child : (fs : Stack) (step : PathKind) (hs : CycleHeads) (overflow : Bool) (child ns : List ℕ) (reached : ℕ) → child ≡ ns
+    → updateParentGoal fs step hs overflow (Ordinary child) reached ≡ updateParentGoal fs step hs overflow (Ordinary ns) reached
+parent-child fs step hs overflow child ns reached e = ap (λ (l : List ℕ). updateParentGoal fs step hs overflow (Ordinary l) reached) e
 
 -- ---- what is read of the frame
 pub headless-is : (goals i : ℕ) (bs r hs : List ℕ) → r ≡ frameBytes goals i bs → hs ≡ region headsStart (headsSize goals) r → headsEmpty (headsOf goals hs) ≡ headsEmpty ((frameAt goals i bs) .heads)

@@ -1,9 +1,8 @@
 -- The end of an iteration.
-use mathlib.Core.Path.{_≡_, refl, sym, ap, ap₂, _∙_, subst}
-use mathlib.Core.Bool.{Bool, true, false, _||_}
-use mathlib.Core.List.{List, [], _∷_}
+use mathlib.Core.Path.{_≡_, refl, sym, ap, _∙_, subst}
+use mathlib.Core.Bool.{Bool, _||_}
+use mathlib.Core.List.{List, _∷_}
 use Prim.Native.Nat.{ℕ, zero, suc, _+_, _*_, _-_, _≤_, _<_}
-use native.Mathlib.Numerals.{add-one}
 use native.Mathlib.Omega.{arith}
 use Rattle.definition.specs.declared.answers.Answer.{Answer}
 use Rattle.definition.specs.declared.answers.Answer.the-variants.{Overflow}
@@ -12,12 +11,13 @@ use Rattle.definition.specs.declared.answers.RebaseReason.the-variants.{Ambigui
 use Rattle.definition.specs.declared.replies.Refusal.{Refusal}
 use Rattle.definition.specs.Stack.{Stack, Frame}
 use Rattle.definition.specs.Graph.{Graph, finalize}
-use Rattle.definition.specs.ProvisionalCache.{survivors, rebaseEntries, clearDependentProvisionalResultsForRerun}
+use Rattle.definition.specs.Graph as graph
+use Rattle.definition.specs.ProvisionalCache.{survivors, rebaseEntries}
 use Rattle.definition.specs.Task as task
 use Rattle.layout.specs.Frame.{frameOf}
 use Rattle.layout.specs.Work.{stackOf, entriesOf, graphOf}
 use Rattle.layout.proofs.Graphs.{stack-unfold}
-use Rattle.stack.specs.Bytes.{GraphBytes, frameBytes, frameAt}
+use Rattle.stack.specs.Bytes.{frameBytes, frameAt}
 use Rattle.stack.proofs.Loops.{top}
 use Rattle.provisional_cache.specs.Entries.{FramesKept}
 use Rattle.provisional_cache.proofs.Outcomes.{cleared-graph}
@@ -25,7 +25,7 @@ use Rattle.evaluation.specs.declared.Outcome.{Outcome}
 use Rattle.evaluation.specs.declared.Outcome.the-variants.{Done, Stopped}
 use Rattle.evaluation.specs.declared.TaskOutcome.{TaskOutcome}
 use Rattle.evaluation.specs.declared.TaskOutcome.the-variants.{Evaluated, TaskStopped}
-use Rattle.evaluation.specs.Outcomes.{outcomeOf, taskOutcomeOf, FewEntries, FewTaskEntries}
+use Rattle.evaluation.specs.Outcomes.{outcomeOf, taskOutcomeOf, FewEntries}
 use Rattle.task.specs.declared.Iteration.{Iteration}
 use Rattle.task.specs.declared.Iteration.the-variants.{End, Again}
 use Rattle.task.specs.declared.after.Next.{Next}
@@ -127,6 +127,14 @@ module _ (goals root height left : ℕ) (next : Bool → Graph → task.TaskOutc
 
 pub few-done : (goals : ℕ) (o : Outcome) (answer : Answer) (n : ℕ) → o ≡ Done answer n → FewEntries goals o → n ≤ 2 * goals
 few-done goals o answer n is few = subst (FewEntries goals) is few
+
+-- a turn is one of the definition's, with those after it
+pub turn-is : (compute : Graph → graph.Outcome) (left : ℕ) (overflow : Bool) (g : Graph)
+    → task.evaluateGoalInTask compute left overflow g ≡ turn left (task.evaluateGoalInTask compute (left - 1)) overflow (compute g)
+turn-is compute zero overflow g = refl
+turn-is compute (suc left) overflow g =
+    let e : left ≡ suc left - 1 = omega arith in
+    ap (λ (k : ℕ). turn (suc left) (task.evaluateGoalInTask compute k) overflow (compute g)) e
 
 -- no more are left than there were
 pub fewer : (r n m : ℕ) → r ≤ n → n ≤ m → r ≤ m

@@ -9,14 +9,14 @@ use Rattle.evaluation.specs.declared.TaskOutcome.{TaskOutcome}
 use Rattle.evaluation.specs.Outcomes.{FewEntries, FewTaskEntries}
 
 -- after an iteration of the frame on top
-pub record Ended (goals height : ℕ) (graph : List ℕ) (o : Outcome) : Type 0 where
+pub record IterationEnded (goals height : ℕ) (graph : List ℕ) (o : Outcome) : Type 0 where
   pub bytes : GraphBytes goals graph
   pub low : 1 ≤ height
   pub high : height ≤ goals
   pub few : FewEntries goals o
 
 -- after the last iteration of the frame that stood at index `height`
-pub record Evaluated (h : Header) (height goal : ℕ) (graph cache : List ℕ) (o : TaskOutcome) : Type 0 where
+pub record TaskEnded (h : Header) (height goal : ℕ) (graph cache : List ℕ) (o : TaskOutcome) : Type 0 where
   pub bytes : GraphBytes (h .goals) graph
   pub cache-bytes : CacheBytes (h .goals) (h .top) cache
   pub under : height < h .goals

@@ -78,8 +78,16 @@ fn in_provisional_cache(
     ensures { λ r. ⌜ ((root : ℕ) (cache : List ℕ) → outcomeOf (h .goals) root height (now (graph .exit)) cache r ≡ insertProvisionalCache h (graphOf (h .goals) root height entries (now (graph .entry)) cache) goal step (finalize (frameAt (h .goals) height (now (graph .entry))) overflow answer)) × FewEntries (h .goals) r ⌝ }
 {
     let goals = h.goals;
-    let made =
-        provisional_cache::insert(graph, goals, height, entries, goal, step, overflow, answer);
+    let made = provisional_cache::insert(
+        graph,
+        goals,
+        height,
+        entries,
+        goal,
+        step,
+        overflow,
+        answer,
+    );
     match made {
         provisional_cache::Insertion::Kept => Outcome::Done(answer, entries + 1),
         provisional_cache::Insertion::Full => Outcome::Stopped(Refusal::ProvisionalCacheFull),

@@ -13,7 +13,7 @@ ghost use mathlib.Core.Bool.{Bool, _||_};
 ghost use mathlib.Core.List.{List};
 ghost use Prim.Native.Nat.{ℕ, _+_, _-_, _*_, _≤_, _<_};
 ghost use lib.ListN.{length};
-ghost use Rattle.definition.specs.Graph.{Graph, finalize};
+ghost use Rattle.definition.specs.Graph.{Graph};
 ghost use Rattle.definition.specs.Task as task;
 ghost use Rattle.definition.specs.Parent.{updateParentGoal, Ordinary};
 ghost use Rattle.definition.specs.Evaluate.{afterTask};
@@ -21,7 +21,7 @@ ghost use Rattle.layout.specs.Work.{stackOf, entriesOf, graphOf};
 ghost use Rattle.stack.specs.Bytes.{GraphBytes, frameBytes, frameAt};
 ghost use Rattle.evaluation.specs.Outcomes.{outcomeOf, taskOutcomeOf, FewEntries, FewTaskEntries};
 ghost use Rattle.task.specs.Turns.{rerunBy, turn, turned, FewTurned};
-ghost use Rattle.task.specs.Places.{Ended, Evaluated};
+ghost use Rattle.task.specs.Places.{IterationEnded, TaskEnded};
 
 mod after;
 mod insert;
@@ -86,7 +86,15 @@ fn again(
 {
     if left == 0 {
         let reason = RebaseReason::Ambiguity(Answer::Overflow);
-        let o = rebased(graph, goals, own, entries, reason, overflow, Answer::Overflow);
+        let o = rebased(
+            graph,
+            goals,
+            own,
+            entries,
+            reason,
+            overflow,
+            Answer::Overflow,
+        );
         return Iteration::End(o);
     }
     let kept = provisional_cache::clear_for_rerun(graph, goals, own, entries);
@@ -128,7 +136,7 @@ pub fn end_iteration(
     left: usize,
     overflow: bool,
 ) -> Iteration
-    requires { ⌜ Ended goals height (now graph) o ⌝ }
+    requires { ⌜ IterationEnded goals height (now graph) o ⌝ }
     ensures { λ r. ⌜ ((root : ℕ) (cache : List ℕ) (next : Bool → Graph → task.TaskOutcome) → turn left next overflow (outcomeOf goals root height (now (graph .entry)) cache o) ≡ turned goals root height next (now (graph .exit)) cache r) × FewTurned goals left r ⌝ }
 {
     match o {
@@ -166,8 +174,19 @@ fn update_parent(
     ensures { λ _. ⌜ (stackOf goals height (now (graph .exit)) ≡ updateParentGoal (stackOf goals height (now (graph .entry))) step ((frameAt goals height (now (graph .entry))) .heads) overflow (Ordinary ((frameAt goals height (now (graph .entry))) .nestedGoals)) reached) × (((n : ℕ) → entriesOf goals n (now (graph .exit)) ≡ entriesOf goals n (now (graph .entry))) × (frameBytes goals height (now (graph .exit)) ≡ frameBytes goals height (now (graph .entry)))) ⌝ }
 {
     let mut nested = [0u8; 64];
-    copy(&mut nested[0..goals], insert::nested_at(graph, goals, height));
-    parent::update_from_frame(graph, goals, height, step, overflow, &nested[0..goals], reached);
+    copy(
+        &mut nested[0..goals],
+        insert::nested_at(graph, goals, height),
+    );
+    parent::update_from_frame(
+        graph,
+        goals,
+        height,
+        step,
+        overflow,
+        &nested[0..goals],
+        reached,
+    );
 }
 
 // The goal was evaluated: the parent is updated and the result kept.
@@ -181,7 +200,7 @@ pub fn finish(
     step: PathKind,
     available: usize,
 ) -> Outcome
-    requires { ⌜ Evaluated h height goal (now graph) (now cache) o ⌝ }
+    requires { ⌜ TaskEnded h height goal (now graph) (now cache) o ⌝ }
     ensures { λ r. ⌜ ((root : ℕ) → outcomeOf (h .goals) root height (now (graph .exit)) (now (cache .exit)) r ≡ afterTask h goal step available (taskOutcomeOf (h .goals) root height (now (graph .entry)) (now (cache .entry)) o)) × FewEntries (h .goals) r ⌝ }
 {
     match o {
@@ -191,7 +210,17 @@ pub fn finish(
             let required = frame::required_depth(stack::frame_at(graph, goals, height), goals);
             let reached = minus(available, required);
             update_parent(graph, goals, height, step, overflow, reached);
-            insert::result(cache, graph, h, height, entries, goal, step, overflow, answer)
+            insert::result(
+                cache,
+                graph,
+                h,
+                height,
+                entries,
+                goal,
+                step,
+                overflow,
+                answer,
+            )
         }
     }
 }

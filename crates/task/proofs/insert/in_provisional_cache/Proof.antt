@@ -1,4 +1,3 @@
-use native.Mathlib.Omega.{arith}
 use Rattle.task.proofs.Insertions.{provisional-kept, provisional-full, provisional-few}
 use borrow.Author.Needs.{needs}
 use Rattle.task.proofs.insert.in_provisional_cache.Statement.{statement}
