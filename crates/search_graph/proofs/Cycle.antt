@@ -182,6 +182,7 @@ module _ (goals root height left : ℕ) (overflow : Bool) (f : Graph → graph.O
   ends = turns f left overflow g ∙ ap (turn left (evaluateGoalInTask f (left - 1)) overflow) (sym (read .is)) ∙ ended .is root cache1 (evaluateGoalInTask f (left - 1))
 
   pub rerun-ends : (t : TaskOutcome) → r ≡ End t → TaskComes goals root (height - 1) (evaluateGoalInTask f left overflow g) work work2 cache1 t
+  unfolding turned
   rerun-ends t e =
       record {
         is = sym (ends ∙ ap (turned goals root height (evaluateGoalInTask f (left - 1)) (graphIn goals work2) cache1) e);
@@ -192,6 +193,7 @@ module _ (goals root height left : ℕ) (overflow : Bool) (f : Graph → graph.O
   pub rerun-again : (met : Bool) (n : ℕ) → r ≡ Again met n → (work3 cache3 : List ℕ) (t : TaskOutcome)
       → TaskComes goals root (height - 1) (evaluateGoalInTask f (left - 1) met (graphOf goals root height n (graphIn goals work2) cache1)) work2 work3 cache3 t
       → TaskComes goals root (height - 1) (evaluateGoalInTask f left overflow g) work work3 cache3 t
+  unfolding turned
   rerun-again met n e work3 cache3 t again =
       record {
         is = again .is ∙ sym (ends ∙ ap (turned goals root height (evaluateGoalInTask f (left - 1)) (graphIn goals work2) cache1) e);

@@ -26,7 +26,7 @@ part-finish-end c = search needs
 -- src/steps.rt:133:5
 finish-requires : tie.Need-finish-requires
 finish-requires c κs =
-    let s = c .before .before .before .before .before in record { bytes = lent-bytes (s .args .h .goals) (s .args .work .now) (c .before .before .graph-length .result) (s .pre .bytes) (c .before .before .graph-length .ensures .0); slots = s .pre .slots; stack = s .pre .stack; known = s .pre .known; few = s .pre .few }
+    let s = c .before .before .before .before .before in record { bytes = lent-bytes (s .args .h .goals) (s .args .work .now) (c .before .before .graph-length .result) (s .pre .bytes) (c .before .before .graph-length .ensures .0); cache-bytes = s .pre .slots; under = s .pre .stack; known = s .pre .known; few = s .pre .few }
 
 -- src/steps.rt:119:1
 same-length : tie.Need-same-length
