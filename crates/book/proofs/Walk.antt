@@ -124,6 +124,14 @@ module _ (goals : ℕ) (p : Bool) (n : ℕ) (bytes : List ℕ) (h : ReadsParts g
     pub first-reads : Reads goals p bytes
     first-reads = reads goals p bytes (split .one) first-read
 
+    -- the parts after the first
+    pub others-of : Parts
+    others-of = split .others .parts
+
+    pub first-and : partsIn goals p n bytes ≡ Then (partIn goals p bytes) others-of
+    unfolding others-of
+    first-and = ap (λ (t : TakenParts). t .parts) (sym (split .all-are)) ∙ ap (λ (x : Part). Then x (split .others .parts)) (sym (part-is goals p bytes (split .one) first-read))
+
     module _ (rest : List ℕ) (r : linesIn rest ≡ restIn goals p bytes) where
       others : partsRead goals p (n - 1) rest ≡ some (split .others)
       unfolding partsRead

@@ -1,0 +1,180 @@
+-- What the functions on one block and on one frame read and write.
+use mathlib.Core.Path.{_≡_, refl, sym, ap, ap₂, _∙_, subst}
+use mathlib.Core.Bool.{Bool, true, false}
+use mathlib.Core.Option.{Option, none, some}
+use mathlib.Core.List.{List, [], _∷_, _++_}
+use Prim.Native.Nat.{ℕ, zero, suc, _+_, _*_, _-_, _≤_, _<_}
+use native.Mathlib.Omega.{arith}
+use lib.ListN.{length, getD, set, take, replicate}
+use Rattle.definition.specs.declared.usages.HeadUsages.{HeadUsages}
+use Rattle.definition.specs.declared.heads.CycleHead.{CycleHead}
+use Rattle.definition.specs.Usages.{noUsages, addUsages, ignoreUsages, usagesCover}
+use Rattle.definition.specs.Heads.{CycleHeads, usagesAt, ignoreAtHead}
+use Rattle.definition.specs.Stack.{Frame}
+use Rattle.definition.specs.Parent.{orNoUsages}
+use Rattle.definition.specs.Candidates.{noCandidateUsages, withUsages, ignoreOwnUsages}
+use Rattle.bits.specs.Masks.{flags}
+use Rattle.bits.proofs.Flags.{length-flags, flags-zero}
+use Rattle.buffer.specs.Numbers.{numberOf}
+use Rattle.buffer.specs.Regions.{region, overwrite}
+use Rattle.buffer.proofs.Regions.{length-region, length-overwrite, region-same}
+use Rattle.layout.specs.Blocks.{usagesSize, usagesOf, flagAt, headOf, headsSize, headsOf, blockSize, usagesIn, candidateOf, HeadsBlock, UsagesBlock, present}
+use Rattle.layout.specs.Frame.{candidateStart, nestedStart, headsStart, frameSize, whenSet, frameOf}
+use Rattle.layout.proofs.Blocks.{kept-clear}
+use Rattle.layout.proofs.Present.{head-known, head-unknown}
+use Rattle.layout.proofs.Frames.{frame-has-candidate, frame-usages, frame-heads, frame-candidate, withHeads, withOwnUsages, withCandidateUsages}
+use Rattle.stack.specs.Bytes.{FrameBytes}
+use Rattle.stack.specs.Results.{isSome}
+use Rattle.stack.proofs.Parts.{part, returned, part-length, part-back}
+use Rattle.candidates.specs.Steps.{Names, keep, trackedOf, addAt, ignoreAt, withTracked, ignoreHeadAt, ignoreOwn}
+use Rattle.candidates.proofs.Kept.{false-true, keep-up, keep-no-usages, no-usages-at, no-flag, below-only}
+
+-- ---- a block of usages
+pub mask-names : (goals : ℕ) (bs : List ℕ) (n m : ℕ) → goals ≤ 64 → n ≡ numberOf (region 0 8 bs) → flags 64 m ≡ take goals (flags 64 n) ++ replicate (64 - goals) false → Names goals m (candidateOf goals bs)
+unfolding candidateOf flagAt
+mask-names goals bs n m few is-n is-m =
+    let xs : List Bool = flags 64 (numberOf (region 0 8 bs)) in
+    let e : flags 64 m ≡ take goals xs ++ replicate (64 - goals) false = is-m ∙ ap (λ (k : ℕ). take goals (flags 64 k) ++ replicate (64 - goals) false) is-n in
+    record {
+      all =
+          ap (λ (l : List Bool). keep l (candidateOf goals bs)) e
+          ∙ keep-up (usagesIn bs) goals xs (64 - goals) (rw length-flags few) (λ i l c. kept-clear usagesOf noUsages usagesSize bs i c);
+      below = λ i h. below-only goals xs (64 - goals) i (ap (λ (l : List Bool). getD l i false) (sym e) ∙ h);
+    }
+
+pub add-block : (us vs : List HeadUsages) (i : ℕ) (u before x : HeadUsages) → before ≡ getD us i noUsages → x ≡ addUsages before u → vs ≡ set us i x → vs ≡ addAt i u us
+add-block us vs i u before x is-b is-x is-v = is-v ∙ ap (set us i) (is-x ∙ ap (λ (b : HeadUsages). addUsages b u) is-b)
+
+-- ---- a block of heads
+set-known : {A : Type 0} (l : List A) (i : ℕ) (d x : A) → getD l i d ≡ x → l ≡ set l i x
+set-known [] i d x e = refl
+set-known (y ∷ l) zero d x e = ap (λ (z : _). z ∷ l) e
+set-known (y ∷ l) (suc i) d x e = ap (λ (t : List _). y ∷ t) (set-known l i d x e)
+
+module _ (goals : ℕ) (bs : List ℕ) (i : ℕ) (lt : i < goals) (u : HeadUsages) (t : Bool) (is-t : t ≡ getD (present (headsOf goals bs)) i false) where
+  pub ignore-absent : t ≡ false → headsOf goals bs ≡ ignoreAt i u (headsOf goals bs)
+  ignore-absent e =
+      let hs : CycleHeads = headsOf goals bs in
+      let known : getD hs i none ≡ none = head-unknown goals bs i lt (sym is-t ∙ e) in
+      set-known hs i none none known ∙ sym (ap (λ (o : Option CycleHead). set hs i (ignoreAtHead o u)) known)
+
+  pub ignore-present : t ≡ true → (h : CycleHead) (x : HeadUsages) (ys : List ℕ) → h ≡ headOf (region (8 + i * 33) 33 bs) → x ≡ ignoreUsages (h .usages) u
+      → headsOf goals ys ≡ set (headsOf goals bs) i (some (record { paths = h .paths; usages = x })) → headsOf goals ys ≡ ignoreAt i u (headsOf goals bs)
+  ignore-present e h x ys is-h is-x is-y =
+      let hs : CycleHeads = headsOf goals bs in
+      let known : getD hs i none ≡ some h = head-known goals bs i lt (sym is-t ∙ e) ∙ sym (ap (λ (c : CycleHead). some c) is-h) in
+      is-y
+      ∙ ap (λ (v : HeadUsages). set hs i (some (record { paths = h .paths; usages = v }))) is-x
+      ∙ sym (ap (λ (o : Option CycleHead). set hs i (ignoreAtHead o u)) known)
+
+-- ---- the blocks of a frame
+pub head-part : (goals : ℕ) (bs : List ℕ) (e : ℕ) → e ≡ candidateStart goals → part bs 40 e ≡ region headsStart (headsSize goals) bs
+head-part goals bs e is = let w : e - 40 ≡ headsSize goals = omega arith in ap (λ (m : ℕ). region 40 m bs) w
+
+pub candidate-part : (goals : ℕ) (bs : List ℕ) (a e : ℕ) → a ≡ candidateStart goals → e ≡ nestedStart goals → part bs a e ≡ region (candidateStart goals) (blockSize goals) bs
+candidate-part goals bs a e is-a is-e = let w : e - a ≡ blockSize goals = omega arith in ap₂ (λ (k m : ℕ). region k m bs) is-a w
+
+module _ (goals : ℕ) (bs r : List ℕ) (f : FrameBytes goals bs) where
+  pub heads-block : r ≡ region headsStart (headsSize goals) bs → HeadsBlock goals r
+  heads-block e =
+      let long : length bs ≡ frameSize goals = f .long in
+      record { few = f .few; long = ap length e ∙ length-region headsStart (headsSize goals) bs (omega arith) }
+
+  pub candidate-block : r ≡ region (candidateStart goals) (blockSize goals) bs → UsagesBlock goals r
+  candidate-block e =
+      let long : length bs ≡ frameSize goals = f .long in
+      record { few = f .few; long = ap length e ∙ length-region (candidateStart goals) (blockSize goals) bs (omega arith) }
+
+-- ---- what a frame tracks
+abbrev chosen : ℕ → Option (List HeadUsages) → List HeadUsages
+chosen goals o = elim o [ none ↦ noCandidateUsages goals | some us ↦ us ]
+
+chosen-none : (goals : ℕ) (o : Option (List HeadUsages)) → isSome o ≡ false → noCandidateUsages goals ≡ chosen goals o
+chosen-none goals none e = refl
+chosen-none goals (some us) e = false-true (sym e)
+
+chosen-some : (goals n : ℕ) (us : List HeadUsages) → isSome (whenSet n us) ≡ true → us ≡ chosen goals (whenSet n us)
+chosen-some goals zero us e = false-true e
+chosen-some goals (suc n) us e = refl
+
+module _ (goals : ℕ) (bs : List ℕ) (t : Bool) (is-t : t ≡ isSome ((frameOf goals bs) .candidateUsages)) where
+  none-tracked : t ≡ false → noCandidateUsages goals ≡ trackedOf goals (frameOf goals bs)
+  none-tracked e = chosen-none goals ((frameOf goals bs) .candidateUsages) (sym is-t ∙ e)
+
+  some-tracked : t ≡ true → (r : List ℕ) → r ≡ region (candidateStart goals) (blockSize goals) bs → candidateOf goals r ≡ trackedOf goals (frameOf goals bs)
+  unfolding frameOf
+  some-tracked e r is-r =
+      ap (candidateOf goals) is-r
+      ∙ chosen-some goals (getD bs 7 0) (candidateOf goals (region (candidateStart goals) (blockSize goals) bs)) (sym is-t ∙ e)
+
+  pub names-none : goals ≤ 64 → t ≡ false → Names goals 0 (trackedOf goals (frameOf goals bs))
+  names-none few e =
+      subst (Names goals 0) (none-tracked e)
+      (record {
+        all = ap (λ (l : List Bool). keep l (noCandidateUsages goals)) (flags-zero 64) ∙ keep-no-usages 64 goals few;
+        below = λ i h. false-true (sym (ap (λ (l : List Bool). getD l i false) (flags-zero 64) ∙ no-flag 64 i) ∙ h);
+      })
+
+  pub names-some : t ≡ true → (r : List ℕ) (m : ℕ) → r ≡ region (candidateStart goals) (blockSize goals) bs → Names goals m (candidateOf goals r) → Names goals m (trackedOf goals (frameOf goals bs))
+  names-some e r m is-r h = subst (Names goals m) (some-tracked e r is-r) h
+
+  pub tracked-none : t ≡ false → (i : ℕ) (u : HeadUsages) → u ≡ noUsages → u ≡ getD (trackedOf goals (frameOf goals bs)) i noUsages
+  tracked-none e i u is = is ∙ sym (no-usages-at goals i) ∙ ap (λ (l : List HeadUsages). getD l i noUsages) (none-tracked e)
+
+  pub tracked-some : t ≡ true → (r : List ℕ) → r ≡ region (candidateStart goals) (blockSize goals) bs → (i : ℕ) (u : HeadUsages) → u ≡ getD (candidateOf goals r) i noUsages → u ≡ getD (trackedOf goals (frameOf goals bs)) i noUsages
+  tracked-some e r is-r i u is = is ∙ ap (λ (l : List HeadUsages). getD l i noUsages) (some-tracked e r is-r)
+
+-- ---- `head_covers`
+pub covers-head : (goals : ℕ) (bs r : List ℕ) (i : ℕ) (u v : HeadUsages) (t : Bool) → r ≡ region headsStart (headsSize goals) bs → v ≡ usagesAt (headsOf goals r) i → t ≡ usagesCover v u
+    → t ≡ usagesCover (usagesAt ((frameOf goals bs) .heads) i) u
+unfolding frameOf
+covers-head goals bs r i u v t is-r is-v is-t = is-t ∙ ap (λ (x : HeadUsages). usagesCover x u) (is-v ∙ ap (λ (l : List ℕ). usagesAt (headsOf goals l) i) is-r)
+
+-- ---- `enter`, `finish`
+pub enter-frame : (goals : ℕ) (bs ys : List ℕ) (a e : ℕ) → length bs ≡ frameSize goals → a ≡ candidateStart goals → e ≡ nestedStart goals
+    → length ys ≡ length (part bs a e) → candidateOf goals ys ≡ noCandidateUsages goals
+    → frameOf goals (set (returned bs a e ys) 7 1) ≡ withTracked (some (noCandidateUsages goals)) (frameOf goals bs)
+enter-frame goals bs ys a e long is-a is-e kept clear =
+    let n : length ys ≡ blockSize goals = omega (arith, part-length bs a e ys (omega arith) (omega arith) kept) in
+    let o : List ℕ = overwrite bs (candidateStart goals) ys in
+    let lo : length o ≡ frameSize goals = length-overwrite bs (candidateStart goals) ys (omega arith) ∙ long in
+    let there : region (candidateStart goals) (blockSize goals) o ≡ ys = ap (λ (m : ℕ). region (candidateStart goals) m o) (sym n) ∙ region-same bs (candidateStart goals) ys (omega arith) in
+    ap (λ (l : List ℕ). frameOf goals (set l 7 1)) (part-back bs a e ys (omega arith) (omega arith) kept ∙ ap (λ (k : ℕ). overwrite bs k ys) is-a)
+    ∙ frame-has-candidate goals o lo 1
+    ∙ ap₂ (λ (f : Frame) (us : List HeadUsages). withCandidateUsages f (some us)) (frame-candidate goals bs long ys n) (ap (candidateOf goals) there ∙ clear)
+
+pub finish-frame : (goals : ℕ) (bs : List ℕ) → length bs ≡ frameSize goals → frameOf goals (set bs 7 0) ≡ withTracked none (frameOf goals bs)
+finish-frame goals bs long = frame-has-candidate goals bs long 0
+
+-- ---- `ignore_head`
+pub ignore-head-frame : (goals : ℕ) (bs ys : List ℕ) (e i : ℕ) (u : HeadUsages) → length bs ≡ frameSize goals → e ≡ candidateStart goals
+    → length ys ≡ length (part bs 40 e) → headsOf goals ys ≡ ignoreAt i u (headsOf goals (part bs 40 e))
+    → frameOf goals (returned bs 40 e ys) ≡ ignoreHeadAt i u (frameOf goals bs)
+unfolding frameOf
+ignore-head-frame goals bs ys e i u long is-e kept is-y =
+    let n : length ys ≡ headsSize goals = omega (arith, part-length bs 40 e ys (omega arith) (omega arith) kept) in
+    ap (frameOf goals) (part-back bs 40 e ys (omega arith) (omega arith) kept)
+    ∙ frame-heads goals bs long ys n
+    ∙ ap (withHeads (frameOf goals bs)) (is-y ∙ ap (λ (l : List ℕ). ignoreAt i u (headsOf goals l)) (head-part goals bs e is-e))
+
+-- ---- `ignore_own`
+own-none : (o : Option HeadUsages) (u : HeadUsages) → isSome o ≡ false → o ≡ ignoreOwnUsages o u
+own-none none u e = refl
+own-none (some v) u e = false-true (sym e)
+
+pub ignore-own-none : (f : Frame) (u : HeadUsages) (t : Bool) → t ≡ isSome (f .usages) → t ≡ false → f ≡ ignoreOwn u f
+ignore-own-none f u t is e = ap (λ (o : Option HeadUsages). withUsages f (f .heads) o (f .candidateUsages)) (own-none (f .usages) u (sym is ∙ e))
+
+own-some : (n : ℕ) (v u : HeadUsages) → whenSet n (ignoreUsages (orNoUsages (whenSet n v)) u) ≡ ignoreOwnUsages (whenSet n v) u
+own-some zero v u = refl
+own-some (suc n) v u = refl
+
+pub ignore-own-frame : (goals : ℕ) (bs ys : List ℕ) (before x u : HeadUsages) → length bs ≡ frameSize goals → before ≡ orNoUsages ((frameOf goals bs) .usages) → x ≡ ignoreUsages before u
+    → length ys ≡ length (part bs 8 40) → usagesOf ys ≡ x → frameOf goals (returned bs 8 40 ys) ≡ ignoreOwn u (frameOf goals bs)
+unfolding frameOf
+ignore-own-frame goals bs ys before x u long is-b is-x kept is-y =
+    let n : length ys ≡ 32 = omega (arith, part-length bs 8 40 ys (omega arith) (omega arith) kept) in
+    ap (frameOf goals) (part-back bs 8 40 ys (omega arith) (omega arith) kept)
+    ∙ frame-usages goals bs long ys n
+    ∙ ap (λ (v : HeadUsages). withOwnUsages (frameOf goals bs) (whenSet (getD bs 6 0) v)) (is-y ∙ is-x ∙ ap (λ (b : HeadUsages). ignoreUsages b u) is-b)
+    ∙ ap (withOwnUsages (frameOf goals bs)) (own-some (getD bs 6 0) (usagesOf (region 8 32 bs)) u)

@@ -1,0 +1,248 @@
+-- Usages whose flag is set, and what is done with them, one index after the other.
+use mathlib.Core.Path.{_≡_, refl, sym, ap, ap₂, _∙_}
+use mathlib.Core.Bool.{Bool, true, false, _&&_}
+use mathlib.Core.Option.{Option, none, some}
+use mathlib.Core.List.{List, [], _∷_, _++_}
+use Prim.Native.Nat.{ℕ, zero, suc, _+_, _-_, _≤_, _<_, min}
+use native.Mathlib.Omega.{arith}
+use native.Mathlib.Decide.{decLt, ℕ-discrete}
+use borrow.Author.Tests.{le-leb}
+use lib.ListN.{length, getD, set, take, replicate}
+use lib.Seq.{getD-set-other}
+use Rattle.definition.specs.declared.usages.HeadUsages.{HeadUsages}
+use Rattle.definition.specs.declared.heads.CycleHead.{CycleHead}
+use Rattle.definition.specs.Usages.{counterLimit, addCounter, subtractCounter, counterCovers, noUsages, addUsages, ignoreUsages, usagesCover, mergeUsages}
+use Rattle.definition.specs.Heads.{CycleHeads, usagesAt, ignoreAtHead, ignoreAtHeads}
+use Rattle.definition.specs.Candidates.{noCandidateUsages, headsCover}
+use Rattle.definition.proofs.Counters.{add-full, add-less, subtract-full, subtract-less, covers-full, covers-less}
+use Rattle.bits.specs.Masks.{flags, firstPlace, nextPlace}
+use Rattle.buffer.specs.Tables.{listUp}
+use Rattle.candidates.specs.Steps.{keep, addAt, ignoreAt}
+
+pub false-true : {B : Type 0} → false ≡ true → B
+false-true e = let z : _≡_ {A = ℕ} 0 1 = cc in absurd (omega arith)
+
+none-some : {B : Type 0} (j : ℕ) → _≡_ {A = Option ℕ} none (some j) → B
+none-some j e = let z : _≡_ {A = ℕ} 0 1 = cc in absurd (omega arith)
+
+-- ---- no usages
+add-zero-counter : (a : ℕ) → addCounter a 0 ≡ a
+add-zero-counter a =
+    elim (decLt a counterLimit) [
+      | yes l ↦ let e : min (a + 0) counterLimit ≡ a = omega arith in sym (add-less a 0 l) ∙ e
+      | no g ↦ sym (add-full a 0 (omega arith))
+    ]
+
+subtract-zero-counter : (a : ℕ) → subtractCounter a 0 ≡ a
+subtract-zero-counter a =
+    elim (decLt a counterLimit) [
+      | yes l ↦ let e : a - 0 ≡ a = omega arith in sym (subtract-less a 0 l) ∙ e
+      | no g ↦ sym (subtract-full a 0 (omega arith))
+    ]
+
+covers-zero : (a : ℕ) → counterCovers a 0 ≡ true
+covers-zero a =
+    elim (decLt a counterLimit) [
+      | yes l ↦ sym (covers-less a 0 l) ∙ le-leb 0 a (omega arith)
+      | no g ↦ sym (covers-full a 0 (omega arith))
+    ]
+
+pub add-no-usages : (u : HeadUsages) → addUsages u noUsages ≡ u
+add-no-usages u =
+    let a = add-zero-counter (u .inductive) in
+    let b = add-zero-counter (u .unknown) in
+    let c = add-zero-counter (u .coinductive) in
+    let d = add-zero-counter (u .forced) in
+    λ t. record { inductive = a t; unknown = b t; coinductive = c t; forced = d t }
+
+ignore-no-usages : (u : HeadUsages) → ignoreUsages u noUsages ≡ u
+ignore-no-usages u =
+    let a = subtract-zero-counter (u .inductive) in
+    let b = subtract-zero-counter (u .unknown) in
+    let c = subtract-zero-counter (u .coinductive) in
+    let d = subtract-zero-counter (u .forced) in
+    λ t. record { inductive = a t; unknown = b t; coinductive = c t; forced = d t }
+
+pub ignore-nothing : (h : Option CycleHead) → ignoreAtHead h noUsages ≡ h
+ignore-nothing none = refl
+ignore-nothing (some h) = let e = ignore-no-usages (h .usages) in λ t. some (record { paths = h .paths; usages = e t })
+
+pub cover-no-usages : (u : HeadUsages) → usagesCover u noUsages ≡ true
+cover-no-usages u =
+    let a = covers-zero (u .inductive) in
+    let b = covers-zero (u .unknown) in
+    let c = covers-zero (u .coinductive) in
+    let d = covers-zero (u .forced) in
+    λ t. a t && (b t && (c t && d t))
+
+-- ---- the usages whose flag is set
+abbrev picked : Bool → HeadUsages → HeadUsages
+picked t u = elim t [ true ↦ u | false ↦ noUsages ]
+
+picked-none : (t : Bool) → noUsages ≡ picked t noUsages
+picked-none true = refl
+picked-none false = refl
+
+pub keep-get : (xs : List Bool) (us : List HeadUsages) (j : ℕ) → getD (keep xs us) j noUsages ≡ picked (getD xs j false) (getD us j noUsages)
+keep-get [] us j = refl
+keep-get (x ∷ xs) [] j = picked-none (getD (x ∷ xs) j false)
+keep-get (true ∷ xs) (u ∷ us) zero = refl
+keep-get (false ∷ xs) (u ∷ us) zero = refl
+keep-get (true ∷ xs) (u ∷ us) (suc j) = keep-get xs us j
+keep-get (false ∷ xs) (u ∷ us) (suc j) = keep-get xs us j
+
+pub keep-at : (xs : List Bool) (us : List HeadUsages) (j : ℕ) → getD xs j false ≡ true → getD (keep xs us) j noUsages ≡ getD us j noUsages
+keep-at xs us j e = keep-get xs us j ∙ ap (λ (t : Bool). picked t (getD us j noUsages)) e
+
+pub keep-set : (xs : List Bool) (us : List HeadUsages) (j : ℕ) → keep (set xs j false) us ≡ set (keep xs us) j noUsages
+keep-set [] us j = refl
+keep-set (x ∷ xs) [] zero = refl
+keep-set (x ∷ xs) [] (suc j) = refl
+keep-set (true ∷ xs) (u ∷ us) zero = refl
+keep-set (false ∷ xs) (u ∷ us) zero = refl
+keep-set (true ∷ xs) (u ∷ us) (suc j) = ap (λ (l : List HeadUsages). u ∷ l) (keep-set xs us j)
+keep-set (false ∷ xs) (u ∷ us) (suc j) = ap (λ (l : List HeadUsages). noUsages ∷ l) (keep-set xs us j)
+
+pub no-flag : (n j : ℕ) → getD (replicate n false) j false ≡ false
+no-flag zero j = refl
+no-flag (suc n) zero = refl
+no-flag (suc n) (suc j) = no-flag n j
+
+pub kept-none : (k : ℕ) (us : List HeadUsages) (j : ℕ) → getD (keep (replicate k false) us) j noUsages ≡ noUsages
+kept-none k us j = keep-get (replicate k false) us j ∙ ap (λ (t : Bool). picked t (getD us j noUsages)) (no-flag k j)
+
+keep-nil : (xs : List Bool) → keep xs [] ≡ []
+keep-nil [] = refl
+keep-nil (x ∷ xs) = refl
+
+-- no flag, of no usages
+pub keep-no-usages : (k n : ℕ) → n ≤ k → keep (replicate k false) (noCandidateUsages n) ≡ noCandidateUsages n
+keep-no-usages k zero h = keep-nil (replicate k false)
+keep-no-usages zero (suc n) h = absurd (omega arith)
+keep-no-usages (suc k) (suc n) h = ap (λ (l : List HeadUsages). noUsages ∷ l) (keep-no-usages k n (omega arith))
+
+pub no-usages-at : (n j : ℕ) → getD (noCandidateUsages n) j noUsages ≡ noUsages
+no-usages-at zero j = refl
+no-usages-at (suc n) zero = refl
+no-usages-at (suc n) (suc j) = no-usages-at n j
+
+-- the first n flags, of n usages that are none where the flag is clear
+pub keep-up : (f : ℕ → HeadUsages) (n : ℕ) (xs : List Bool) (k : ℕ) → n ≤ length xs → ((i : ℕ) → i < n → getD xs i false ≡ false → f i ≡ noUsages)
+    → keep (take n xs ++ replicate k false) (listUp f n) ≡ listUp f n
+unfolding listUp
+keep-up f zero xs k h clear = keep-nil (replicate k false)
+keep-up f (suc n) [] k h clear = absurd (omega arith)
+keep-up f (suc n) (true ∷ xs) k h clear = ap (λ (l : List HeadUsages). f 0 ∷ l) (keep-up (λ i. f (suc i)) n xs k (omega arith) (λ i l. clear (suc i) (omega arith)))
+keep-up f (suc n) (false ∷ xs) k h clear =
+    ap₂ (λ (u : HeadUsages) (l : List HeadUsages). u ∷ l) (sym (clear 0 (omega arith) refl)) (keep-up (λ i. f (suc i)) n xs k (omega arith) (λ i l. clear (suc i) (omega arith)))
+
+-- ---- flags below n
+pub below-only : (n : ℕ) (xs : List Bool) (k i : ℕ) → getD (take n xs ++ replicate k false) i false ≡ true → i < n
+below-only zero xs k i e = false-true (sym (no-flag k i) ∙ e)
+below-only (suc n) [] k i e = false-true (sym (no-flag k i) ∙ e)
+below-only (suc n) (x ∷ xs) k zero e = omega arith
+below-only (suc n) (x ∷ xs) k (suc i) e = omega (arith, below-only n xs k i e)
+
+pub below-same : (n : ℕ) (xs : List Bool) (k i : ℕ) → i < n → n ≤ length xs → getD (take n xs ++ replicate k false) i false ≡ getD xs i false
+below-same zero xs k i lt h = absurd (omega arith)
+below-same (suc n) [] k i lt h = absurd (omega arith)
+below-same (suc n) (x ∷ xs) k zero lt h = refl
+below-same (suc n) (x ∷ xs) k (suc i) lt h = below-same n xs k i (omega arith) (omega arith)
+
+-- ---- the lowest flag
+pub first-set : (xs : List Bool) (j : ℕ) → firstPlace xs ≡ some j → getD xs j false ≡ true
+unfolding firstPlace
+first-set [] j e = none-some j e
+first-set (true ∷ xs) j e = let z : 0 ≡ j = cc in sym (ap (λ (k : ℕ). getD (true ∷ xs) k false) z)
+first-set (false ∷ xs) j e = go (firstPlace xs) (first-set xs) refl e
+  where
+    go : (o : Option ℕ) → ((i : ℕ) → firstPlace xs ≡ some i → getD xs i false ≡ true) → firstPlace xs ≡ o → nextPlace o ≡ some j → getD (false ∷ xs) j false ≡ true
+    go none ih q d = none-some j d
+    go (some i) ih q d = let z : suc i ≡ j = cc in sym (ap (λ (k : ℕ). getD (false ∷ xs) k false) z) ∙ ih i q
+
+-- a flag that is still set was set
+pub still-set : (xs : List Bool) (i j : ℕ) → getD (set xs i false) j false ≡ true → getD xs j false ≡ true
+still-set [] i j e = e
+still-set (x ∷ xs) zero zero e = false-true e
+still-set (x ∷ xs) zero (suc j) e = e
+still-set (x ∷ xs) (suc i) zero e = e
+still-set (x ∷ xs) (suc i) (suc j) e = still-set xs i j e
+
+-- ---- merging
+pub merge-none : (us vs : List HeadUsages) → ((i : ℕ) → getD vs i noUsages ≡ noUsages) → mergeUsages us vs ≡ us
+merge-none [] vs h = refl
+merge-none (u ∷ us) [] h = refl
+merge-none (u ∷ us) (v ∷ vs) h =
+    ap₂ (λ (x : HeadUsages) (l : List HeadUsages). x ∷ l) (ap (addUsages u) (h 0) ∙ add-no-usages u) (merge-none us vs (λ i. h (suc i)))
+
+add-nothing-at : (i : ℕ) (u : HeadUsages) (us : List HeadUsages) → u ≡ noUsages → addAt i u us ≡ us
+add-nothing-at i u [] e = refl
+add-nothing-at zero u (v ∷ us) e = ap (λ (x : HeadUsages). x ∷ us) (ap (addUsages v) e ∙ add-no-usages v)
+add-nothing-at (suc i) u (v ∷ us) e = ap (λ (l : List HeadUsages). v ∷ l) (add-nothing-at i u us e)
+
+pub merge-one : (us vs : List HeadUsages) (i : ℕ) (u : HeadUsages) → u ≡ getD vs i noUsages → mergeUsages (addAt i u us) (set vs i noUsages) ≡ mergeUsages us vs
+merge-one [] vs i u e = refl
+merge-one (x ∷ us) [] zero u e = add-nothing-at 0 u (x ∷ us) e
+merge-one (x ∷ us) [] (suc i) u e = ap (λ (l : List HeadUsages). x ∷ l) (add-nothing-at i u us e)
+merge-one (x ∷ us) (v ∷ vs) zero u e = ap (λ (w : HeadUsages). w ∷ mergeUsages us vs) (add-no-usages (addUsages x u) ∙ ap (addUsages x) e)
+merge-one (x ∷ us) (v ∷ vs) (suc i) u e = ap (λ (l : List HeadUsages). addUsages x v ∷ l) (merge-one us vs i u e)
+
+-- ---- ignoring
+pub ignore-none : (hs : CycleHeads) (us : List HeadUsages) → ((i : ℕ) → getD us i noUsages ≡ noUsages) → ignoreAtHeads hs us ≡ hs
+ignore-none [] us h = refl
+ignore-none (x ∷ hs) [] h = refl
+ignore-none (x ∷ hs) (u ∷ us) h =
+    ap₂ (λ (y : Option CycleHead) (l : CycleHeads). y ∷ l) (ap (ignoreAtHead x) (h 0) ∙ ignore-nothing x) (ignore-none hs us (λ i. h (suc i)))
+
+ignore-nothing-at : (i : ℕ) (u : HeadUsages) (hs : CycleHeads) → u ≡ noUsages → ignoreAt i u hs ≡ hs
+ignore-nothing-at i u [] e = refl
+ignore-nothing-at zero u (h ∷ hs) e = ap (λ (x : Option CycleHead). x ∷ hs) (ap (ignoreAtHead h) e ∙ ignore-nothing h)
+ignore-nothing-at (suc i) u (h ∷ hs) e = ap (λ (l : CycleHeads). h ∷ l) (ignore-nothing-at i u hs e)
+
+pub ignore-one : (hs : CycleHeads) (us : List HeadUsages) (i : ℕ) (u : HeadUsages) → u ≡ getD us i noUsages → ignoreAtHeads (ignoreAt i u hs) (set us i noUsages) ≡ ignoreAtHeads hs us
+ignore-one [] us i u e = refl
+ignore-one (x ∷ hs) [] zero u e = ignore-nothing-at 0 u (x ∷ hs) e
+ignore-one (x ∷ hs) [] (suc i) u e = ap (λ (l : CycleHeads). x ∷ l) (ignore-nothing-at i u hs e)
+ignore-one (x ∷ hs) (v ∷ us) zero u e = ap (λ (y : Option CycleHead). y ∷ ignoreAtHeads hs us) (ignore-nothing (ignoreAtHead x u) ∙ ap (ignoreAtHead x) e)
+ignore-one (x ∷ hs) (v ∷ us) (suc i) u e = ap (λ (l : CycleHeads). ignoreAtHead x v ∷ l) (ignore-one hs us i u e)
+
+-- ---- covering
+abbrev coveredAt : CycleHeads → List HeadUsages → ℕ → Bool
+coveredAt hs us i = usagesCover (usagesAt hs i) (getD us i noUsages)
+
+pub cover-same : (n : ℕ) (hs : CycleHeads) (us vs : List HeadUsages) → ((i : ℕ) → i < n → coveredAt hs us i ≡ coveredAt hs vs i) → headsCover n hs us ≡ headsCover n hs vs
+cover-same zero hs us vs h = refl
+cover-same (suc n) hs us vs h = ap₂ (λ (a b : Bool). a && b) (h n (omega arith)) (cover-same n hs us vs (λ i l. h i (omega arith)))
+
+cleared : (us : List HeadUsages) (i : ℕ) → getD (set us i noUsages) i noUsages ≡ noUsages
+cleared [] i = refl
+cleared (u ∷ us) zero = refl
+cleared (u ∷ us) (suc i) = cleared us i
+
+-- an index that is covered is left out
+pub cover-one : (n : ℕ) (hs : CycleHeads) (us : List HeadUsages) (i : ℕ) → coveredAt hs us i ≡ true → headsCover n hs (set us i noUsages) ≡ headsCover n hs us
+cover-one n hs us i e = cover-same n hs (set us i noUsages) us same
+  where
+    same : (j : ℕ) → j < n → coveredAt hs (set us i noUsages) j ≡ coveredAt hs us j
+    same j l =
+        elim (ℕ-discrete j i) [
+          | yes q ↦ ap (coveredAt hs (set us i noUsages)) q ∙ ap (usagesCover (usagesAt hs i)) (cleared us i) ∙ cover-no-usages (usagesAt hs i) ∙ sym e ∙ sym (ap (coveredAt hs us) q)
+          | no ne ↦ ap (usagesCover (usagesAt hs j)) (getD-set-other us i j noUsages noUsages ne)
+        ]
+
+pub cover-none : (n : ℕ) (hs : CycleHeads) (us : List HeadUsages) → ((i : ℕ) → getD us i noUsages ≡ noUsages) → headsCover n hs us ≡ true
+cover-none zero hs us h = refl
+cover-none (suc n) hs us h = ap₂ (λ (a b : Bool). a && b) (ap (usagesCover (usagesAt hs n)) (h n) ∙ cover-no-usages (usagesAt hs n)) (cover-none n hs us h)
+
+and-false : (t : Bool) → (t && false) ≡ false
+and-false true = refl
+and-false false = refl
+
+-- one that is not
+pub cover-fails : (n : ℕ) (hs : CycleHeads) (us : List HeadUsages) (i : ℕ) → i < n → coveredAt hs us i ≡ false → headsCover n hs us ≡ false
+cover-fails zero hs us i lt e = absurd (omega arith)
+cover-fails (suc n) hs us i lt e =
+    elim (ℕ-discrete i n) [
+      | yes q ↦ ap (λ (t : Bool). t && headsCover n hs us) (sym (ap (coveredAt hs us) q) ∙ e)
+      | no ne ↦ ap (λ (t : Bool). coveredAt hs us n && t) (cover-fails n hs us i (omega arith) e) ∙ and-false (coveredAt hs us n)
+    ]

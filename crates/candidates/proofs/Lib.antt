@@ -1,0 +1,4 @@
+pub mod Kept
+pub mod Fields
+pub mod Parts
+pub mod Loops

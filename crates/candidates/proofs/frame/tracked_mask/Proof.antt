@@ -1,0 +1,30 @@
+use borrow.Author.Tests.{not-true, not-false}
+use Rattle.candidates.proofs.Fields as fields
+use borrow.Author.Needs.{needs}
+use Rattle.candidates.proofs.frame.tracked_mask.Statement.{statement}
+use Rattle.candidates.proofs.frame.tracked_mask.Tie as tie
+
+tracks-requires : tie.Need-tracks-requires
+tracks-requires c κs = search needs
+
+returns : tie.Need-returns
+returns c = let s = c .before .before .before in fields.names-none (s .args .goals) (s .args .f .now) (c .before .tracks .result) (c .before .tracks .ensures) (s .pre .few) (not-true (c .before .tracks .result) (c .if1 .taken))
+
+candidate-block-requires : tie.Need-candidate-block-requires
+candidate-block-requires c κs = search needs
+
+mask-requires : tie.Need-mask-requires
+mask-requires c κs = let s = c .before .before .before .before in fields.candidate-block (s .args .goals) (s .args .f .now) (c .candidate-block .result .now) (s .pre) (c .candidate-block .ensures)
+
+returns-2 : tie.Need-returns-2
+returns-2 c = let s = c .before .before .before .before .before in fields.names-some (s .args .goals) (s .args .f .now) (c .before .before .before .tracks .result) (c .before .before .before .tracks .ensures) (not-false (c .before .before .before .tracks .result) (c .before .before .if1 .left)) (c .before .candidate-block .result .now) (c .mask .result) (c .before .candidate-block .ensures) (c .mask .ensures)
+
+pub tracked-mask-spec : {M : Type 1} → statement M
+tracked-mask-spec =
+    tie.close
+    (tie.spec
+    tracks-requires
+    returns
+    candidate-block-requires
+    mask-requires
+    returns-2)

@@ -1,0 +1,35 @@
+-- A workspace in which the merged usages of the frame at index `own` were written, or that frame.
+use mathlib.Core.Path.{_≡_}
+use Prim.Native.Nat.{ℕ, _+_, _<_}
+use mathlib.Core.List.{List, _∷_}
+use Rattle.definition.specs.declared.usages.HeadUsages.{HeadUsages}
+use Rattle.definition.specs.Stack.{Frame}
+use Rattle.buffer.specs.Regions.{region}
+use Rattle.layout.specs.Blocks.{blockSize}
+use Rattle.layout.specs.Work.{mergedStart, mergedOf, stackOf, entriesOf}
+use Rattle.stack.specs.Bytes.{frameBytes, frameAt}
+use Rattle.evaluation.specs.Workspace.{graphIn}
+
+-- the bytes of the merged usages
+abbrev pub mergedBytes : ℕ → ℕ → List ℕ → List ℕ
+mergedBytes goals own work = region (mergedStart goals own) (blockSize goals) work
+
+-- the bytes of the frame
+abbrev pub topBytes : ℕ → ℕ → List ℕ → List ℕ
+topBytes goals own work = frameBytes goals own (graphIn goals work)
+
+-- the frame
+abbrev pub topOf : ℕ → ℕ → List ℕ → Frame
+topOf goals own work = frameAt goals own (graphIn goals work)
+
+-- the merged usages are us; those below and the graph are as they were
+pub record MergedWritten (goals own : ℕ) (us : List HeadUsages) (old new : List ℕ) : Type 0 where
+  pub written : mergedOf goals own new ≡ us
+  pub others : (i : ℕ) → i < own → mergedOf goals i new ≡ mergedOf goals i old
+  pub graph : graphIn goals new ≡ graphIn goals old
+
+-- the frame is f; the frames below, the entries and the merged usages are as they were
+pub record FrameWritten (goals own : ℕ) (f : Frame) (old new : List ℕ) : Type 0 where
+  pub stack : stackOf goals (own + 1) (graphIn goals new) ≡ f ∷ stackOf goals own (graphIn goals old)
+  pub entries : (n : ℕ) → entriesOf goals n (graphIn goals new) ≡ entriesOf goals n (graphIn goals old)
+  pub merged : (i : ℕ) → i < goals → mergedOf goals i new ≡ mergedOf goals i old

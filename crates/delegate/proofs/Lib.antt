@@ -1,0 +1,5 @@
+pub mod Laws
+pub mod Lent
+pub mod Starts
+pub mod Turns
+pub mod Ends

@@ -1,0 +1,196 @@
+-- Entry k after the popped frame, by the ways through the code.
+use mathlib.Core.Path.{_≡_, refl, sym, ap, ap₂, _∙_}
+use mathlib.Core.Bool.{Bool, true, false, not, _&&_}
+use mathlib.Core.Option.{Option, none, some}
+use mathlib.Core.List.{List}
+use Prim.Native.Nat.{ℕ, _<_}
+use native.Mathlib.Omega.{arith}
+use borrow.Author.Tests.{eq-eqb, ne-eqb}
+use lib.Dec.{eqb}
+use lib.ListN.{length}
+use Rattle.definition.specs.declared.paths.PathKind.{PathKind}
+use Rattle.definition.specs.declared.usages.HeadUsages.{HeadUsages}
+use Rattle.definition.specs.declared.heads.CycleHead.{CycleHead}
+use Rattle.definition.specs.declared.answers.Answer.{Answer}
+use Rattle.definition.specs.declared.answers.RebaseReason.{RebaseReason}
+use Rattle.definition.specs.declared.answers.RebaseReason.the-variants.{Ambiguity, FirstFixpoint}
+use Rattle.definition.specs.Paths.{extend, extendWithPaths, emptyPath}
+use Rattle.definition.specs.Usages.{noUsages, isEmpty, isSingle}
+use Rattle.definition.specs.Answers.{sameAnswer, isAmbiguous}
+use Rattle.definition.specs.Heads.{CycleHeads, optHighestIndex, headsEmpty, highestIndex, usagesAt, pathsAt, removeHead, forEachHead}
+use Rattle.definition.specs.Stack.{Stack, Frame, cyclePathKind}
+use Rattle.definition.specs.Graph.{Entry}
+use Rattle.definition.specs.ProvisionalCache.{unusedHead, headThrough, pathsKeepKind, reasonKeeps, rebasedHeads, underNewHead, rebaseEntry}
+use Rattle.stack.specs.Bytes.{frameAt}
+use Rattle.provisional_cache.specs.Entries.{entryAt, withPath}
+use Rattle.provisional_cache.proofs.Tests.{not-true, not-false}
+use Rattle.rebase.specs.Rebased.{gainedHead, gainHead, withHeads, underHeads, keptEntry, OthersKept}
+use Rattle.rebase.proofs.Marks.{none-some, some-none}
+use Rattle.rebase.proofs.Writes.{frame-after}
+
+-- ---- `entry::extend_path`
+pub path-extended : (e n : Entry) (before after kind : PathKind) → n ≡ withPath e after → after ≡ extend before kind → before ≡ e .pathFromHead → n ≡ withPath e (extend (e .pathFromHead) kind)
+path-extended e n before after kind is is-after is-before = is ∙ ap (withPath e) (is-after ∙ ap (λ (x : PathKind). extend x kind) is-before)
+
+-- ---- `gained`
+module _ (used : Bool) (ep : ℕ) (head : CycleHead) (paths : ℕ) where
+  pub gained-through : used ≡ true → paths ≡ extendWithPaths ep (head .paths) → record { paths = paths; usages = head .usages } ≡ gainedHead used ep head
+  gained-through t is = (λ i. record { paths = is i; usages = head .usages }) ∙ sym (ap (λ (x : Bool). gainedHead x ep head) t)
+
+  pub gained-unused : used ≡ false → paths ≡ emptyPath → (u : HeadUsages) → u ≡ noUsages → record { paths = paths; usages = u } ≡ gainedHead used ep head
+  gained-unused t is u is-u = (λ i. record { paths = is i; usages = is-u i }) ∙ sym (ap (λ (x : Bool). gainedHead x ep head) t)
+
+-- ---- `replace_head`: the head is taken out, then the heads of the popped frame are gained
+pub replaced : (goals popped k : ℕ) (used : Bool) (ep : ℕ) (old mid new : List ℕ) → popped < goals → entryAt goals k mid ≡ withHeads (entryAt goals k old) (removeHead ((entryAt goals k old) .heads) popped) → OthersKept goals k old mid
+    → entryAt goals k new ≡ withHeads (entryAt goals k mid) (forEachHead (gainHead used ep) ((entryAt goals k mid) .heads) ((frameAt goals popped mid) .heads))
+    → entryAt goals k new ≡ withHeads (entryAt goals k old) (forEachHead (gainHead used ep) (removeHead ((entryAt goals k old) .heads) popped) ((frameAt goals popped old) .heads))
+replaced goals popped k used ep old mid new lt first others second =
+    second
+    ∙ ap₂ (λ (e : Entry) (f : Frame). withHeads e (forEachHead (gainHead used ep) (e .heads) (f .heads))) first (frame-after goals k old mid others popped lt)
+
+-- ---- `reason_keeps`
+module _ (reason : RebaseReason) (kind result : Answer) (u : HeadUsages) (is : reason ≡ Ambiguity kind) (t : Bool) (is-t : t ≡ isAmbiguous result) where
+  reason-open : (t && sameAnswer result kind) ≡ reasonKeeps reason result u
+  reason-open = ap (λ (x : Bool). x && sameAnswer result kind) is-t ∙ sym (ap (λ (x : RebaseReason). reasonKeeps x result u) is)
+
+  pub reason-same : t ≡ true → (r : Bool) → r ≡ sameAnswer result kind → r ≡ reasonKeeps reason result u
+  reason-same e r is-r = is-r ∙ sym (ap (λ (x : Bool). x && sameAnswer result kind) e) ∙ reason-open
+
+  pub reason-not : t ≡ false → false ≡ reasonKeeps reason result u
+  reason-not e = sym (ap (λ (x : Bool). x && sameAnswer result kind) e) ∙ reason-open
+
+pub reason-single : (reason : RebaseReason) (kind : PathKind) (result : Answer) (u : HeadUsages) → reason ≡ FirstFixpoint kind → (r : Bool) → r ≡ isSingle u kind → r ≡ reasonKeeps reason result u
+reason-single reason kind result u is r is-r = is-r ∙ sym (ap (λ (x : RebaseReason). reasonKeeps x result u) is)
+
+-- ---- `path_to_popped`, of a frame f0 that is p
+pub path-to : (s : Stack) (i : ℕ) (f0 p : Frame) → f0 ≡ p → (k : PathKind) → k ≡ f0 .stepKindFromParent → (r : PathKind) → r ≡ cyclePathKind s k i → r ≡ cyclePathKind s (p .stepKindFromParent) i
+path-to s i f0 p is-p k is-k r is-r = is-r ∙ ap (λ (x : PathKind). cyclePathKind s x i) (is-k ∙ ap (λ (x : Frame). x .stepKindFromParent) is-p)
+
+-- ---- `stays`, of an entry e0 that is e
+module _ (s : Stack) (p : Frame) (reason : RebaseReason) (u : HeadUsages) (ep : ℕ) (e0 e : Entry) (is-e : e0 ≡ e) (k : PathKind) (is-k : k ≡ e0 .pathFromHead) (r : Bool)
+    (is-r : r ≡ pathsKeepKind s (p .stepKindFromParent) k ep 0 (p .heads)) where
+  abbrev both : Bool → Bool
+  both t = t && reasonKeeps reason (e .result) u
+
+  stays-open : both r ≡ both (pathsKeepKind s (p .stepKindFromParent) (e .pathFromHead) ep 0 (p .heads))
+  stays-open = ap both (is-r ∙ ap (λ (x : PathKind). pathsKeepKind s (p .stepKindFromParent) x ep 0 (p .heads)) (is-k ∙ ap (λ (x : Entry). x .pathFromHead) is-e))
+
+  pub stays-not : not r ≡ true → false ≡ both (pathsKeepKind s (p .stepKindFromParent) (e .pathFromHead) ep 0 (p .heads))
+  stays-not d = sym (ap both (not-true r d)) ∙ stays-open
+
+  pub stays-by : not r ≡ false → (a : Answer) → a ≡ e0 .result → (t : Bool) → t ≡ reasonKeeps reason a u → t ≡ both (pathsKeepKind s (p .stepKindFromParent) (e .pathFromHead) ep 0 (p .heads))
+  stays-by d a is-a t is-t =
+      is-t ∙ ap (λ (x : Answer). reasonKeeps reason x u) (is-a ∙ ap (λ (x : Entry). x .result) is-e)
+      ∙ sym (ap both (not-false r d)) ∙ stays-open
+
+-- ---- `rebase_heads`
+module _ (s : Stack) (p : Frame) (reason : RebaseReason) (e : Entry) (popped : ℕ) (high : length s ≡ popped) (u : HeadUsages) (ep : ℕ) where
+  abbrev headsBy : Bool → Bool → Option CycleHeads
+  headsBy t v =
+      elim t [
+        | true ↦ some (forEachHead unusedHead (removeHead (e .heads) (length s)) (p .heads))
+        | false ↦ elim v [ true ↦ some (forEachHead (headThrough ep) (removeHead (e .heads) (length s)) (p .heads)) | false ↦ none ]
+      ]
+
+  abbrev stay : Bool
+  stay = pathsKeepKind s (p .stepKindFromParent) (e .pathFromHead) ep 0 (p .heads) && reasonKeeps reason (e .result) u
+
+  by : (t v : Bool) → t ≡ isEmpty u → v ≡ stay → underHeads e (headsBy t v) ≡ underHeads e (rebasedHeads s p reason e u ep)
+  by t v is-t is-v = ap₂ (λ (x y : Bool). underHeads e (headsBy x y)) is-t is-v
+
+  module _ (u0 : HeadUsages) (ep0 : ℕ) (is-u : u ≡ u0) (is-ep : ep ≡ ep0) where
+    same : underHeads e (rebasedHeads s p reason e u ep) ≡ underHeads e (rebasedHeads s p reason e u0 ep0)
+    same = ap₂ (λ (x : HeadUsages) (y : ℕ). underHeads e (rebasedHeads s p reason e x y)) is-u is-ep
+
+    module _ (t : Bool) (is-t : t ≡ isEmpty u) where
+      pub heads-unused : t ≡ true → (n : Entry) → n ≡ withHeads e (forEachHead (gainHead false ep) (removeHead (e .heads) popped) (p .heads)) → some n ≡ underHeads e (rebasedHeads s p reason e u0 ep0)
+      heads-unused now n is =
+          ap some (is ∙ ap (λ (x : ℕ). withHeads e (forEachHead unusedHead (removeHead (e .heads) x) (p .heads))) (sym high))
+          ∙ sym (ap (λ (x : Bool). underHeads e (headsBy x stay)) now)
+          ∙ by t stay is-t refl ∙ same
+
+      module _ (now : t ≡ false) (v : Bool) (is-v : v ≡ stay) where
+        pub heads-dropped : not v ≡ true → none ≡ underHeads e (rebasedHeads s p reason e u0 ep0)
+        heads-dropped d = sym (ap₂ (λ (x y : Bool). underHeads e (headsBy x y)) now (not-true v d)) ∙ by t v is-t is-v ∙ same
+
+        pub heads-through : not v ≡ false → (n : Entry) → n ≡ withHeads e (forEachHead (gainHead true ep) (removeHead (e .heads) popped) (p .heads)) → some n ≡ underHeads e (rebasedHeads s p reason e u0 ep0)
+        heads-through d n is =
+            ap some (is ∙ ap (λ (x : ℕ). withHeads e (forEachHead (headThrough ep) (removeHead (e .heads) x) (p .heads))) (sym high))
+            ∙ sym (ap₂ (λ (x y : Bool). underHeads e (headsBy x y)) now (not-false v d)) ∙ by t v is-t is-v ∙ same
+
+-- ---- `rebase_path`
+module _ (s : Stack) (p : Frame) (e : Entry) where
+  abbrev newPath : ℕ → Entry
+  newPath i = withPath e (extend (e .pathFromHead) (cyclePathKind s (p .stepKindFromParent) i))
+
+  abbrev under : Option ℕ → Option Entry
+  under o = elim o [ none ↦ none | some i ↦ some (newPath i) ]
+
+  module _ (hs : CycleHeads) (is-hs : hs ≡ e .heads) (t : Bool) (is-t : t ≡ headsEmpty hs) where
+    empty-is : (o : Option ℕ) → optHighestIndex (e .heads) ≡ o → elim o [ none ↦ true | some i ↦ false ] ≡ t
+    empty-is o q = ap (λ (x : Option ℕ). elim x [ none ↦ true | some i ↦ false ]) (sym q) ∙ sym (is-t ∙ ap headsEmpty is-hs)
+
+    pub path-none : t ≡ true → none ≡ underNewHead s p e (e .heads)
+    path-none now = go (optHighestIndex (e .heads)) refl
+      where
+        go : (o : Option ℕ) → optHighestIndex (e .heads) ≡ o → none ≡ under (optHighestIndex (e .heads))
+        go none q = sym (ap under q)
+        go (some i) q = let x = empty-is (some i) q in let z : _≡_ {A = ℕ} 0 1 = cc in absurd (omega arith)
+
+    pub path-some : t ≡ false → (i : ℕ) → i ≡ highestIndex hs → (k : PathKind) → k ≡ cyclePathKind s (p .stepKindFromParent) i → (n : Entry) → n ≡ withPath e (extend (e .pathFromHead) k)
+        → some n ≡ underNewHead s p e (e .heads)
+    path-some now i is-i k is-k n is-n = go (optHighestIndex (e .heads)) refl
+      where
+        high : (o : Option ℕ) → optHighestIndex (e .heads) ≡ o → i ≡ elim o [ none ↦ 0 | some j ↦ j ]
+        high o q = is-i ∙ ap highestIndex is-hs ∙ ap (λ (x : Option ℕ). elim x [ none ↦ 0 | some j ↦ j ]) q
+
+        go : (o : Option ℕ) → optHighestIndex (e .heads) ≡ o → some n ≡ under (optHighestIndex (e .heads))
+        go none q = let x = empty-is none q in let z : _≡_ {A = ℕ} 0 1 = cc in absurd (omega arith)
+        go (some j) q =
+            ap some (is-n ∙ ap (λ (x : PathKind). withPath e (extend (e .pathFromHead) x)) (is-k ∙ ap (cyclePathKind s (p .stepKindFromParent)) (high (some j) q)))
+            ∙ sym (ap under q)
+
+-- ---- `rebase_entry`
+module _ (s : Stack) (p : Frame) (reason : RebaseReason) (e : Entry) (popped : ℕ) (high : length s ≡ popped) (h : ℕ) (is-h : h ≡ highestIndex (e .heads)) where
+  abbrev rebased : ℕ → Option CycleHeads
+  rebased n = rebasedHeads s p reason e (usagesAt (e .heads) n) (pathsAt (e .heads) n)
+
+  abbrev then : Option CycleHeads → Option Entry
+  then o = elim o [ none ↦ none | some hs ↦ underNewHead s p e hs ]
+
+  abbrev choice : Bool → Option Entry
+  choice t = elim t [ false ↦ some e | true ↦ then (rebased (length s)) ]
+
+  at : eqb h popped ≡ eqb (highestIndex (e .heads)) (length s)
+  at = ap₂ eqb is-h (sym high)
+
+  pub entry-other : (h ≡ popped → ⊥) → some e ≡ rebaseEntry s p reason e
+  entry-other ne = sym (ap choice (sym at ∙ ne-eqb h popped ne))
+
+  module _ (same : h ≡ popped) where
+    opened : then (rebased popped) ≡ rebaseEntry s p reason e
+    opened = ap (λ (n : ℕ). then (rebased n)) (sym high) ∙ sym (ap choice (sym at ∙ eq-eqb h popped same))
+
+    module _ (keep : Bool) (mid : Entry) (is-mid : keptEntry keep mid ≡ underHeads e (rebased popped)) where
+      pub entry-dropped : not keep ≡ true → none ≡ rebaseEntry s p reason e
+      entry-dropped d = go (rebased popped) refl ∙ opened
+        where
+          gone : none ≡ underHeads e (rebased popped)
+          gone = sym (ap (λ (x : Bool). keptEntry x mid) (not-true keep d)) ∙ is-mid
+
+          go : (o : Option CycleHeads) → rebased popped ≡ o → none ≡ then (rebased popped)
+          go none q = sym (ap then q)
+          go (some hs) q = none-some (withHeads e hs) (gone ∙ ap (underHeads e) q)
+
+      pub entry-under : not keep ≡ false → (o : Option Entry) (s1 : Stack) (p1 : Frame) → s1 ≡ s → p1 ≡ p → o ≡ underNewHead s1 p1 mid (mid .heads) → o ≡ rebaseEntry s p reason e
+      entry-under d o s1 p1 is-s is-p is-o = is-o ∙ ap₂ (λ (x : Stack) (y : Frame). underNewHead x y mid (mid .heads)) is-s is-p ∙ go (rebased popped) refl ∙ opened
+        where
+          stays : some mid ≡ underHeads e (rebased popped)
+          stays = sym (ap (λ (x : Bool). keptEntry x mid) (not-false keep d)) ∙ is-mid
+
+          go : (c : Option CycleHeads) → rebased popped ≡ c → underNewHead s p mid (mid .heads) ≡ then (rebased popped)
+          go none q = some-none mid (stays ∙ ap (underHeads e) q)
+          go (some hs) q =
+              let x = stays ∙ ap (underHeads e) q in
+              let m : mid ≡ withHeads e hs = cc in
+              ap (λ (y : Entry). underNewHead s p y (y .heads)) m ∙ sym (ap then q)

@@ -1,0 +1,7 @@
+pub mod Tests
+pub mod Marks
+pub mod Writes
+pub mod Loops
+pub mod Entries
+pub mod Rounds
+pub mod Outcomes

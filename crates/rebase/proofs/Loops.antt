@@ -1,0 +1,186 @@
+-- The turns of the loops over the heads of the popped frame.
+use mathlib.Core.Path.{_≡_, refl, sym, ap, ap₂, _∙_}
+use mathlib.Core.Bool.{Bool, true, false, not, _&&_}
+use mathlib.Core.Option.{Option, none, some}
+use mathlib.Core.List.{List, [], _∷_, _++_}
+use Prim.Native.Nat.{ℕ, zero, suc, _+_, _^_, _≤_, _<_}
+use native.Mathlib.Nat.{zero-add, add-zero}
+use native.Mathlib.Omega.{arith}
+use lib.ListN.{length, getD, set, replicate}
+use Rattle.definition.specs.declared.paths.PathKind.{PathKind}
+use Rattle.definition.specs.declared.heads.CycleHead.{CycleHead}
+use Rattle.definition.specs.Paths.{extend, iterPaths}
+use Rattle.definition.specs.Heads.{CycleHeads, joinHead, insertHead, forEachHead}
+use Rattle.definition.specs.Stack.{Stack, Frame, cyclePathKind}
+use Rattle.definition.specs.Graph.{Entry}
+use Rattle.definition.specs.ProvisionalCache.{everyPhKeeps, pathsKeepKind}
+use Rattle.bits.specs.Masks.{flags, firstPlace, placeOr}
+use Rattle.layout.specs.Blocks.{present}
+use Rattle.stack.specs.Bytes.{frameAt}
+use Rattle.provisional_cache.specs.Entries.{entryAt}
+use Rattle.provisional_cache.proofs.Tests.{not-true, not-false}
+use Rattle.rebase.specs.Rebased.{gainedHead, gainHead, withHeads, OthersKept}
+use Rattle.rebase.proofs.Marks.{none-some, some-none, keep, Within, start-all, start-within, turn-small, turn-head, turn-kept, turn-rest, turn-within, end-none}
+use Rattle.rebase.proofs.Writes.{others-same, others-then, frame-after, popped-length}
+
+-- ---- `paths_keep_kind`
+and-swap : (a b c : Bool) → (a && (b && c)) ≡ (b && (a && c))
+and-swap true b c = refl
+and-swap false true c = refl
+and-swap false false c = refl
+
+module _ (s : Stack) (step path : PathKind) (ep : ℕ) where
+  -- whether the paths from the head c at index i keep their kind
+  abbrev pub keepsAt : ℕ → CycleHead → Bool
+  keepsAt i c = everyPhKeeps (cyclePathKind s step i) (extend (cyclePathKind s step i) path) (iterPaths ep) (iterPaths (c .paths))
+
+  pub head-keeps-is : (i : ℕ) (c h : CycleHead) → h ≡ c → (hp : PathKind) → hp ≡ cyclePathKind s step i → (he : PathKind) → he ≡ extend hp path
+      → (r : Bool) → r ≡ everyPhKeeps hp he (iterPaths ep) (iterPaths (h .paths)) → r ≡ keepsAt i c
+  head-keeps-is i c h is-h hp is-hp he is-he r is-r =
+      is-r
+      ∙ ap₂ (λ (x : PathKind) (y : CycleHead). everyPhKeeps hp x (iterPaths ep) (iterPaths (y .paths))) is-he is-h
+      ∙ ap (λ (x : PathKind). everyPhKeeps x (extend x path) (iterPaths ep) (iterPaths (c .paths))) is-hp
+
+  -- one head c of the heads ms
+  keep-one : (ms : CycleHeads) (j i : ℕ) (c : CycleHead) → getD ms i none ≡ some c
+      → pathsKeepKind s step path ep j ms ≡ (keepsAt (j + i) c && pathsKeepKind s step path ep j (set ms i none))
+  keep-one [] j i c e = none-some c e
+  keep-one (none ∷ ms) j zero c e = none-some c e
+  keep-one (some d ∷ ms) j zero c e =
+      let q : d ≡ c = cc in
+      ap₂ (λ (k : ℕ) (x : CycleHead). keepsAt k x && pathsKeepKind s step path ep (suc j) ms) (sym (add-zero j)) q
+  keep-one (none ∷ ms) j (suc i) c e =
+      let m : suc j + i ≡ j + suc i = omega arith in
+      keep-one ms (suc j) i c e ∙ ap (λ (k : ℕ). keepsAt k c && pathsKeepKind s step path ep (suc j) (set ms i none)) m
+  keep-one (some d ∷ ms) j (suc i) c e =
+      let m : suc j + i ≡ j + suc i = omega arith in
+      ap (λ (x : Bool). keepsAt j d && x) (keep-one ms (suc j) i c e ∙ ap (λ (k : ℕ). keepsAt k c && pathsKeepKind s step path ep (suc j) (set ms i none)) m)
+      ∙ and-swap (keepsAt j d) (keepsAt (j + suc i) c) (pathsKeepKind s step path ep (suc j) (set ms i none))
+
+  keep-clear : (ms : CycleHeads) (j : ℕ) → ((i : ℕ) → getD ms i none ≡ none) → pathsKeepKind s step path ep j ms ≡ true
+  keep-clear [] j h = refl
+  keep-clear (none ∷ ms) j h = keep-clear ms (suc j) (λ i. h (suc i))
+  keep-clear (some c ∷ ms) j h = some-none c (h 0)
+
+  module _ (cs : CycleHeads) where
+    -- the heads that are left make the whole
+    pub record Keeping (left : ℕ) : Type 0 where
+      pub small : left < 2 ^ 64
+      pub within : Within left cs
+      pub rest : pathsKeepKind s step path ep 0 (keep (flags 64 left) cs) ≡ pathsKeepKind s step path ep 0 cs
+
+    pub keeping-start : (left n : ℕ) → left < 2 ^ 64 → flags 64 left ≡ present cs ++ replicate n false → Keeping left
+    keeping-start left n small is =
+        record { small = small; within = start-within cs left n is; rest = ap (pathsKeepKind s step path ep 0) (start-all cs left n is) }
+
+    module _ (left i : ℕ) (inv : Keeping left) (pos : 0 < left) (is : i ≡ placeOr 64 (firstPlace (flags 64 left))) (r : Bool) (is-r : (c : CycleHead) → getD cs i none ≡ some c → r ≡ keepsAt i c) where
+      keeping-open : (r && pathsKeepKind s step path ep 0 (set (keep (flags 64 left) cs) i none)) ≡ pathsKeepKind s step path ep 0 cs
+      keeping-open =
+          let t = turn-head cs left i pos (inv .small) (inv .within) is in
+          let ms : CycleHeads = keep (flags 64 left) cs in
+          ap (λ (x : Bool). x && pathsKeepKind s step path ep 0 (set ms i none)) (is-r (t .0) (t .1) ∙ ap (λ (k : ℕ). keepsAt k (t .0)) (sym (zero-add i)))
+          ∙ sym (keep-one ms 0 i (t .0) (turn-kept cs left i pos (inv .small) (inv .within) is ∙ t .1))
+          ∙ inv .rest
+
+      pub keeping-fails : not r ≡ true → false ≡ pathsKeepKind s step path ep 0 cs
+      keeping-fails e = sym (ap (λ (x : Bool). x && pathsKeepKind s step path ep 0 (set (keep (flags 64 left) cs) i none)) (not-true r e)) ∙ keeping-open
+
+      pub keeping-next : not r ≡ false → (left′ : ℕ) → flags 64 left′ ≡ set (flags 64 left) (placeOr 64 (firstPlace (flags 64 left))) false → left′ < left → Keeping left′
+      keeping-next e left′ is-left less =
+          let old = inv .small in
+          record {
+            small = omega arith;
+            within = turn-within cs left i pos (inv .small) (inv .within) is left′ is-left;
+            rest =
+                ap (pathsKeepKind s step path ep 0) (turn-rest cs left i pos (inv .small) (inv .within) is left′ is-left)
+                ∙ sym (ap (λ (x : Bool). x && pathsKeepKind s step path ep 0 (set (keep (flags 64 left) cs) i none)) (not-false r e)) ∙ keeping-open;
+          }
+
+    pub keeping-done : (left : ℕ) → Keeping left → left ≤ 0 → true ≡ pathsKeepKind s step path ep 0 cs
+    keeping-done left inv h = sym (keep-clear (keep (flags 64 left) cs) 0 (end-none cs left h)) ∙ inv .rest
+
+-- ---- `gain_heads`
+module _ (f : CycleHead → Option CycleHead → CycleHead) where
+  -- one head c of the heads ms
+  each-one : (hs ms : CycleHeads) (i : ℕ) (c : CycleHead) → getD ms i none ≡ some c → forEachHead f (set hs i (some (f c (getD hs i none)))) (set ms i none) ≡ forEachHead f hs ms
+  each-one [] ms i c e = refl
+  each-one (h ∷ hs) [] i c e = none-some c e
+  each-one (h ∷ hs) (none ∷ ms) zero c e = none-some c e
+  each-one (h ∷ hs) (some d ∷ ms) zero c e = let q : c ≡ d = cc in ap (λ (x : CycleHead). some (f x h) ∷ forEachHead f hs ms) q
+  each-one (h ∷ hs) (none ∷ ms) (suc i) c e = ap (λ (l : CycleHeads). h ∷ l) (each-one hs ms i c e)
+  each-one (h ∷ hs) (some d ∷ ms) (suc i) c e = ap (λ (l : CycleHeads). some (f d h) ∷ l) (each-one hs ms i c e)
+
+  each-clear : (hs ms : CycleHeads) → ((i : ℕ) → getD ms i none ≡ none) → forEachHead f hs ms ≡ hs
+  each-clear [] ms h = refl
+  each-clear (x ∷ hs) [] h = refl
+  each-clear (x ∷ hs) (none ∷ ms) h = ap (λ (l : CycleHeads). x ∷ l) (each-clear hs ms (λ i. h (suc i)))
+  each-clear (x ∷ hs) (some c ∷ ms) h = some-none c (h 0)
+
+module _ (goals popped k : ℕ) (used : Bool) (ep : ℕ) (old : List ℕ) where
+  abbrev cs : CycleHeads
+  cs = (frameAt goals popped old) .heads
+
+  abbrev whole : CycleHeads
+  whole = forEachHead (gainHead used ep) ((entryAt goals k old) .heads) cs
+
+  -- the entry so far, and the heads that are left, make the whole
+  pub record Gaining (new : List ℕ) (left : ℕ) : Type 0 where
+    pub same-length : length new ≡ length old
+    pub small : left < 2 ^ 64
+    pub within : Within left ((frameAt goals popped old) .heads)
+    pub others : OthersKept goals k old new
+    pub entry : entryAt goals k new ≡ withHeads (entryAt goals k old) ((entryAt goals k new) .heads)
+    pub rest : forEachHead (gainHead used ep) ((entryAt goals k new) .heads) (keep (flags 64 left) ((frameAt goals popped old) .heads)) ≡ forEachHead (gainHead used ep) ((entryAt goals k old) .heads) ((frameAt goals popped old) .heads)
+
+  pub gaining-start : (left n : ℕ) → left < 2 ^ 64 → flags 64 left ≡ present cs ++ replicate n false → Gaining old left
+  gaining-start left n small is =
+      record {
+        same-length = refl;
+        small = small;
+        within = start-within cs left n is;
+        others = others-same goals k old;
+        entry = refl;
+        rest = ap (forEachHead (gainHead used ep) ((entryAt goals k old) .heads)) (start-all cs left n is);
+      }
+
+  module _ (now : List ℕ) (left i : ℕ) (inv : Gaining now left) (pos : 0 < left) (is : i ≡ placeOr 64 (firstPlace (flags 64 left))) where
+    pub gaining-small : i < goals
+    gaining-small = turn-small cs left i pos (inv .small) (inv .within) is goals (popped-length goals popped old)
+
+    module _ (lt : popped < goals) (r head : CycleHead) (is-r : (c : CycleHead) → getD ((frameAt goals popped now) .heads) i none ≡ some c → r ≡ c) (is-head : head ≡ gainedHead used ep r) (new : List ℕ)
+        (joined : entryAt goals k new ≡ withHeads (entryAt goals k now) (insertHead ((entryAt goals k now) .heads) i (head .paths) (head .usages))) where
+      abbrev hs : CycleHeads
+      hs = (entryAt goals k now) .heads
+
+      same-heads : (frameAt goals popped now) .heads ≡ cs
+      same-heads = ap (λ (x : Frame). x .heads) (frame-after goals k old now (inv .others) popped lt)
+
+      new-heads : (c : CycleHead) → getD cs i none ≡ some c → (entryAt goals k new) .heads ≡ set hs i (some (gainHead used ep c (getD hs i none)))
+      new-heads c e =
+          ap (λ (x : Entry). x .heads) joined
+          ∙ ap (λ (x : CycleHead). set hs i (some (joinHead (getD hs i none) (x .paths) (x .usages))))
+          (is-head ∙ ap (gainedHead used ep) (is-r c (ap (λ (l : CycleHeads). getD l i none) same-heads ∙ e)))
+
+      pub gaining-next : OthersKept goals k now new → length new ≡ length now → (left′ : ℕ) → flags 64 left′ ≡ set (flags 64 left) (placeOr 64 (firstPlace (flags 64 left))) false → left′ < left → Gaining new left′
+      gaining-next others len left′ is-left less =
+          let was = inv .small in
+          let t = turn-head cs left i pos (inv .small) (inv .within) is in
+          let ms : CycleHeads = keep (flags 64 left) cs in
+          record {
+            same-length = len ∙ inv .same-length;
+            small = omega arith;
+            within = turn-within cs left i pos (inv .small) (inv .within) is left′ is-left;
+            others = others-then goals k old now new (inv .others) others;
+            entry =
+                joined
+                ∙ ap₂ withHeads (inv .entry) (sym (ap (λ (x : Entry). x .heads) joined));
+            rest =
+                ap₂ (forEachHead (gainHead used ep)) (new-heads (t .0) (t .1)) (turn-rest cs left i pos (inv .small) (inv .within) is left′ is-left)
+                ∙ each-one (gainHead used ep) hs ms i (t .0) (turn-kept cs left i pos (inv .small) (inv .within) is ∙ t .1)
+                ∙ inv .rest;
+          }
+
+  pub gaining-done : (now : List ℕ) (left : ℕ) → Gaining now left → left ≤ 0 → entryAt goals k now ≡ withHeads (entryAt goals k old) whole
+  gaining-done now left inv h =
+      inv .entry
+      ∙ ap (withHeads (entryAt goals k old)) (sym (each-clear (gainHead used ep) ((entryAt goals k now) .heads) (keep (flags 64 left) cs) (end-none cs left h)) ∙ inv .rest)

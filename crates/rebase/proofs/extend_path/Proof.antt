@@ -1,0 +1,49 @@
+use Rattle.definition.specs.Paths.{extend}
+use Rattle.provisional_cache.specs.Entries.{withPath}
+use Rattle.definition.specs.Graph.{Entry}
+use Rattle.provisional_cache.proofs.Entries.{part-room}
+use Rattle.rebase.proofs.Writes.{entry-written, others-written}
+use borrow.Author.Needs.{needs}
+use Rattle.rebase.proofs.extend_path.Statement.{statement}
+use Rattle.rebase.proofs.extend_path.Tie as tie
+
+entry-start-requires : tie.Need-entry-start-requires
+entry-start-requires c κs = search needs
+
+entry-size-requires : tie.Need-entry-size-requires
+entry-size-requires c κs = search needs
+
+add-z : tie.Need-add-z
+add-z c = search needs
+
+sub-extend-path : tie.Need-sub-extend-path
+sub-extend-path c = search needs
+
+part-extend-path-start : tie.Need-part-extend-path-start
+part-extend-path-start c = search needs
+
+part-extend-path-end : tie.Need-part-extend-path-end
+part-extend-path-end c = let s = c .before .before .before in part-room (s .args .goals) (s .args .graph .now) (s .args .k) (c .before .entry-start .result) (c .entry-size .result) (s .pre .0) (s .pre .1) (c .before .entry-start .ensures .0) (c .entry-size .ensures)
+
+extend-path-requires : tie.Need-extend-path-requires
+extend-path-requires c κs = search needs
+
+same-length : tie.Need-same-length
+same-length c = search needs
+
+returns : tie.Need-returns
+returns c = let s = c .before .before .before .before .before .before .before in let a = s .args in let b = c .before .before .extend-path in (entry-written (a .goals) (a .graph .now) (a .k) (c .before .before .before .before .before .entry-start .result) (c .before .before .before .before .entry-size .result) (s .pre .0) (s .pre .1) (c .before .before .before .before .before .entry-start .ensures .0) (c .before .before .before .before .entry-size .ensures) (b .last .0) (b .kept .0) (λ (e : Entry). withPath e (extend (e .pathFromHead) (a .kind))) (b .ensures), others-written (a .goals) (a .graph .now) (a .k) (c .before .before .before .before .before .entry-start .result) (c .before .before .before .before .entry-size .result) (s .pre .0) (s .pre .1) (c .before .before .before .before .before .entry-start .ensures .0) (c .before .before .before .before .entry-size .ensures) (b .last .0) (b .kept .0))
+
+pub extend-path-spec : {M : Type 1} → statement M
+extend-path-spec =
+    tie.close
+    (tie.spec
+    entry-start-requires
+    entry-size-requires
+    add-z
+    sub-extend-path
+    part-extend-path-start
+    part-extend-path-end
+    extend-path-requires
+    same-length
+    returns)

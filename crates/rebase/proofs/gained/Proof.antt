@@ -1,0 +1,29 @@
+use Rattle.rebase.proofs.Entries.{gained-through, gained-unused}
+use borrow.Author.Needs.{needs}
+use Rattle.rebase.proofs.gained.Statement.{statement}
+use Rattle.rebase.proofs.gained.Tie as tie
+
+extend-with-paths-requires : tie.Need-extend-with-paths-requires
+extend-with-paths-requires c κs = search needs
+
+returns : tie.Need-returns
+returns c = let a = c .before .before .before .args in gained-through (a .used) (a .eps .bits) (a .head) (c .before .extend-with-paths .result .bits) (c .before .before .if1 .taken) (c .before .extend-with-paths .ensures)
+
+empty-path-requires : tie.Need-empty-path-requires
+empty-path-requires c κs = search needs
+
+none-requires : tie.Need-none-requires
+none-requires c κs = search needs
+
+returns-2 : tie.Need-returns-2
+returns-2 c = let a = c .before .before .before .args in gained-unused (a .used) (a .eps .bits) (a .head) (c .before .empty-path .result .bits) (c .before .before .if1 .left) (c .before .empty-path .ensures) (c .none .result) (c .none .ensures)
+
+pub gained-spec : {M : Type 1} → statement M
+gained-spec =
+    tie.close
+    (tie.spec
+    extend-with-paths-requires
+    returns
+    empty-path-requires
+    none-requires
+    returns-2)

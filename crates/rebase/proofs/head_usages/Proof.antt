@@ -1,0 +1,18 @@
+use mathlib.Core.Path.{ap, _∙_}
+use Rattle.definition.specs.Heads.{CycleHeads, usagesAt}
+use Rattle.rebase.proofs.Writes.{entry-heads-at, entry-block}
+use borrow.Author.Needs.{needs}
+use Rattle.rebase.proofs.head_usages.Statement.{statement}
+use Rattle.rebase.proofs.head_usages.Tie as tie
+
+entry-heads-requires : tie.Need-entry-heads-requires
+entry-heads-requires c κs = search needs
+
+usages-requires : tie.Need-usages-requires
+usages-requires c κs = let s = c .before .before in (entry-heads-at (s .args .goals) (s .args .k) (s .args .graph .now) (c .entry-heads .result .now) (s .pre .0) (s .pre .1 .0) (c .entry-heads .ensures), s .pre .1 .1)
+
+returns : tie.Need-returns
+returns c = let a = c .before .before .before .args in c .usages .ensures ∙ ap (λ (hs : CycleHeads). usagesAt hs (a .i)) (entry-block (a .goals) (a .k) (a .graph .now) (c .before .entry-heads .result .now) (c .before .entry-heads .ensures))
+
+pub head-usages-spec : {M : Type 1} → statement M
+head-usages-spec = tie.close (tie.spec entry-heads-requires usages-requires returns)

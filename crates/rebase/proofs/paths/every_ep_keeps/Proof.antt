@@ -1,0 +1,46 @@
+use mathlib.Core.Path.{refl}
+use mathlib.Core.List.{List}
+use Rattle.definition.specs.declared.paths.PathKind.{PathKind}
+use Rattle.definition.specs.Paths.{containedIn}
+use Rattle.definition.specs.ProvisionalCache.{everyEpKeeps}
+use Rattle.rebase.proofs.Tests.{fails-1, fails-2, fails-3, last-4}
+use borrow.Author.Needs.{needs}
+use Rattle.rebase.proofs.paths.every_ep_keeps.Statement.{statement}
+use Rattle.rebase.proofs.paths.every_ep_keeps.Tie as tie
+
+ep-keeps-requires : tie.Need-ep-keeps-requires
+ep-keeps-requires c κs = search needs
+
+returns : tie.Need-returns
+returns c = let a = c .before .before .args in fails-1 (λ (ks : List PathKind). everyEpKeeps (a .hph) (a .he) (a .ph) (containedIn (a .eps .bits) ks)) refl (c .before .ep-keeps .result) (c .before .ep-keeps .ensures) (c .if1 .taken)
+
+ep-keeps-requires-2 : tie.Need-ep-keeps-requires-2
+ep-keeps-requires-2 c κs = search needs
+
+returns-2 : tie.Need-returns-2
+returns-2 c = let a = c .before .before .before .before .args in fails-2 (λ (ks : List PathKind). everyEpKeeps (a .hph) (a .he) (a .ph) (containedIn (a .eps .bits) ks)) refl (c .before .before .before .ep-keeps .result) (c .before .before .before .ep-keeps .ensures) (c .before .before .if1 .left) (c .before .ep-keeps2 .result) (c .before .ep-keeps2 .ensures) (c .if2 .taken)
+
+ep-keeps-requires-3 : tie.Need-ep-keeps-requires-3
+ep-keeps-requires-3 c κs = search needs
+
+returns-3 : tie.Need-returns-3
+returns-3 c = let a = c .before .before .before .before .before .before .args in fails-3 (λ (ks : List PathKind). everyEpKeeps (a .hph) (a .he) (a .ph) (containedIn (a .eps .bits) ks)) refl (c .before .before .before .before .before .ep-keeps .result) (c .before .before .before .before .before .ep-keeps .ensures) (c .before .before .before .before .if1 .left) (c .before .before .before .ep-keeps2 .result) (c .before .before .before .ep-keeps2 .ensures) (c .before .before .if2 .left) (c .before .ep-keeps3 .result) (c .before .ep-keeps3 .ensures) (c .if3 .taken)
+
+ep-keeps-requires-4 : tie.Need-ep-keeps-requires-4
+ep-keeps-requires-4 c κs = search needs
+
+returns-4 : tie.Need-returns-4
+returns-4 c = let a = c .before .before .before .before .before .before .before .args in last-4 (λ (ks : List PathKind). everyEpKeeps (a .hph) (a .he) (a .ph) (containedIn (a .eps .bits) ks)) refl (c .before .before .before .before .before .before .ep-keeps .result) (c .before .before .before .before .before .before .ep-keeps .ensures) (c .before .before .before .before .before .if1 .left) (c .before .before .before .before .ep-keeps2 .result) (c .before .before .before .before .ep-keeps2 .ensures) (c .before .before .before .if2 .left) (c .before .before .ep-keeps3 .result) (c .before .before .ep-keeps3 .ensures) (c .before .if3 .left) (c .ep-keeps4 .result) (c .ep-keeps4 .ensures)
+
+pub every-ep-keeps-spec : {M : Type 1} → statement M
+every-ep-keeps-spec =
+    tie.close
+    (tie.spec
+    ep-keeps-requires
+    returns
+    ep-keeps-requires-2
+    returns-2
+    ep-keeps-requires-3
+    returns-3
+    ep-keeps-requires-4
+    returns-4)

@@ -1,0 +1,21 @@
+use mathlib.Core.Path.{sym, ap, _∙_}
+use mathlib.Core.Option.{none}
+use lib.ListN.{getD}
+use Rattle.definition.specs.Heads.{CycleHeads}
+use Rattle.layout.proofs.Present.{head-bytes}
+use Rattle.rebase.proofs.Writes.{popped-heads-block, popped-block}
+use borrow.Author.Needs.{needs}
+use Rattle.rebase.proofs.popped_head.Statement.{statement}
+use Rattle.rebase.proofs.popped_head.Tie as tie
+
+popped-heads-requires : tie.Need-popped-heads-requires
+popped-heads-requires c κs = search needs
+
+record-requires : tie.Need-record-requires
+record-requires c κs = let s = c .before .before in (popped-heads-block (s .args .goals) (s .args .popped) (s .args .graph .now) (c .popped-heads .result .now) (s .pre .0) (s .pre .1 .0) (c .popped-heads .ensures), s .pre .1 .1)
+
+returns : tie.Need-returns
+returns c h e = let s = c .before .before .before in let a = s .args in c .«record» .ensures ∙ head-bytes (a .goals) (c .before .popped-heads .result .now) (a .i) (s .pre .1 .1) h (ap (λ (hs : CycleHeads). getD hs (a .i) none) (popped-block (a .goals) (a .popped) (a .graph .now) (c .before .popped-heads .result .now) (c .before .popped-heads .ensures)) ∙ e)
+
+pub popped-head-spec : {M : Type 1} → statement M
+popped-head-spec = tie.close (tie.spec popped-heads-requires record-requires returns)

@@ -1,0 +1,23 @@
+use mathlib.Core.Path.{ap, _∙_}
+use mathlib.Core.Bool.{false}
+use mathlib.Core.List.{_++_}
+use Prim.Native.Nat.{_-_}
+use lib.ListN.{replicate}
+use Rattle.definition.specs.Heads.{CycleHeads}
+use Rattle.layout.specs.Blocks.{present}
+use Rattle.rebase.proofs.Writes.{popped-heads-block, popped-block}
+use borrow.Author.Needs.{needs}
+use Rattle.rebase.proofs.popped_mask.Statement.{statement}
+use Rattle.rebase.proofs.popped_mask.Tie as tie
+
+popped-heads-requires : tie.Need-popped-heads-requires
+popped-heads-requires c κs = search needs
+
+mask-requires : tie.Need-mask-requires
+mask-requires c κs = let s = c .before .before in popped-heads-block (s .args .goals) (s .args .popped) (s .args .graph .now) (c .popped-heads .result .now) (s .pre .0) (s .pre .1) (c .popped-heads .ensures)
+
+returns : tie.Need-returns
+returns c = let a = c .before .before .before .args in c .mask .ensures ∙ ap (λ (hs : CycleHeads). present hs ++ replicate (64 - a .goals) false) (popped-block (a .goals) (a .popped) (a .graph .now) (c .before .popped-heads .result .now) (c .before .popped-heads .ensures))
+
+pub popped-mask-spec : {M : Type 1} → statement M
+popped-mask-spec = tie.close (tie.spec popped-heads-requires mask-requires returns)

@@ -1,0 +1,57 @@
+use Rattle.rebase.proofs.Entries.{reason-same, reason-not, reason-single}
+use borrow.Author.Needs.{needs}
+use Rattle.rebase.proofs.reason_keeps.Statement.{statement}
+use Rattle.rebase.proofs.reason_keeps.Tie as tie
+
+enum-told : tie.Need-enum-told
+enum-told c = search needs
+
+enum-known-reason : tie.Need-enum-known-reason
+enum-known-reason c = search needs
+
+is-ambiguous-requires : tie.Need-is-ambiguous-requires
+is-ambiguous-requires c κs = search needs
+
+same-requires : tie.Need-same-requires
+same-requires c κs = search needs
+
+returns : tie.Need-returns
+returns c = let a = c .before .before .before .before .before .before .args in reason-same (a .reason) (c .before .before .before .before .reason .given .0 .0) (a .result) (a .usages) (c .before .before .before .before .reason .given .1) (c .before .before .is-ambiguous .result) (c .before .before .is-ambiguous .ensures) (c .before .if1 .taken) (c .same .result) (c .same .ensures)
+
+enum-known-reason-2 : tie.Need-enum-known-reason-2
+enum-known-reason-2 c = search needs
+
+is-single-requires : tie.Need-is-single-requires
+is-single-requires c κs = search needs
+
+enum-told-2 : tie.Need-enum-told-2
+enum-told-2 c = search needs
+
+returns-2 : tie.Need-returns-2
+returns-2 c = search needs
+
+returns-3 : tie.Need-returns-3
+returns-3 c = search needs
+
+returns-4 : tie.Need-returns-4
+returns-4 c = let a = c .before .before .before .before .args in reason-single (a .reason) (c .before .before .reason2 .given .0 .0) (a .result) (a .usages) (c .before .before .reason2 .given .1) (c .is-single .result) (c .is-single .ensures)
+
+returns-5 : tie.Need-returns-5
+returns-5 c = search needs
+
+pub reason-keeps-spec : {M : Type 1} → statement M
+reason-keeps-spec =
+    tie.close
+    (tie.spec
+    enum-told
+    enum-known-reason
+    is-ambiguous-requires
+    same-requires
+    returns
+    enum-known-reason-2
+    is-single-requires
+    enum-told-2
+    returns-2
+    returns-3
+    returns-4
+    returns-5)

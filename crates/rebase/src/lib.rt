@@ -1,0 +1,350 @@
+// rebase_provisional_cache_entries of mod.rs: an entry e whose highest head p, the frame
+// at index `popped`, leaves the stack. The heads of p are the h; ep, ph, hp and he are
+// paths between them.
+use definition::answers::Answer;
+use definition::answers::RebaseReason;
+use definition::heads::CycleHead;
+use definition::paths::PathKind;
+use definition::paths::PathsToNested;
+use definition::usages::HeadUsages;
+use layout::heads;
+use layout::offsets;
+ghost use mathlib.Core.Path.{_≡_};
+ghost use mathlib.Core.Bool.{false, _&&_};
+ghost use mathlib.Core.List.{_++_};
+ghost use mathlib.Core.Option.{none, some};
+ghost use Prim.Native.Nat.{_-_, _*_, _≤_, _<_};
+ghost use lib.ListN.{getD, replicate};
+ghost use Rattle.definition.specs.declared.heads.CycleHead.{CycleHead};
+ghost use Rattle.definition.specs.Paths.{extend, iterPaths};
+ghost use Rattle.definition.specs.Heads.{usagesAt, pathsAt, removeHead, insertHead, forEachHead};
+ghost use Rattle.definition.specs.Stack.{cyclePathKind};
+ghost use Rattle.definition.specs.ProvisionalCache.{everyPhKeeps, pathsKeepKind, reasonKeeps, rebasedHeads, underNewHead, rebaseEntry, rebaseEntries};
+ghost use Rattle.bits.specs.Masks.{flags};
+ghost use Rattle.buffer.specs.Regions.{region};
+ghost use Rattle.layout.specs.Blocks.{headsSize, present};
+ghost use Rattle.layout.specs.Entry.{entryHeadsStart};
+ghost use Rattle.layout.specs.Frame.{headsStart};
+ghost use Rattle.layout.specs.Work.{stackOf, entriesOf};
+ghost use Rattle.stack.specs.Bytes.{GraphBytes, frameBytes, frameAt};
+ghost use Rattle.provisional_cache.specs.Entries.{entryBytes, entryAt, withPath, FramesKept};
+ghost use Rattle.rebase.specs.Rebased.{gainedHead, gainHead, withHeads, underHeads, keptEntry, OthersKept};
+
+mod entry;
+mod paths;
+
+// ---- the popped frame p
+
+// The block of the heads of p.
+fn popped_heads(graph: &[u8], goals: usize, popped: usize) -> &[u8]
+    requires { ⌜ GraphBytes goals (now graph) × (popped < goals) ⌝ }
+    ensures { λ r. ⌜ now r ≡ region headsStart (headsSize goals) (frameBytes goals popped (now (graph .entry))) ⌝ }
+{
+    provisional_cache::frame_heads(stack::frame_at(graph, goals, popped), goals)
+}
+
+// The indices of the heads of p.
+fn popped_mask(graph: &[u8], goals: usize, popped: usize) -> u64
+    requires { ⌜ GraphBytes goals (now graph) × (popped < goals) ⌝ }
+    ensures { λ r. ⌜ flags 64 r ≡ present ((frameAt goals popped (now (graph .entry))) .heads) ++ replicate (64 - goals) false ⌝ }
+{
+    heads::mask(popped_heads(graph, goals, popped), goals)
+}
+
+// The head of p at index i, where there is one.
+fn popped_head(graph: &[u8], goals: usize, popped: usize, i: usize) -> CycleHead
+    requires { ⌜ GraphBytes goals (now graph) × ((popped < goals) × (i < goals)) ⌝ }
+    ensures { λ r. ⌜ ((c : CycleHead) → getD ((frameAt goals popped (now (graph .entry))) .heads) i none ≡ some c → r ≡ c) ⌝ }
+{
+    heads::record(popped_heads(graph, goals, popped), goals, i)
+}
+
+// The kind of the path from the head at index i to p.
+fn path_to_popped(graph: &[u8], goals: usize, popped: usize, i: usize) -> PathKind
+    requires { ⌜ GraphBytes goals (now graph) × (popped < goals) ⌝ }
+    ensures { λ r. ⌜ r ≡ cyclePathKind (stackOf goals popped (now (graph .entry))) ((frameAt goals popped (now (graph .entry))) .stepKindFromParent) i ⌝ }
+{
+    let step = stack::frame::step_kind(stack::frame_at(graph, goals, popped), goals);
+    stack::cycle_path_kind(graph, goals, popped, step, i)
+}
+
+// ---- whether an entry that used p stays
+
+// Whether the paths from the head of p at index i keep their kind.
+fn head_keeps(
+    graph: &[u8],
+    goals: usize,
+    popped: usize,
+    path: PathKind,
+    eps: PathsToNested,
+    i: usize,
+) -> bool
+    requires { ⌜ GraphBytes goals (now graph) × ((popped < goals) × (i < goals)) ⌝ }
+    ensures { λ r. ⌜ ((c : CycleHead) → getD ((frameAt goals popped (now (graph .entry))) .heads) i none ≡ some c
+        → r ≡ everyPhKeeps (cyclePathKind (stackOf goals popped (now (graph .entry))) ((frameAt goals popped (now (graph .entry))) .stepKindFromParent) i)
+        (extend (cyclePathKind (stackOf goals popped (now (graph .entry))) ((frameAt goals popped (now (graph .entry))) .stepKindFromParent) i) path) (iterPaths (eps .bits)) (iterPaths (c .paths))) ⌝ }
+{
+    let hp = path_to_popped(graph, goals, popped, i);
+    let h = popped_head(graph, goals, popped, i);
+    let phs = PathsToNested { bits: h.paths };
+    paths::every_ph_keeps(hp, hp.extend(path), eps, phs)
+}
+
+// Whether the paths from each head of p keep their kind.
+fn paths_keep_kind(
+    graph: &[u8],
+    goals: usize,
+    popped: usize,
+    path: PathKind,
+    eps: PathsToNested,
+) -> bool
+    requires { ⌜ GraphBytes goals (now graph) × (popped < goals) ⌝ }
+    ensures { λ r. ⌜ r ≡ pathsKeepKind (stackOf goals popped (now (graph .entry))) ((frameAt goals popped (now (graph .entry))) .stepKindFromParent) path (eps .bits) 0 ((frameAt goals popped (now (graph .entry))) .heads) ⌝ }
+{
+    let mut left = popped_mask(graph, goals, popped);
+    while 0 < left {
+        let i = bits::lowest(left);
+        if !head_keeps(graph, goals, popped, path, eps, i) {
+            return false;
+        }
+        left = bits::without_lowest(left);
+    }
+    true
+}
+
+// Whether the reason lets an entry with this result and these usages of p stay.
+fn reason_keeps(reason: RebaseReason, result: Answer, usages: HeadUsages) -> bool
+    ensures { λ r. ⌜ r ≡ reasonKeeps reason result usages ⌝ }
+{
+    match reason {
+        RebaseReason::NoCycleUsages => false,
+        RebaseReason::Ambiguity(kind) => {
+            if result.is_ambiguous() {
+                return result.same(kind);
+            }
+            false
+        }
+        RebaseReason::FirstFixpoint(kind) => usages.is_single(kind),
+        RebaseReason::LaterFixpoint => true,
+    }
+}
+
+// Whether entry k, which used p, stays.
+fn stays(
+    graph: &[u8],
+    goals: usize,
+    popped: usize,
+    reason: RebaseReason,
+    k: usize,
+    usages: HeadUsages,
+    eps: PathsToNested,
+) -> bool
+    requires { ⌜ GraphBytes goals (now graph) × ((popped < goals) × (k < 2 * goals)) ⌝ }
+    ensures { λ r. ⌜ r ≡ (pathsKeepKind (stackOf goals popped (now (graph .entry))) ((frameAt goals popped (now (graph .entry))) .stepKindFromParent) ((entryAt goals k (now (graph .entry))) .pathFromHead) (eps .bits) 0 ((frameAt goals popped (now (graph .entry))) .heads)
+        && reasonKeeps reason ((entryAt goals k (now (graph .entry))) .result) usages) ⌝ }
+{
+    let e = provisional_cache::entry_at(graph, goals, k);
+    let path = provisional_cache::entry::path_from_head(e, goals);
+    if !paths_keep_kind(graph, goals, popped, path, eps) {
+        return false;
+    }
+    reason_keeps(reason, provisional_cache::entry::result(e, goals), usages)
+}
+
+// ---- entry k
+
+// The block of its heads.
+fn entry_heads(graph: &[u8], goals: usize, k: usize) -> &[u8]
+    requires { ⌜ GraphBytes goals (now graph) × (k < 2 * goals) ⌝ }
+    ensures { λ r. ⌜ now r ≡ region entryHeadsStart (headsSize goals) (entryBytes goals k (now (graph .entry))) ⌝ }
+{
+    provisional_cache::entry::heads(provisional_cache::entry_at(graph, goals, k), goals)
+}
+
+// How it used its head at index i.
+fn head_usages(graph: &[u8], goals: usize, k: usize, i: usize) -> HeadUsages
+    requires { ⌜ GraphBytes goals (now graph) × ((k < 2 * goals) × (i < goals)) ⌝ }
+    ensures { λ r. ⌜ r ≡ usagesAt ((entryAt goals k (now (graph .entry))) .heads) i ⌝ }
+{
+    heads::usages(entry_heads(graph, goals, k), goals, i)
+}
+
+// The paths to its head at index i.
+fn head_paths(graph: &[u8], goals: usize, k: usize, i: usize) -> PathsToNested
+    requires { ⌜ GraphBytes goals (now graph) × ((k < 2 * goals) × (i < goals)) ⌝ }
+    ensures { λ r. ⌜ r .bits ≡ pathsAt ((entryAt goals k (now (graph .entry))) .heads) i ⌝ }
+{
+    PathsToNested {
+        bits: heads::paths(entry_heads(graph, goals, k), goals, i),
+    }
+}
+
+// Its head at index i is taken out.
+fn remove_head(graph: &mut [u8], goals: usize, k: usize, i: usize)
+    requires { ⌜ GraphBytes goals (now graph) × ((k < 2 * goals) × (i < goals)) ⌝ }
+    ensures { λ _. ⌜ (entryAt goals k (now (graph .exit)) ≡ withHeads (entryAt goals k (now (graph .entry))) (removeHead ((entryAt goals k (now (graph .entry))) .heads) i)) × OthersKept goals k (now (graph .entry)) (now (graph .exit)) ⌝ }
+{
+    let a = offsets::entry_start(goals, k);
+    let z = a + offsets::entry_size(goals);
+    entry::remove_head(&mut graph[a..z], goals, i);
+}
+
+// Its head at index i is joined with `head`.
+fn join_head(graph: &mut [u8], goals: usize, k: usize, i: usize, head: CycleHead)
+    requires { ⌜ GraphBytes goals (now graph) × ((k < 2 * goals) × (i < goals)) ⌝ }
+    ensures { λ _. ⌜ (entryAt goals k (now (graph .exit)) ≡ withHeads (entryAt goals k (now (graph .entry))) (insertHead ((entryAt goals k (now (graph .entry))) .heads) i (head .paths) (head .usages))) × OthersKept goals k (now (graph .entry)) (now (graph .exit)) ⌝ }
+{
+    let a = offsets::entry_start(goals, k);
+    let z = a + offsets::entry_size(goals);
+    entry::join_head(&mut graph[a..z], goals, i, head);
+}
+
+// Its path from its highest head goes on by a path of a kind.
+fn extend_path(graph: &mut [u8], goals: usize, k: usize, kind: PathKind)
+    requires { ⌜ GraphBytes goals (now graph) × (k < 2 * goals) ⌝ }
+    ensures { λ _. ⌜ (entryAt goals k (now (graph .exit)) ≡ withPath (entryAt goals k (now (graph .entry))) (extend ((entryAt goals k (now (graph .entry))) .pathFromHead) kind)) × OthersKept goals k (now (graph .entry)) (now (graph .exit)) ⌝ }
+{
+    let a = offsets::entry_start(goals, k);
+    let z = a + offsets::entry_size(goals);
+    entry::extend_path(&mut graph[a..z], goals, kind);
+}
+
+// ---- entry k after p
+
+// What it gains for a head of p: the head as reached by the paths to p, or used for
+// nothing.
+fn gained(used: bool, eps: PathsToNested, head: CycleHead) -> CycleHead
+    ensures { λ r. ⌜ r ≡ gainedHead used (eps .bits) head ⌝ }
+{
+    if used {
+        let phs = PathsToNested { bits: head.paths };
+        let ephs = eps.extend_with_paths(phs);
+        let paths = ephs.bits;
+        let usages = head.usages;
+        return CycleHead { paths, usages };
+    }
+    let empty = PathsToNested::empty_path();
+    let paths = empty.bits;
+    let usages = HeadUsages::none();
+    CycleHead { paths, usages }
+}
+
+// It gains the heads of p.
+fn gain_heads(
+    graph: &mut [u8],
+    goals: usize,
+    popped: usize,
+    k: usize,
+    used: bool,
+    eps: PathsToNested,
+)
+    requires { ⌜ GraphBytes goals (now graph) × ((popped < goals) × (k < 2 * goals)) ⌝ }
+    ensures { λ _. ⌜ (entryAt goals k (now (graph .exit)) ≡ withHeads (entryAt goals k (now (graph .entry))) (forEachHead (gainHead used (eps .bits)) ((entryAt goals k (now (graph .entry))) .heads) ((frameAt goals popped (now (graph .entry))) .heads))) × OthersKept goals k (now (graph .entry)) (now (graph .exit)) ⌝ }
+{
+    let mut left = popped_mask(graph, goals, popped);
+    while 0 < left {
+        let i = bits::lowest(left);
+        let head = gained(used, eps, popped_head(graph, goals, popped, i));
+        join_head(graph, goals, k, i, head);
+        left = bits::without_lowest(left);
+    }
+}
+
+// The heads of p take the place of p among its heads.
+fn replace_head(
+    graph: &mut [u8],
+    goals: usize,
+    popped: usize,
+    k: usize,
+    used: bool,
+    eps: PathsToNested,
+)
+    requires { ⌜ GraphBytes goals (now graph) × ((popped < goals) × (k < 2 * goals)) ⌝ }
+    ensures { λ _. ⌜ (entryAt goals k (now (graph .exit)) ≡ withHeads (entryAt goals k (now (graph .entry))) (forEachHead (gainHead used (eps .bits)) (removeHead ((entryAt goals k (now (graph .entry))) .heads) popped) ((frameAt goals popped (now (graph .entry))) .heads))) × OthersKept goals k (now (graph .entry)) (now (graph .exit)) ⌝ }
+{
+    remove_head(graph, goals, k, popped);
+    gain_heads(graph, goals, popped, k, used, eps);
+}
+
+// Its heads after p; false where it is dropped.
+fn rebase_heads(
+    graph: &mut [u8],
+    goals: usize,
+    popped: usize,
+    reason: RebaseReason,
+    k: usize,
+) -> bool
+    requires { ⌜ GraphBytes goals (now graph) × ((popped < goals) × (k < 2 * goals)) ⌝ }
+    ensures { λ r. ⌜ (keptEntry r (entryAt goals k (now (graph .exit)))
+        ≡ underHeads (entryAt goals k (now (graph .entry))) (rebasedHeads (stackOf goals popped (now (graph .entry))) (frameAt goals popped (now (graph .entry))) reason (entryAt goals k (now (graph .entry))) (usagesAt ((entryAt goals k (now (graph .entry))) .heads) popped) (pathsAt ((entryAt goals k (now (graph .entry))) .heads) popped)))
+        × OthersKept goals k (now (graph .entry)) (now (graph .exit)) ⌝ }
+{
+    let usages = head_usages(graph, goals, k, popped);
+    let eps = head_paths(graph, goals, k, popped);
+    if usages.is_empty() {
+        replace_head(graph, goals, popped, k, false, eps);
+        return true;
+    }
+    if !stays(graph, goals, popped, reason, k, usages, eps) {
+        return false;
+    }
+    replace_head(graph, goals, popped, k, true, eps);
+    true
+}
+
+// Its path starts at its new highest head; false where it has no head.
+fn rebase_path(graph: &mut [u8], goals: usize, popped: usize, k: usize) -> bool
+    requires { ⌜ GraphBytes goals (now graph) × ((popped < goals) × (k < 2 * goals)) ⌝ }
+    ensures { λ r. ⌜ (keptEntry r (entryAt goals k (now (graph .exit))) ≡ underNewHead (stackOf goals popped (now (graph .entry))) (frameAt goals popped (now (graph .entry))) (entryAt goals k (now (graph .entry))) ((entryAt goals k (now (graph .entry))) .heads)) × OthersKept goals k (now (graph .entry)) (now (graph .exit)) ⌝ }
+{
+    let hs = entry_heads(graph, goals, k);
+    if heads::is_empty(hs, goals) {
+        return false;
+    }
+    let head = heads::highest(hs, goals);
+    let path = path_to_popped(graph, goals, popped, head);
+    extend_path(graph, goals, k, path);
+    true
+}
+
+// Entry k after p; false where it is dropped.
+fn rebase_entry(
+    graph: &mut [u8],
+    goals: usize,
+    popped: usize,
+    reason: RebaseReason,
+    k: usize,
+) -> bool
+    requires { ⌜ GraphBytes goals (now graph) × ((popped < goals) × (k < 2 * goals)) ⌝ }
+    ensures { λ r. ⌜ (keptEntry r (entryAt goals k (now (graph .exit))) ≡ rebaseEntry (stackOf goals popped (now (graph .entry))) (frameAt goals popped (now (graph .entry))) reason (entryAt goals k (now (graph .entry)))) × OthersKept goals k (now (graph .entry)) (now (graph .exit)) ⌝ }
+{
+    let e = provisional_cache::entry_at(graph, goals, k);
+    if provisional_cache::entry::highest_head(e, goals) != popped {
+        return true;
+    }
+    if !rebase_heads(graph, goals, popped, reason, k) {
+        return false;
+    }
+    rebase_path(graph, goals, popped, k)
+}
+
+// How many entries are left after p.
+pub fn rebase_provisional_cache_entries(
+    graph: &mut [u8],
+    goals: usize,
+    popped: usize,
+    reason: RebaseReason,
+    entries: usize,
+) -> usize
+    requires { ⌜ GraphBytes goals (now graph) × ((popped < goals) × (entries ≤ 2 * goals)) ⌝ }
+    ensures { λ r. ⌜ (entriesOf goals r (now (graph .exit)) ≡ rebaseEntries (stackOf goals popped (now (graph .entry))) (frameAt goals popped (now (graph .entry))) reason (entriesOf goals entries (now (graph .entry)))) × (FramesKept goals (now (graph .entry)) (now (graph .exit))) × (r ≤ entries) ⌝ }
+{
+    let mut kept: usize = 0;
+    let mut k: usize = 0;
+    while k < entries {
+        let keep = rebase_entry(graph, goals, popped, reason, k);
+        kept = provisional_cache::keep_if(graph, goals, keep, k, kept);
+        k = k + 1;
+    }
+    kept
+}

@@ -1,0 +1,205 @@
+-- The definition's equations where the three functions call each other, with nothing of the code in them.
+use mathlib.Core.Path.{_≡_, refl, sym, ap, _∙_, subst}
+use mathlib.Core.Bool.{Bool, true, false}
+use mathlib.Core.Option.{Option, none, some}
+use mathlib.Core.List.{List, [], _∷_}
+use Prim.Native.Nat.{ℕ, zero, suc, _+_, _*_, _-_, _^_, _≤_, _<_, pred}
+use native.Mathlib.Omega.{arith}
+use native.Mathlib.Numerals.{add-one, sub-one}
+use lib.ListN.{length, getD, drop}
+use Rattle.definition.specs.declared.paths.PathKind.{PathKind}
+use Rattle.definition.specs.declared.answers.Answer.{Answer}
+use Rattle.definition.specs.declared.format.Header.{Header}
+use Rattle.definition.specs.declared.replies.Refusal.the-variants.{Unreachable}
+use Rattle.definition.specs.Part.{Part, Book, partAt}
+use Rattle.definition.specs.Graph.{Graph, withStack}
+use Rattle.definition.specs.Graph as graph
+use Rattle.definition.specs.Task.{evaluateGoalInTask, pushRerun, iteration, stepLimitReached}
+use Rattle.definition.specs.Task as task
+use Rattle.definition.specs.Evaluate.{Evaluator, evalPart, computeGoal, newFrame, afterTask, evaluateNewFrame, evaluateGoalWith, evaluateGoal}
+use Rattle.layout.specs.Work.{graphOf, mergedOf}
+use Rattle.book.specs.Parts.{Reads, partIn}
+use Rattle.book.specs.Read.{IsBook, bookIn, GoalStarts}
+use Rattle.global_cache.specs.Cache.{CacheBytes}
+use Rattle.evaluation.specs.declared.Outcome.{Outcome}
+use Rattle.evaluation.specs.declared.Outcome.the-variants.{Done, Stopped}
+use Rattle.evaluation.specs.declared.TaskOutcome.{TaskOutcome}
+use Rattle.evaluation.specs.Workspace.{WorkBytes, graphIn}
+use Rattle.evaluation.specs.Outcomes.{outcomeOf, taskOutcomeOf, FewEntries, FewTaskEntries}
+use Rattle.lookup.specs.declared.Found.{Found}
+use Rattle.lookup.specs.declared.Found.the-variants.{Known, Push}
+use Rattle.lookup.specs.Lookups.{found}
+use Rattle.task.specs.declared.Iteration.{Iteration}
+use Rattle.task.specs.declared.Iteration.the-variants.{End, Again}
+use Rattle.task.specs.Turns.{turn, turned, FewTurned}
+use Rattle.search_graph.specs.Calls.{Running, evaluator, Comes, TaskComes, keptBelow}
+use Rattle.search_graph.specs.Steps.{Looking, LookedUp, Pushed, IterationEnded, Finishing, Finished}
+
+-- ---- the measure: goals off the stack, then iterations left, then bytes left
+abbrev pub rank : ℕ → ℕ → ℕ → ℕ
+rank off left bytes = (off * 128 + left) * 2 ^ 64 + bytes
+
+pub lower : (a a1 b b1 t : ℕ) → a * 2 ^ 64 + b ≡ t → a1 < a → b1 < 2 ^ 64 → a1 * 2 ^ 64 + b1 < t
+lower a a1 b b1 t e h l = omega arith
+
+pub fewer : (a b b1 t : ℕ) → a * 2 ^ 64 + b ≡ t → b1 < b → a * 2 ^ 64 + b1 < t
+fewer a b b1 t e l = omega arith
+
+-- ---- the buffers after a call
+pub work-next : {goals : ℕ} {work : List ℕ} (new : List ℕ) → WorkBytes goals work → length new ≡ length work → WorkBytes goals new
+work-next new w e = record { some = w .some; few = w .few; long = e ∙ w .long }
+
+pub cache-next : {goals top : ℕ} {cache : List ℕ} (new : List ℕ) → CacheBytes goals top cache → length new ≡ length cache → CacheBytes goals top new
+cache-next new c e = record { few = c .few; low = c .low; whole = e ∙ c .whole }
+
+pub running-next : {book starts cache work : List ℕ} {h : Header} {root height n : ℕ} (newCache newWork : List ℕ) (newHeight m : ℕ)
+    → Running book starts cache work h root height n → length newCache ≡ length cache → length newWork ≡ length work → newHeight ≤ h .goals → m ≤ 2 * h .goals
+    → Running book starts newCache newWork h root newHeight m
+running-next newCache newWork newHeight m r ec ew le few =
+    record {
+      read = r .read;
+      places = r .places;
+      slots = cache-next newCache (r .slots) ec;
+      bytes = work-next newWork (r .bytes) ew;
+      stack = le;
+      entries = few;
+      shallow = r .shallow;
+    }
+
+pub looking : {book starts cache work : List ℕ} {h : Header} {root height n goal : ℕ}
+    → Running book starts cache work h root height n → goal < h .goals → Looking h root height n goal work cache
+looking r known =
+    record {
+      bytes = r .bytes;
+      slots = r .slots;
+      stack = r .stack;
+      entries = r .entries;
+      known = known;
+      divides = r .read .in-range .divides;
+      shallow = r .shallow;
+    }
+
+-- ---- evaluate: the lookups, then a new frame
+abbrev computeBy : Book → ℕ → ℕ → Graph → graph.Outcome
+computeBy b zero input g = graph.Stopped Unreachable
+computeBy b (suc off) input g = computeGoal (evaluateGoal b off) b input g
+
+evaluates : (b : Book) (off : ℕ) (g : Graph) (goal : ℕ) (step : PathKind) (lower : Bool)
+    → evaluateGoal b off g goal step lower ≡ evaluateGoalWith (b .header) (computeBy b off) g goal step lower
+evaluates b zero g goal step lower = refl
+evaluates b (suc off) g goal step lower = refl
+
+module _ (book starts cache work : List ℕ) (h : Header) (root height n goal : ℕ) (step : PathKind) (lower : Bool)
+    (run : Running book starts cache work h root height n) (work1 : List ℕ) (r : Found)
+    (looked : LookedUp h root height n goal step lower work work1 cache r) where
+  finds : evaluator book h height (graphOf (h .goals) root height n (graphIn (h .goals) work) cache) goal step lower
+      ≡ found h (computeBy (bookIn book) (h .goals - height)) goal step r (graphOf (h .goals) root height n (graphIn (h .goals) work1) cache)
+  finds =
+      evaluates (bookIn book) (h .goals - height) (graphOf (h .goals) root height n (graphIn (h .goals) work) cache) goal step lower
+      ∙ ap (λ (x : Header). evaluateGoalWith x (computeBy (bookIn book) (h .goals - height)) (graphOf (h .goals) root height n (graphIn (h .goals) work) cache) goal step lower) (run .read .header)
+      ∙ looked .is (computeBy (bookIn book) (h .goals - height))
+
+  pub known : (a : Answer) → r ≡ Known a
+      → Comes (h .goals) root height height (evaluator book h height (graphOf (h .goals) root height n (graphIn (h .goals) work) cache) goal step lower) work work1 cache (Done a n)
+  unfolding outcomeOf found
+  known a e =
+      record {
+        is = sym (finds ∙ ap (λ (x : Found). found h (computeBy (bookIn book) (h .goals - height)) goal step x (graphOf (h .goals) root height n (graphIn (h .goals) work1) cache)) e);
+        few = run .entries;
+        merged = λ i lt. looked .merged i;
+      }
+
+  module _ (d : ℕ) (e : r ≡ Push d) where
+    pushes : evaluator book h height (graphOf (h .goals) root height n (graphIn (h .goals) work) cache) goal step lower
+        ≡ evaluateNewFrame h (computeBy (bookIn book) (h .goals - height)) (graphOf (h .goals) root height n (graphIn (h .goals) work1) cache) goal step d
+    unfolding found
+    pushes = finds ∙ ap (λ (x : Found). found h (computeBy (bookIn book) (h .goals - height)) goal step x (graphOf (h .goals) root height n (graphIn (h .goals) work1) cache)) e
+
+    -- every goal is on the stack
+    pub full : h .goals ≤ height
+        → Comes (h .goals) root height height (evaluator book h height (graphOf (h .goals) root height n (graphIn (h .goals) work) cache) goal step lower) work work1 cache (Stopped Unreachable)
+    unfolding outcomeOf
+    full le =
+        let z : h .goals - height ≡ 0 = omega arith in
+        record {
+          is = sym (pushes ∙ ap (λ (o : ℕ). evaluateNewFrame h (computeBy (bookIn book) o) (graphOf (h .goals) root height n (graphIn (h .goals) work1) cache) goal step d) z ∙ stops (pred (h .limit)) _);
+          few = tt;
+          merged = λ i lt. looked .merged i;
+        }
+      where
+        stops : (left : ℕ) (g : Graph) → afterTask h goal step d (evaluateGoalInTask (λ g1. graph.Stopped Unreachable) left false g) ≡ graph.Stopped Unreachable
+        stops zero g = refl
+        stops (suc left) g = refl
+
+    -- a new frame: its iterations, and what follows them
+    module _ (lt : height < h .goals) (known-goal : goal < h .goals) (work2 : List ℕ) (push : Pushed (h .goals) height goal step d work1 work2)
+        (p : List ℕ) (starts-at : p ≡ drop (getD starts goal 0) book) (left : ℕ) (less : left ≡ pred (h .limit))
+        (work3 cache3 : List ℕ) (o : TaskOutcome)
+        (ran : TaskComes (h .goals) root (height + 1 - 1)
+        (evaluateGoalInTask (evalPart (evaluator book h (height + 1)) (h .goals) (partIn (h .goals) false p)) left false (graphOf (h .goals) root (height + 1) n (graphIn (h .goals) work2) cache)) work2 work3 cache3 o)
+        (work4 cache4 : List ℕ) (x : Outcome) (end : Finished h height goal step d o work3 work4 cache3 cache4 x) where
+      the-part : partAt (bookIn book .parts) goal ≡ some (partIn (h .goals) false p)
+      the-part = run .read .started goal known-goal .part ∙ ap (λ (bs : List ℕ). some (partIn (h .goals) false bs)) (sym starts-at)
+
+      one-off : h .goals - height ≡ suc (h .goals - (height + 1))
+      one-off = omega arith
+
+      popped : height + 1 - 1 ≡ height
+      popped = omega arith
+
+      computes : (λ (g : Graph). computeBy (bookIn book) (h .goals - height) goal g) ≡ evalPart (evaluator book h (height + 1)) (h .goals) (partIn (h .goals) false p)
+      computes =
+          ap (λ (m : ℕ). λ (g : Graph). computeBy (bookIn book) m goal g) one-off
+          ∙ (λ i. λ (g : Graph). elim (the-part i) [ none ↦ graph.Stopped Unreachable | some q ↦ evalPart (evaluator book h (height + 1)) (bookIn book .header .goals) q g ])
+          ∙ ap (λ (x : Header). evalPart (evaluator book h (height + 1)) (x .goals) (partIn (h .goals) false p)) (run .read .header)
+
+      tasks : taskOutcomeOf (h .goals) root height (graphIn (h .goals) work3) cache3 o
+          ≡ evaluateGoalInTask (computeBy (bookIn book) (h .goals - height) goal) (pred (h .limit)) false
+          (withStack (graphOf (h .goals) root height n (graphIn (h .goals) work1) cache) (newFrame (h .goals) goal step d ∷ (graphOf (h .goals) root height n (graphIn (h .goals) work1) cache) .stack))
+      tasks =
+          ap (λ (m : ℕ). taskOutcomeOf (h .goals) root m (graphIn (h .goals) work3) cache3 o) (sym popped)
+          ∙ ran .is
+          ∙ (λ i. evaluateGoalInTask (sym computes i) (less i) false (push .is root n cache i))
+
+      pub framed : Comes (h .goals) root height height (evaluator book h height (graphOf (h .goals) root height n (graphIn (h .goals) work) cache) goal step lower) work work4 cache4 x
+      framed =
+          record {
+            is = end .is root ∙ ap (afterTask h goal step d) tasks ∙ sym pushes;
+            few = end .few;
+            merged = λ i low. end .merged i ∙ ran .merged i (rw popped low) ∙ push .merged i ∙ looked .merged i;
+          }
+
+-- ---- rerun
+module _ (f : Graph → graph.Outcome) where
+  turns : (left : ℕ) (overflow : Bool) (g : Graph) → evaluateGoalInTask f left overflow g ≡ turn left (evaluateGoalInTask f (left - 1)) overflow (f g)
+  turns zero overflow g = refl
+  turns (suc left) overflow g = let e : left ≡ suc left - 1 = omega arith in ap (λ (m : ℕ). iteration (λ o g1 f1 result. evaluateGoalInTask f m o (pushRerun g1 f1 result)) overflow (f g)) e
+
+module _ (goals root height left : ℕ) (overflow : Bool) (f : Graph → graph.Outcome) (g : Graph) (work work1 cache1 : List ℕ) (o : Outcome)
+    (read : Comes goals root height (height - 1) (f g) work work1 cache1 o)
+    (work2 : List ℕ) (r : Iteration) (ended : IterationEnded goals height left overflow o work1 work2 r) where
+  ends : evaluateGoalInTask f left overflow g ≡ turned goals root height (evaluateGoalInTask f (left - 1)) (graphIn goals work2) cache1 r
+  ends = turns f left overflow g ∙ ap (turn left (evaluateGoalInTask f (left - 1)) overflow) (sym (read .is)) ∙ ended .is root cache1 (evaluateGoalInTask f (left - 1))
+
+  pub rerun-ends : (t : TaskOutcome) → r ≡ End t → TaskComes goals root (height - 1) (evaluateGoalInTask f left overflow g) work work2 cache1 t
+  unfolding turned
+  rerun-ends t e =
+      record {
+        is = sym (ends ∙ ap (turned goals root height (evaluateGoalInTask f (left - 1)) (graphIn goals work2) cache1) e);
+        few = subst (FewTurned goals left) e (ended .few);
+        merged = λ i lt. ended .merged i ∙ read .merged i lt;
+      }
+
+  pub rerun-again : (met : Bool) (n : ℕ) → r ≡ Again met n → (work3 cache3 : List ℕ) (t : TaskOutcome)
+      → TaskComes goals root (height - 1) (evaluateGoalInTask f (left - 1) met (graphOf goals root height n (graphIn goals work2) cache1)) work2 work3 cache3 t
+      → TaskComes goals root (height - 1) (evaluateGoalInTask f left overflow g) work work3 cache3 t
+  unfolding turned
+  rerun-again met n e work3 cache3 t again =
+      record {
+        is = again .is ∙ sym (ends ∙ ap (turned goals root height (evaluateGoalInTask f (left - 1)) (graphIn goals work2) cache1) e);
+        few = again .few;
+        merged = λ i lt. again .merged i lt ∙ ended .merged i ∙ read .merged i lt;
+      }
+
+  pub rerun-few : (met : Bool) (n : ℕ) → r ≡ Again met n → (n ≤ 2 * goals) × (0 < left)
+  rerun-few met n e = subst (FewTurned goals left) e (ended .few)

@@ -1,0 +1,4 @@
+pub mod Codes
+pub mod Cycle
+pub mod Lending
+pub mod Walks

@@ -1,0 +1,50 @@
+use Rattle.search_graph.proofs.Lending.{looked-up}
+use borrow.Author.Needs.{needs}
+use Rattle.search_graph.proofs.steps.look_up.Statement.{statement}
+use Rattle.search_graph.proofs.steps.look_up.Tie as tie
+use Rattle.search_graph.proofs.steps.look_up.Reads as reads
+use Rattle.search_graph.proofs.steps.look_up.Lts as lts
+use Rattle.layout.proofs.offsets.graph_length.Reads as graph-length-reads
+use Rattle.lookup.proofs.lookup.Reads as lookup-reads
+
+-- src/steps.rt:75:9
+graph-length-requires : tie.Need-graph-length-requires
+graph-length-requires c κs = search needs
+
+-- src/steps.rt:78:9
+sub-lookup : tie.Need-sub-lookup
+sub-lookup c = search needs
+
+-- src/steps.rt:78:9
+part-lookup-start : tie.Need-part-lookup-start
+part-lookup-start c = search needs
+
+-- src/steps.rt:78:9
+part-lookup-end : tie.Need-part-lookup-end
+part-lookup-end c = search needs
+
+-- src/steps.rt:76:5
+lookup-requires : tie.Need-lookup-requires
+lookup-requires c κs = search needs
+
+-- src/steps.rt:61:1
+same-length : tie.Need-same-length
+same-length c = search needs
+
+-- src/steps.rt:61:1
+returns : tie.Need-returns
+returns c =
+    let s = c .before .before .before .before .before .before .before in let l = c .before .before .lookup in
+    looked-up (s .args .h) (s .args .work .now) (c .before .before .before .before .graph-length .result) (s .pre .bytes) (c .before .before .before .before .graph-length .ensures .0) (l .last .1 .0) (l .kept .1 .0) (s .args .root) (s .args .height) (s .args .entries) (s .args .goal) (s .args .step) (s .args .lower) (s .args .cache .now) (l .result) (l .ensures .0) (l .ensures .1)
+
+pub look-up-spec : {M : Type 1} → statement M
+look-up-spec =
+    tie.close
+    (tie.spec
+    graph-length-requires
+    sub-lookup
+    part-lookup-start
+    part-lookup-end
+    lookup-requires
+    same-length
+    returns)

@@ -1,0 +1,48 @@
+-- What the functions of the cycle of calls ask, and what they say.
+use mathlib.Core.Path.{_≡_}
+use mathlib.Core.Bool.{Bool, true, false}
+use mathlib.Core.List.{List}
+use Prim.Native.Nat.{ℕ, _*_, _-_, _≤_, _<_}
+use lib.ListN.{length}
+use Rattle.definition.specs.declared.format.Header.{Header}
+use Rattle.definition.specs.Graph as graph
+use Rattle.definition.specs.Task as task
+use Rattle.definition.specs.Evaluate.{Evaluator, evaluateGoal}
+use Rattle.layout.specs.Work.{mergedOf}
+use Rattle.book.specs.Read.{IsBook, bookIn}
+use Rattle.global_cache.specs.Cache.{CacheBytes}
+use Rattle.evaluation.specs.declared.Outcome.{Outcome}
+use Rattle.evaluation.specs.declared.TaskOutcome.{TaskOutcome}
+use Rattle.evaluation.specs.Workspace.{WorkBytes, graphIn}
+use Rattle.evaluation.specs.Outcomes.{outcomeOf, taskOutcomeOf, FewEntries, FewTaskEntries}
+
+-- a book that was read, cache and workspace of the right lengths, `height` frames and n entries
+pub record Running (book starts cache work : List ℕ) (h : Header) (root height n : ℕ) : Type 0 where
+  pub read : IsBook book starts h
+  pub places : h .goals ≤ length starts
+  pub slots : CacheBytes (h .goals) (h .top) cache
+  pub bytes : WorkBytes (h .goals) work
+  pub stack : height ≤ h .goals
+  pub entries : n ≤ 2 * h .goals
+  pub shallow : root < 256
+
+-- the definition's evaluate_goal with `height` frames on the stack
+abbrev pub evaluator : List ℕ → Header → ℕ → Evaluator
+evaluator book h height = evaluateGoal (bookIn book) (h .goals - height)
+
+-- an outcome is the definition's, and the merged usages below an index are as they were
+pub record Comes (goals root height low : ℕ) (whole : graph.Outcome) (old new cache : List ℕ) (r : Outcome) : Type 0 where
+  pub is : outcomeOf goals root height (graphIn goals new) cache r ≡ whole
+  pub few : FewEntries goals r
+  pub merged : (i : ℕ) → i < low → mergedOf goals i new ≡ mergedOf goals i old
+
+-- likewise of a task, whose frame was popped
+pub record TaskComes (goals root height : ℕ) (whole : task.TaskOutcome) (old new cache : List ℕ) (r : TaskOutcome) : Type 0 where
+  pub is : taskOutcomeOf goals root height (graphIn goals new) cache r ≡ whole
+  pub few : FewTaskEntries goals r
+  pub merged : (i : ℕ) → i < height → mergedOf goals i new ≡ mergedOf goals i old
+
+-- inside a pick the top frame's own merged usages are kept
+abbrev pub keptBelow : Bool → ℕ → ℕ
+keptBelow true height = height
+keptBelow false height = height - 1

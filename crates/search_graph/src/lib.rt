@@ -1,0 +1,189 @@
+// evaluate_goal, evaluate_goal_in_task and the delegate's compute_goal: three functions
+// that call each other in a cycle. What stands between their calls is in other functions.
+pub mod steps;
+
+use book::line;
+use book::part;
+use book::part::Call;
+use definition::answers::Answer;
+use definition::format::Header;
+use definition::paths::PathKind;
+use definition::replies::Refusal;
+use delegate::Step;
+use evaluation::Outcome;
+use evaluation::TaskOutcome;
+use lookup::Found;
+use steps::Shape;
+use task::Iteration;
+ghost use mathlib.Core.Path.{_≡_};
+ghost use mathlib.Core.Bool.{false};
+ghost use Prim.Native.Nat.{_-_, _≤_, _<_};
+ghost use Rattle.definition.specs.Task.{evaluateGoalInTask};
+ghost use Rattle.definition.specs.Evaluate.{evalPart};
+ghost use Rattle.book.specs.Parts.{Reads, partIn};
+ghost use Rattle.layout.specs.Work.{graphOf};
+ghost use Rattle.evaluation.specs.Workspace.{graphIn};
+ghost use Rattle.search_graph.specs.Calls.{Running, evaluator, Comes, TaskComes, keptBelow};
+
+// evaluate_goal, with `height` frames on the stack and `entries` provisional entries.
+pub fn evaluate(
+    book: &[u8],
+    starts: &[u16],
+    cache: &mut [u8],
+    work: &mut [u8],
+    h: Header,
+    root: usize,
+    height: usize,
+    entries: usize,
+    goal: usize,
+    step: PathKind,
+    lower: bool,
+) -> Outcome
+    requires { ⌜ Running (now book) (now starts) (now cache) (now work) h root height entries ⌝ }
+    requires { ⌜ goal < h .goals ⌝ }
+    ensures { λ r. ⌜ Comes (h .goals) root height height (evaluator (now (book .entry)) h height (graphOf (h .goals) root height entries (graphIn (h .goals) (now (work .entry))) (now (cache .entry))) goal step lower) (now (work .entry)) (now (work .exit)) (now (cache .exit)) r ⌝ }
+{
+    let found = steps::look_up(cache, work, h, root, height, entries, goal, step, lower);
+    match found {
+        Found::Known(answer) => Outcome::Done(answer, entries),
+        Found::Push(available) => {
+            let goals = h.goals;
+            if goals <= height {
+                return Outcome::Stopped(Refusal::Unreachable);
+            }
+            steps::push(work, goals, height, goal, step, available);
+            let p = part::of_goal(book, starts, goal);
+            let left = steps::one_less(h.limit);
+            let o = rerun(
+                book,
+                starts,
+                p,
+                cache,
+                work,
+                h,
+                root,
+                height + 1,
+                entries,
+                left,
+                false,
+            );
+            steps::finish(o, cache, work, h, height, goal, step, available)
+        }
+    }
+}
+
+// evaluate_goal_in_task: the iterations of the goal on top of the stack, of which `left`
+// more than this one are allowed.
+fn rerun(
+    book: &[u8],
+    starts: &[u16],
+    p: &[u8],
+    cache: &mut [u8],
+    work: &mut [u8],
+    h: Header,
+    root: usize,
+    height: usize,
+    entries: usize,
+    left: usize,
+    overflow: bool,
+) -> TaskOutcome
+    requires { ⌜ Running (now book) (now starts) (now cache) (now work) h root height entries ⌝ }
+    requires { ⌜ (1 ≤ height) × ((left < 99) × Reads (h .goals) false (now p)) ⌝ }
+    ensures { λ r. ⌜ TaskComes (h .goals) root (height - 1) (evaluateGoalInTask (evalPart (evaluator (now (book .entry)) h height) (h .goals) (partIn (h .goals) false (now (p .entry)))) left overflow (graphOf (h .goals) root height entries (graphIn (h .goals) (now (work .entry))) (now (cache .entry)))) (now (work .entry)) (now (work .exit)) (now (cache .exit)) r ⌝ }
+{
+    let o = read_part(
+        book, starts, p, cache, work, h, root, height, entries, false,
+    );
+    let next = steps::end_iteration(o, work, h.goals, height, left, overflow);
+    match next {
+        Iteration::End(t) => t,
+        Iteration::Again(met, kept) => rerun(
+            book,
+            starts,
+            p,
+            cache,
+            work,
+            h,
+            root,
+            height,
+            kept,
+            left - 1,
+            met,
+        ),
+    }
+}
+
+// compute_goal, of the part that `p` starts with.
+fn read_part(
+    book: &[u8],
+    starts: &[u16],
+    p: &[u8],
+    cache: &mut [u8],
+    work: &mut [u8],
+    h: Header,
+    root: usize,
+    height: usize,
+    entries: usize,
+    in_pick: bool,
+) -> Outcome
+    requires { ⌜ Running (now book) (now starts) (now cache) (now work) h root height entries ⌝ }
+    requires { ⌜ (1 ≤ height) × Reads (h .goals) in_pick (now p) ⌝ }
+    ensures { λ r. ⌜ Comes (h .goals) root height (keptBelow in_pick height) (evalPart (evaluator (now (book .entry)) h height) (h .goals) (partIn (h .goals) in_pick (now (p .entry))) (graphOf (h .goals) root height entries (graphIn (h .goals) (now (work .entry))) (now (cache .entry)))) (now (work .entry)) (now (work .exit)) (now (cache .exit)) r ⌝ }
+{
+    let l = line::first(p);
+    let shape = steps::shape_of(l.code);
+    match shape {
+        Shape::Undecided => Outcome::Done(Answer::Undecided, entries),
+        Shape::Call => {
+            let call = Call::of_line(l);
+            let step = call.step;
+            evaluate(
+                book,
+                starts,
+                cache,
+                work,
+                h,
+                root,
+                height,
+                entries,
+                call.goal,
+                step,
+                call.lower,
+            )
+        }
+        Shape::Group(op) => {
+            let inside = steps::inside(op, in_pick);
+            let mut group = delegate::begin(op, work, h.goals, height, entries);
+            let mut t = &p[16..];
+            let mut k = l.first as usize;
+            while 0 < k {
+                delegate::before(group, work, h.goals, height);
+                let o = read_part(
+                    book,
+                    starts,
+                    t,
+                    cache,
+                    work,
+                    h,
+                    root,
+                    height,
+                    group.entries,
+                    inside,
+                );
+                let next = delegate::after(o, group, work, h.goals, height);
+                match next {
+                    Step::End(outcome) => {
+                        return outcome;
+                    }
+                    Step::More(g) => {
+                        group = g;
+                    }
+                }
+                let u = part::skip(t);
+                t = u;
+                k = k - 1;
+            }
+            delegate::end(group, work, h.goals, height)
+        }
+    }
+}

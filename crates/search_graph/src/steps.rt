@@ -1,0 +1,134 @@
+// What stands between the calls of the cycle: the steps that need the graph alone, which is
+// the first part of the workspace, and how a line is read.
+use definition::format::Header;
+use definition::paths::PathKind;
+use delegate::Op;
+use evaluation::Outcome;
+use evaluation::TaskOutcome;
+use layout::offsets;
+use lookup::Found;
+use task::Iteration;
+ghost use mathlib.Core.Path.{_≡_};
+ghost use Prim.Native.Nat.{_≤_, _<_, pred};
+ghost use Rattle.evaluation.specs.Workspace.{WorkBytes};
+ghost use Rattle.evaluation.specs.Outcomes.{FewEntries};
+ghost use Rattle.search_graph.specs.Shapes.{shapeOf, insideOf};
+ghost use Rattle.search_graph.specs.Steps.{Looking, LookedUp, Pushed, IterationEnded, Finishing, Finished};
+
+// What a part is.
+pub enum Shape {
+    Call,
+    Group(Op),
+    Undecided,
+}
+
+// By the code of its first line; a goal's line starts no part, nor does an unknown code.
+pub fn shape_of(code: u16) -> Shape
+    ensures { λ r. ⌜ r ≡ shapeOf code ⌝ }
+{
+    match code {
+        1 => Shape::Undecided,
+        2 => Shape::Call,
+        3 => Shape::Group(Op::All),
+        4 => Shape::Group(Op::Any),
+        5 => Shape::Group(Op::Pick),
+        6 => Shape::Undecided,
+        0 | 7..=65535 => Shape::Undecided,
+    }
+}
+
+// Whether the parts of a group stand inside a pick.
+pub fn inside(op: Op, in_pick: bool) -> bool
+    ensures { λ r. ⌜ r ≡ insideOf op in_pick ⌝ }
+{
+    match op {
+        Op::Pick => true,
+        Op::All => in_pick,
+        Op::Any => in_pick,
+    }
+}
+
+// One iteration less; 0 iterations act as 1.
+pub fn one_less(limit: usize) -> usize
+    ensures { λ r. ⌜ r ≡ pred limit ⌝ }
+{
+    if limit == 0 {
+        return 0;
+    }
+    limit - 1
+}
+
+pub fn look_up(
+    cache: &[u8],
+    work: &mut [u8],
+    h: Header,
+    root: usize,
+    height: usize,
+    entries: usize,
+    goal: usize,
+    step: PathKind,
+    lower: bool,
+) -> Found
+    requires { ⌜ Looking h root height entries goal (now work) (now cache) ⌝ }
+    ensures { λ r. ⌜ LookedUp h root height entries goal step lower (now (work .entry)) (now (work .exit)) (now (cache .entry)) r ⌝ }
+{
+    let n = offsets::graph_length(h.goals);
+    lookup::lookup(
+        cache,
+        &mut work[0..n],
+        h,
+        root,
+        height,
+        entries,
+        goal,
+        step,
+        lower,
+    )
+}
+
+pub fn push(
+    work: &mut [u8],
+    goals: usize,
+    height: usize,
+    goal: usize,
+    step: PathKind,
+    available: usize,
+)
+    requires { ⌜ WorkBytes goals (now work) × ((height < goals) × ((goal < 256) × (available < 256))) ⌝ }
+    ensures { λ _. ⌜ Pushed goals height goal step available (now (work .entry)) (now (work .exit)) ⌝ }
+{
+    let n = offsets::graph_length(goals);
+    stack::push(&mut work[0..n], goals, height, goal, step, available);
+}
+
+pub fn end_iteration(
+    o: Outcome,
+    work: &mut [u8],
+    goals: usize,
+    height: usize,
+    left: usize,
+    overflow: bool,
+) -> Iteration
+    requires { ⌜ WorkBytes goals (now work) × ((1 ≤ height) × ((height ≤ goals) × FewEntries goals o)) ⌝ }
+    ensures { λ r. ⌜ IterationEnded goals height left overflow o (now (work .entry)) (now (work .exit)) r ⌝ }
+{
+    let n = offsets::graph_length(goals);
+    task::end_iteration(o, &mut work[0..n], goals, height, left, overflow)
+}
+
+pub fn finish(
+    o: TaskOutcome,
+    cache: &mut [u8],
+    work: &mut [u8],
+    h: Header,
+    height: usize,
+    goal: usize,
+    step: PathKind,
+    available: usize,
+) -> Outcome
+    requires { ⌜ Finishing h height goal o (now work) (now cache) ⌝ }
+    ensures { λ r. ⌜ Finished h height goal step available o (now (work .entry)) (now (work .exit)) (now (cache .entry)) (now (cache .exit)) r ⌝ }
+{
+    let n = offsets::graph_length(h.goals);
+    task::finish(o, cache, &mut work[0..n], h, height, goal, step, available)
+}

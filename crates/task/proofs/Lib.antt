@@ -1,0 +1,4 @@
+pub mod Choices
+pub mod Nested
+pub mod Insertions
+pub mod Turns

@@ -1,0 +1,93 @@
+-- The nested goals of a frame, and a copy of them.
+use mathlib.Core.Path.{_≡_, sym, ap, ap₂, _∙_}
+use mathlib.Core.Bool.{Bool}
+use mathlib.Core.List.{List, _++_, append-nil}
+use Prim.Native.Nat.{ℕ, _+_, _-_, _≤_, _<_}
+use native.Mathlib.Numerals.{add-one}
+use native.Mathlib.Omega.{arith}
+use lib.ListN.{length, getD, take, drop, set, replicate, drop-of-length-le}
+use lib.Seq.{take-length, paste, paste-suc}
+use Rattle.buffer.specs.Regions.{region}
+use Rattle.buffer.proofs.Regions.{length-region, region-region, region-same}
+use Rattle.definition.specs.declared.paths.PathKind.{PathKind}
+use Rattle.definition.specs.Heads.{CycleHeads, headsEmpty}
+use Rattle.definition.specs.Stack.{Stack, requiredDepthOf}
+use Rattle.definition.specs.Parent.{updateParentGoal, Ordinary}
+use Rattle.layout.specs.Blocks.{headsSize, headsOf}
+use Rattle.layout.specs.Frame.{frameSize, headsStart, nestedStart, frameOf}
+use Rattle.layout.specs.Work.{frameStart}
+use Rattle.layout.proofs.Graphs.{frame-room}
+use Rattle.stack.specs.Bytes.{GraphBytes, frameBytes, frameAt}
+use Rattle.stack.proofs.Parts.{part, returned, part-length, part-back, returned-length}
+
+-- ---- `nested_at`
+module _ (goals : ℕ) (bs : List ℕ) (i s n : ℕ) (is-s : s ≡ frameStart goals i) (is-n : n ≡ nestedStart goals) where
+  pub nested-room : GraphBytes goals bs → i < goals → s + n + goals ≤ length bs
+  nested-room g lt =
+      let room = frame-room goals bs (g .long) i lt in
+      let inner : nestedStart goals + goals ≤ frameSize goals = omega arith in
+      fits (frameStart goals i) (frameSize goals) (nestedStart goals) s n goals (length bs) is-s is-n room inner
+    where
+      fits : (a m b s n goals l : ℕ) → s ≡ a → n ≡ b → a + m ≤ l → b + goals ≤ m → s + n + goals ≤ l
+      fits a m b s n goals l p q room inner = omega arith
+
+  pub nested-is : part bs (s + n) (s + n + goals) ≡ (frameAt goals i bs) .nestedGoals
+  unfolding frameOf
+  nested-is =
+      let e : s + n + goals - (s + n) ≡ goals = omega arith in
+      let inner : nestedStart goals + goals ≤ frameSize goals = omega arith in
+      ap₂ (λ (m k : ℕ). take m (drop k bs)) e (ap₂ (λ (x y : ℕ). x + y) is-s is-n)
+      ∙ sym (region-region (frameStart goals i) (frameSize goals) (nestedStart goals) goals bs inner)
+
+-- there are as many as goals
+pub nested-length : (goals : ℕ) (bs : List ℕ) (i : ℕ) → GraphBytes goals bs → i < goals → length ((frameAt goals i bs) .nestedGoals) ≡ goals
+unfolding frameOf
+nested-length goals bs i g lt =
+    let inner : nestedStart goals + goals ≤ frameSize goals = omega arith in
+    length-region (nestedStart goals) goals (region (frameStart goals i) (frameSize goals) bs) (omega (arith, inner, length-region (frameStart goals i) (frameSize goals) bs (frame-room goals bs (g .long) i lt)))
+
+-- ---- `copy`
+pub copied-more : (d s l : List ℕ) (j : ℕ) → l ≡ paste d 0 s j → length d ≡ length s → j < length s → set l j (getD s j 0) ≡ paste d 0 s (j + 1)
+copied-more d s l j e len h =
+    let z : j ≡ 0 + j = omega arith in
+    ap₂ (λ (m : List ℕ) (k : ℕ). set m k (getD s j 0)) e z ∙ paste-suc d 0 s j 0 (omega arith) h ∙ ap (paste d 0 s) (sym (add-one j))
+
+pub copied-all : (d s l : List ℕ) (j : ℕ) → l ≡ paste d 0 s j → length d ≡ length s → j ≡ length s → l ≡ s
+copied-all d s l j e len h =
+    e
+    ∙ ap (paste d 0 s) h
+    ∙ ap₂ (λ (l m : List ℕ). (take 0 d ++ l) ++ m) (take-length s) (drop-of-length-le d {i = 0 + length s} (omega arith))
+    ∙ append-nil s
+
+-- ---- `update_parent`: the copy stands first in an array of 64 bytes
+abbrev zeros : List ℕ
+zeros = replicate 64 0
+
+module _ (goals : ℕ) (few : goals ≤ 64) where
+  pub array-part : (ns : List ℕ) → length ns ≡ goals → length (part zeros 0 goals) ≡ length ns
+  array-part ns len = length-region 0 (goals - 0) zeros (omega arith) ∙ bare goals ∙ sym len
+    where
+      bare : (n : ℕ) → n - 0 ≡ n
+      bare n = omega arith
+
+  module _ (ys : List ℕ) (kept : length ys ≡ length (part zeros 0 goals)) where
+    pub array-room : goals ≤ length (returned zeros 0 goals ys)
+    array-room = omega (arith, few, returned-length zeros 0 goals ys (omega arith) few kept)
+
+    pub array-first : part (returned zeros 0 goals ys) 0 goals ≡ ys
+    array-first =
+        let len : length ys ≡ goals - 0 = part-length zeros 0 goals ys (omega arith) few kept in
+        ap₂ (λ (l : List ℕ) (k : ℕ). region 0 k l) (part-back zeros 0 goals ys (omega arith) few kept) (sym len)
+        ∙ region-same zeros 0 ys (omega (arith, few))
+
+pub parent-child : (fs : Stack) (step : PathKind) (hs : CycleHeads) (overflow : Bool) (child ns : List ℕ) (reached : ℕ) → child ≡ ns
+    → updateParentGoal fs step hs overflow (Ordinary child) reached ≡ updateParentGoal fs step hs overflow (Ordinary ns) reached
+parent-child fs step hs overflow child ns reached e = ap (λ (l : List ℕ). updateParentGoal fs step hs overflow (Ordinary l) reached) e
+
+-- ---- what is read of the frame
+pub headless-is : (goals i : ℕ) (bs r hs : List ℕ) → r ≡ frameBytes goals i bs → hs ≡ region headsStart (headsSize goals) r → headsEmpty (headsOf goals hs) ≡ headsEmpty ((frameAt goals i bs) .heads)
+unfolding frameOf
+headless-is goals i bs r hs is e = ap (λ (l : List ℕ). headsEmpty (headsOf goals l)) (e ∙ ap (region headsStart (headsSize goals)) is)
+
+pub required-is : (goals i : ℕ) (bs r : List ℕ) (d : ℕ) → r ≡ frameBytes goals i bs → d ≡ requiredDepthOf (frameOf goals r) → d ≡ requiredDepthOf (frameAt goals i bs)
+required-is goals i bs r d is e = e ∙ ap (λ (l : List ℕ). requiredDepthOf (frameOf goals l)) is

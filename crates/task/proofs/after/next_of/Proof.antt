@@ -1,0 +1,36 @@
+use mathlib.Core.Path.{_∙_}
+use borrow.Author.Tests.{not-true, not-false}
+use Rattle.layout.specs.Frame.{frameOf}
+use Rattle.task.proofs.Choices.{next-finish, next-head}
+use borrow.Author.Needs.{needs}
+use Rattle.task.proofs.after.next_of.Statement.{statement}
+use Rattle.task.proofs.after.next_of.Tie as tie
+
+is-head-requires : tie.Need-is-head-requires
+is-head-requires c κs = search needs
+
+returns : tie.Need-returns
+returns c = let a = c .before .before .before .args in next-finish (frameOf (a .goals) (a .f .now)) (a .answer) (c .before .is-head .result) (c .before .is-head .ensures) (not-true (c .before .is-head .result) (c .if1 .taken))
+
+provisional-result-requires : tie.Need-provisional-result-requires
+provisional-result-requires c κs = search needs
+
+own-usages-requires : tie.Need-own-usages-requires
+own-usages-requires c κs = search needs
+
+next-of-head-requires : tie.Need-next-of-head-requires
+next-of-head-requires c κs = search needs
+
+returns-2 : tie.Need-returns-2
+returns-2 c = let a = c .before .before .before .before .before .before .args in c .next-of-head .ensures ∙ next-head (frameOf (a .goals) (a .f .now)) (a .answer) (c .before .before .before .before .is-head .result) (c .before .before .before .before .is-head .ensures) (not-false (c .before .before .before .before .is-head .result) (c .before .before .before .if1 .left)) (c .before .before .provisional-result .result) (c .before .before .provisional-result .ensures) (c .before .own-usages .result) (c .before .own-usages .ensures)
+
+pub next-of-spec : {M : Type 1} → statement M
+next-of-spec =
+    tie.close
+    (tie.spec
+    is-head-requires
+    returns
+    provisional-result-requires
+    own-usages-requires
+    next-of-head-requires
+    returns-2)

@@ -1,0 +1,45 @@
+use Rattle.task.proofs.Choices.{later-reached, later-missed, first-reached, first-missed}
+use borrow.Author.Needs.{needs}
+use Rattle.task.proofs.after.reached_fixpoint.Statement.{statement}
+use Rattle.task.proofs.after.reached_fixpoint.Tie as tie
+
+enum-known-provisional : tie.Need-enum-known-provisional
+enum-known-provisional c = search needs
+
+same-requires : tie.Need-same-requires
+same-requires c κs = search needs
+
+returns : tie.Need-returns
+returns c = let a = c .before .before .before .before .before .args in later-reached (a .provisional) (a .usages) (a .answer) (c .before .same .result) (c .before .before .before .provisional .given .0 .0) (c .before .before .before .provisional .given .1) (c .before .same .ensures) (c .if1 .taken)
+
+enum-told : tie.Need-enum-told
+enum-told c = search needs
+
+initial-kind-requires : tie.Need-initial-kind-requires
+initial-kind-requires c κs = search needs
+
+is-single-requires : tie.Need-is-single-requires
+is-single-requires c κs = search needs
+
+returns-2 : tie.Need-returns-2
+returns-2 c = let a = c .before .before .before .before .before .args in first-reached (a .provisional) (a .usages) (a .answer) (c .before .is-single .result) (c .before .before .initial-kind .result) (c .before .before .before .enum-told .given .1) (c .before .before .initial-kind .ensures) (c .before .is-single .ensures) (c .if2 .taken)
+
+returns-3 : tie.Need-returns-3
+returns-3 c = let a = c .before .before .before .before .before .args in later-missed (a .provisional) (a .usages) (a .answer) (c .before .same .result) (c .before .before .before .provisional .given .0 .0) (c .before .before .before .provisional .given .1) (c .before .same .ensures) (c .if1 .left)
+
+returns-4 : tie.Need-returns-4
+returns-4 c = let a = c .before .before .before .before .before .args in first-missed (a .provisional) (a .usages) (a .answer) (c .before .is-single .result) (c .before .before .initial-kind .result) (c .before .before .before .enum-told .given .1) (c .before .before .initial-kind .ensures) (c .before .is-single .ensures) (c .if2 .left)
+
+pub reached-fixpoint-spec : {M : Type 1} → statement M
+reached-fixpoint-spec =
+    tie.close
+    (tie.spec
+    enum-known-provisional
+    same-requires
+    returns
+    enum-told
+    initial-kind-requires
+    is-single-requires
+    returns-2
+    returns-3
+    returns-4)

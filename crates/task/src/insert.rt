@@ -1,0 +1,120 @@
+// The result of a goal goes to one of the caches. Its frame stood at index `height`.
+use definition::answers::Answer;
+use definition::format::Header;
+use definition::paths::PathKind;
+use definition::replies::Refusal;
+use evaluation::Outcome;
+use layout::heads;
+use layout::offsets;
+use stack::frame;
+ghost use mathlib.Core.Path.{_≡_};
+ghost use mathlib.Core.List.{List};
+ghost use Prim.Native.Nat.{ℕ, _<_};
+ghost use Rattle.definition.specs.Graph.{finalize};
+ghost use Rattle.definition.specs.Heads.{headsEmpty};
+ghost use Rattle.definition.specs.Evaluate.{insertGlobalCache, insertProvisionalCache, insertResult};
+ghost use Rattle.layout.specs.Work.{graphOf};
+ghost use Rattle.stack.specs.Bytes.{GraphBytes, frameAt};
+ghost use Rattle.evaluation.specs.Outcomes.{outcomeOf, FewEntries};
+ghost use Rattle.task.specs.Places.{Popped, Room};
+
+// The nested goals of the frame.
+pub fn nested_at(graph: &[u8], goals: usize, height: usize) -> &[u8]
+    requires { ⌜ GraphBytes goals (now graph) × (height < goals) ⌝ }
+    ensures { λ r. ⌜ now r ≡ (frameAt goals height (now (graph .entry))) .nestedGoals ⌝ }
+{
+    let a = offsets::frame_start(goals, height) + offsets::nested_start(goals);
+    let e = a + goals;
+    &graph[a..e]
+}
+
+// Whether the frame has no heads.
+fn is_headless(graph: &[u8], goals: usize, height: usize) -> bool
+    requires { ⌜ GraphBytes goals (now graph) × (height < goals) ⌝ }
+    ensures { λ r. ⌜ r ≡ headsEmpty ((frameAt goals height (now (graph .entry))) .heads) ⌝ }
+{
+    let f = stack::frame_at(graph, goals, height);
+    heads::is_empty(provisional_cache::frame_heads(f, goals), goals)
+}
+
+fn in_global_cache(
+    cache: &mut [u8],
+    graph: &[u8],
+    h: Header,
+    height: usize,
+    entries: usize,
+    goal: usize,
+    overflow: bool,
+    answer: Answer,
+) -> Outcome
+    requires { ⌜ Popped h height entries goal (now graph) (now cache) ⌝ }
+    ensures { λ r. ⌜ ((root : ℕ) → outcomeOf (h .goals) root height (now (graph .entry)) (now (cache .exit)) r ≡ insertGlobalCache h (graphOf (h .goals) root height entries (now (graph .entry)) (now (cache .entry))) goal (finalize (frameAt (h .goals) height (now (graph .entry))) overflow answer)) × FewEntries (h .goals) r ⌝ }
+{
+    let goals = h.goals;
+    let top = h.top;
+    let required = frame::required_depth(stack::frame_at(graph, goals, height), goals);
+    if top < required {
+        return Outcome::Stopped(Refusal::Unreachable);
+    }
+    let nested = nested_at(graph, goals, height);
+    let made = global_cache::insert(cache, goals, top, goal, overflow, required, answer, nested);
+    match made {
+        global_cache::Insertion::Kept => Outcome::Done(answer, entries),
+        global_cache::Insertion::Conflict => Outcome::Stopped(Refusal::CacheConflict),
+    }
+}
+
+fn in_provisional_cache(
+    graph: &mut [u8],
+    h: Header,
+    height: usize,
+    entries: usize,
+    goal: usize,
+    step: PathKind,
+    overflow: bool,
+    answer: Answer,
+) -> Outcome
+    requires { ⌜ Room h height entries goal (now graph) ⌝ }
+    ensures { λ r. ⌜ ((root : ℕ) (cache : List ℕ) → outcomeOf (h .goals) root height (now (graph .exit)) cache r ≡ insertProvisionalCache h (graphOf (h .goals) root height entries (now (graph .entry)) cache) goal step (finalize (frameAt (h .goals) height (now (graph .entry))) overflow answer)) × FewEntries (h .goals) r ⌝ }
+{
+    let goals = h.goals;
+    let made = provisional_cache::insert(
+        graph,
+        goals,
+        height,
+        entries,
+        goal,
+        step,
+        overflow,
+        answer,
+    );
+    match made {
+        provisional_cache::Insertion::Kept => Outcome::Done(answer, entries + 1),
+        provisional_cache::Insertion::Full => Outcome::Stopped(Refusal::ProvisionalCacheFull),
+    }
+}
+
+// insert_global_cache where the frame has no heads, else insert_provisional_cache.
+pub fn result(
+    cache: &mut [u8],
+    graph: &mut [u8],
+    h: Header,
+    height: usize,
+    entries: usize,
+    goal: usize,
+    step: PathKind,
+    overflow: bool,
+    answer: Answer,
+) -> Outcome
+    requires { ⌜ Popped h height entries goal (now graph) (now cache) ⌝ }
+    ensures { λ r. ⌜ ((root : ℕ) → outcomeOf (h .goals) root height (now (graph .exit)) (now (cache .exit)) r ≡ insertResult h (graphOf (h .goals) root height entries (now (graph .entry)) (now (cache .entry))) goal step (finalize (frameAt (h .goals) height (now (graph .entry))) overflow answer)) × FewEntries (h .goals) r ⌝ }
+{
+    let goals = h.goals;
+    if is_headless(graph, goals, height) {
+        return in_global_cache(cache, graph, h, height, entries, goal, overflow, answer);
+    }
+    if h.provisional {
+        return in_provisional_cache(graph, h, height, entries, goal, step, overflow, answer);
+    }
+    Outcome::Done(answer, entries)
+}

@@ -1,0 +1,226 @@
+// The parts of evaluate_goal and evaluate_goal_in_task of mod.rs that evaluate no goal:
+// the end of an iteration, and what follows a goal's last one.
+use after::Next;
+use definition::answers::Answer;
+use definition::answers::RebaseReason;
+use definition::format::Header;
+use definition::paths::PathKind;
+use evaluation::Outcome;
+use evaluation::TaskOutcome;
+use stack::frame;
+ghost use mathlib.Core.Path.{_≡_};
+ghost use mathlib.Core.Bool.{Bool, _||_};
+ghost use mathlib.Core.List.{List};
+ghost use Prim.Native.Nat.{ℕ, _+_, _-_, _*_, _≤_, _<_};
+ghost use lib.ListN.{length};
+ghost use Rattle.definition.specs.Graph.{Graph};
+ghost use Rattle.definition.specs.Task as task;
+ghost use Rattle.definition.specs.Parent.{updateParentGoal, Ordinary};
+ghost use Rattle.definition.specs.Evaluate.{afterTask};
+ghost use Rattle.layout.specs.Work.{stackOf, entriesOf, graphOf};
+ghost use Rattle.stack.specs.Bytes.{GraphBytes, frameBytes, frameAt};
+ghost use Rattle.evaluation.specs.Outcomes.{outcomeOf, taskOutcomeOf, FewEntries, FewTaskEntries};
+ghost use Rattle.task.specs.Turns.{rerunBy, turn, turned, FewTurned};
+ghost use Rattle.task.specs.Places.{IterationEnded, TaskEnded};
+
+mod after;
+mod insert;
+
+// After an iteration: the goal's outcome, or another iteration, with whether overflow
+// was met so far and how many provisional entries there are.
+pub enum Iteration {
+    End(TaskOutcome),
+    Again(bool, usize),
+}
+
+// a - b, or 0 where that is less.
+fn minus(a: usize, b: usize) -> usize
+    ensures { λ r. ⌜ r ≡ a - b ⌝ }
+{
+    if a < b {
+        return 0;
+    }
+    a - b
+}
+
+fn either(a: bool, b: bool) -> bool
+    ensures { λ r. ⌜ r ≡ (a || b) ⌝ }
+{
+    if a {
+        return true;
+    }
+    b
+}
+
+// ---- the end of an iteration; the frame at index `own` was popped
+
+// The entries that depend on the frame are rebased.
+fn rebased(
+    graph: &mut [u8],
+    goals: usize,
+    own: usize,
+    entries: usize,
+    reason: RebaseReason,
+    overflow: bool,
+    answer: Answer,
+) -> TaskOutcome
+    requires { ⌜ GraphBytes goals (now graph) × ((own < goals) × (entries ≤ 2 * goals)) ⌝ }
+    ensures { λ r. ⌜ ((root : ℕ) (cache : List ℕ) → taskOutcomeOf goals root own (now (graph .exit)) cache r ≡ task.rebased (graphOf goals root own entries (now (graph .entry)) cache) (frameAt goals own (now (graph .entry))) reason overflow answer) × FewTaskEntries goals r ⌝ }
+{
+    let left = rebase::rebase_provisional_cache_entries(graph, goals, own, reason, entries);
+    TaskOutcome::Evaluated(answer, overflow, left)
+}
+
+// Another iteration, unless none is left.
+fn again(
+    graph: &mut [u8],
+    goals: usize,
+    own: usize,
+    entries: usize,
+    left: usize,
+    overflow: bool,
+    answer: Answer,
+) -> Iteration
+    requires { ⌜ GraphBytes goals (now graph) × ((own < goals) × (entries ≤ 2 * goals)) ⌝ }
+    ensures { λ r. ⌜ ((root : ℕ) (cache : List ℕ) (next : Bool → Graph → task.TaskOutcome) → rerunBy left next overflow (graphOf goals root own entries (now (graph .entry)) cache) (frameAt goals own (now (graph .entry))) answer ≡ turned goals root (own + 1) next (now (graph .exit)) cache r) × FewTurned goals left r ⌝ }
+{
+    if left == 0 {
+        let reason = RebaseReason::Ambiguity(Answer::Overflow);
+        let o = rebased(
+            graph,
+            goals,
+            own,
+            entries,
+            reason,
+            overflow,
+            Answer::Overflow,
+        );
+        return Iteration::End(o);
+    }
+    let kept = provisional_cache::clear_for_rerun(graph, goals, own, entries);
+    stack::reset_for_rerun(graph, goals, own, answer);
+    Iteration::Again(overflow, kept)
+}
+
+fn popped(
+    graph: &mut [u8],
+    goals: usize,
+    own: usize,
+    entries: usize,
+    left: usize,
+    overflow: bool,
+    answer: Answer,
+) -> Iteration
+    requires { ⌜ GraphBytes goals (now graph) × ((own < goals) × (entries ≤ 2 * goals)) ⌝ }
+    ensures { λ r. ⌜ ((root : ℕ) (cache : List ℕ) (next : Bool → Graph → task.TaskOutcome) → task.endIteration (rerunBy left next) (overflow || (frameAt goals own (now (graph .entry))) .encounteredOverflow) (graphOf goals root own entries (now (graph .entry)) cache) (frameAt goals own (now (graph .entry))) answer ≡ turned goals root (own + 1) next (now (graph .exit)) cache r) × FewTurned goals left r ⌝ }
+{
+    let f = stack::frame_at(graph, goals, own);
+    let met = either(overflow, frame::overflow(f, goals));
+    let follows = after::next_of(f, goals, answer);
+    match follows {
+        Next::Finish => Iteration::End(TaskOutcome::Evaluated(answer, met, entries)),
+        Next::Rebase(reason) => {
+            let o = rebased(graph, goals, own, entries, reason, met, answer);
+            Iteration::End(o)
+        }
+        Next::Rerun => again(graph, goals, own, entries, left, met, answer),
+    }
+}
+
+// An iteration of the frame on top of the stack ended; `left` more are allowed.
+pub fn end_iteration(
+    o: Outcome,
+    graph: &mut [u8],
+    goals: usize,
+    height: usize,
+    left: usize,
+    overflow: bool,
+) -> Iteration
+    requires { ⌜ IterationEnded goals height (now graph) o ⌝ }
+    ensures { λ r. ⌜ ((root : ℕ) (cache : List ℕ) (next : Bool → Graph → task.TaskOutcome) → turn left next overflow (outcomeOf goals root height (now (graph .entry)) cache o) ≡ turned goals root height next (now (graph .exit)) cache r) × FewTurned goals left r ⌝ }
+{
+    match o {
+        Outcome::Stopped(r) => Iteration::End(TaskOutcome::TaskStopped(r)),
+        Outcome::Done(answer, entries) => {
+            popped(graph, goals, height - 1, entries, left, overflow, answer)
+        }
+    }
+}
+
+// ---- after the last iteration; the goal's frame stood at index `height`
+
+// Copies all bytes.
+fn copy(to: &mut [u8], from: &[u8])
+    requires { ⌜ length (now to) ≡ length (now from) ⌝ }
+    ensures { λ _. ⌜ now (to .exit) ≡ now (from .entry) ⌝ }
+{
+    let mut i: usize = 0;
+    while i < from.len() {
+        to[i] = from[i];
+        i = i + 1;
+    }
+}
+
+// The parent learns what the goal came to.
+fn update_parent(
+    graph: &mut [u8],
+    goals: usize,
+    height: usize,
+    step: PathKind,
+    overflow: bool,
+    reached: usize,
+)
+    requires { ⌜ GraphBytes goals (now graph) × (height < goals) ⌝ }
+    ensures { λ _. ⌜ (stackOf goals height (now (graph .exit)) ≡ updateParentGoal (stackOf goals height (now (graph .entry))) step ((frameAt goals height (now (graph .entry))) .heads) overflow (Ordinary ((frameAt goals height (now (graph .entry))) .nestedGoals)) reached) × (((n : ℕ) → entriesOf goals n (now (graph .exit)) ≡ entriesOf goals n (now (graph .entry))) × (frameBytes goals height (now (graph .exit)) ≡ frameBytes goals height (now (graph .entry)))) ⌝ }
+{
+    let mut nested = [0u8; 64];
+    copy(
+        &mut nested[0..goals],
+        insert::nested_at(graph, goals, height),
+    );
+    parent::update_from_frame(
+        graph,
+        goals,
+        height,
+        step,
+        overflow,
+        &nested[0..goals],
+        reached,
+    );
+}
+
+// The goal was evaluated: the parent is updated and the result kept.
+pub fn finish(
+    o: TaskOutcome,
+    cache: &mut [u8],
+    graph: &mut [u8],
+    h: Header,
+    height: usize,
+    goal: usize,
+    step: PathKind,
+    available: usize,
+) -> Outcome
+    requires { ⌜ TaskEnded h height goal (now graph) (now cache) o ⌝ }
+    ensures { λ r. ⌜ ((root : ℕ) → outcomeOf (h .goals) root height (now (graph .exit)) (now (cache .exit)) r ≡ afterTask h goal step available (taskOutcomeOf (h .goals) root height (now (graph .entry)) (now (cache .entry)) o)) × FewEntries (h .goals) r ⌝ }
+{
+    match o {
+        TaskOutcome::TaskStopped(r) => Outcome::Stopped(r),
+        TaskOutcome::Evaluated(answer, overflow, entries) => {
+            let goals = h.goals;
+            let required = frame::required_depth(stack::frame_at(graph, goals, height), goals);
+            let reached = minus(available, required);
+            update_parent(graph, goals, height, step, overflow, reached);
+            insert::result(
+                cache,
+                graph,
+                h,
+                height,
+                entries,
+                goal,
+                step,
+                overflow,
+                answer,
+            )
+        }
+    }
+}
