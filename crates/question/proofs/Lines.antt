@@ -1,0 +1,98 @@
+-- A question line, test by test; a refusal's number.
+use mathlib.Core.Path.{_≡_, refl, sym, ap, _∙_}
+use mathlib.Core.Bool.{Bool, true, false, _&&_}
+use mathlib.Core.Option.{Option, none, some}
+use mathlib.Core.List.{List}
+use Prim.Native.Nat.{ℕ, zero, suc, _+_, _<_}
+use native.Mathlib.Omega.{arith}
+use lib.Dec.{eqb, lit<}
+use lib.ListN.{length, getD}
+use borrow.Author.Tests.{eq-eqb, ne-eqb}
+use Rattle.definition.specs.Line.{isField, fieldValue, fieldAt}
+use Rattle.definition.specs.Answers.{refusalNumber}
+use Rattle.definition.specs.declared.replies.Refusal.{Refusal}
+use Rattle.definition.specs.declared.replies.Refusal.the-variants.{BookLength, BookLine, BookHeader, BookBody, UnknownGoal, DepthAboveTop, CacheLength, CacheForm, WorkLength, ProvisionalCacheFull, CacheConflict, Unreachable}
+use Rattle.question.specs.declared.Question.{Question}
+use Rattle.question.specs.declared.Question.the-variants.{Asked, IllFormed}
+use Rattle.question.specs.Lines.{questionOf, readQuestion, leadingColumn, lastColumn}
+
+-- ---- reading
+and-false : (a b : Bool) → b ≡ false → a && b ≡ false
+and-false true b e = e
+and-false false b e = refl
+
+no-first : (b : Bool) (y : Option ℕ) → IllFormed ≡ questionOf b none y
+no-first true y = refl
+no-first false y = refl
+
+no-second : (b : Bool) (x : Option ℕ) → IllFormed ≡ questionOf b x none
+no-second true (some g) = refl
+no-second true none = refl
+no-second false x = refl
+
+abbrev fieldIf : Bool → ℕ → Option ℕ
+fieldIf b n = elim b [ true ↦ some n | false ↦ none ]
+
+-- the tests, the fields and the line as plain variables
+module _ (l f g : Bool) (x y : ℕ) where
+  pub no-line : l ≡ false → IllFormed ≡ questionOf l (fieldIf f x) (fieldIf g y)
+  no-line e = ap (λ (b : Bool). questionOf b (fieldIf f x) (fieldIf g y)) (sym e)
+
+  pub no-goal-field : f ≡ false → IllFormed ≡ questionOf l (fieldIf f x) (fieldIf g y)
+  no-goal-field e = no-first l (fieldIf g y) ∙ ap (λ (b : Bool). questionOf l (fieldIf b x) (fieldIf g y)) (sym e)
+
+  pub no-depth-field : g ≡ false → IllFormed ≡ questionOf l (fieldIf f x) (fieldIf g y)
+  no-depth-field e = no-second l (fieldIf f x) ∙ ap (λ (b : Bool). questionOf l (fieldIf f x) (fieldIf b y)) (sym e)
+
+  pub both-fields : (a b : ℕ) → true ≡ l → true ≡ f → true ≡ g → a ≡ x → b ≡ y → Asked a b ≡ questionOf l (fieldIf f x) (fieldIf g y)
+  both-fields a b el ef eg ea eb i = questionOf (el i) (fieldIf (ef i) (ea i)) (fieldIf (eg i) (eb i))
+
+module _ (s : List ℕ) where
+  abbrev isLine : Bool
+  isLine = eqb (length s) 7 && eqb (getD s 6 0) 10
+
+  abbrev fits : ℕ → Bool
+  fits i = isField (getD s i 0) (getD s (i + 1) 0) (getD s (i + 2) 0)
+
+  abbrev value : ℕ → ℕ
+  value i = fieldValue (getD s i 0) (getD s (i + 1) 0) (getD s (i + 2) 0)
+
+  pub wrong-length : (length s ≡ 7 → ⊥) → IllFormed ≡ readQuestion s
+  wrong-length h =
+      no-line isLine (fits 0) (fits 3) (value 0) (value 3) (ap (λ (b : Bool). b && eqb (getD s 6 0) 10) (ne-eqb (length s) 7 h))
+
+  pub no-newline : (getD s 6 0 ≡ 10 → ⊥) → IllFormed ≡ readQuestion s
+  no-newline h =
+      no-line isLine (fits 0) (fits 3) (value 0) (value 3) (and-false (eqb (length s) 7) (eqb (getD s 6 0) 10) (ne-eqb (getD s 6 0) 10 h))
+
+  pub no-goal : fits 0 ≡ false → IllFormed ≡ readQuestion s
+  no-goal h = no-goal-field isLine (fits 0) (fits 3) (value 0) (value 3) h
+
+  pub no-depth : fits 3 ≡ false → IllFormed ≡ readQuestion s
+  no-depth h = no-depth-field isLine (fits 0) (fits 3) (value 0) (value 3) h
+
+  pub asked : (goal depth : ℕ) → length s ≡ 7 → getD s 6 0 ≡ 10 → fits 0 ≡ true → fits 3 ≡ true → goal ≡ value 0 → depth ≡ value 3 → Asked goal depth ≡ readQuestion s
+  asked goal depth long newline f g eg ed =
+      both-fields isLine (fits 0) (fits 3) (value 0) (value 3) goal depth line (sym f) (sym g) eg ed
+    where
+      line : true ≡ isLine
+      line i = sym (eq-eqb (length s) 7 long) i && sym (eq-eqb (getD s 6 0) 10 newline) i
+
+-- ---- writing
+pub not-nothing : (n r : ℕ) → (n ≡ 0 → ⊥) → r ≡ lastColumn n → r ≡ leadingColumn n
+not-nothing zero r h e = elim (h refl) [ ]
+not-nothing (suc n) r h e = e
+
+pub refusal-small : (r : Refusal) → refusalNumber r < 256
+refusal-small BookLength = lit< tt
+refusal-small BookLine = lit< tt
+refusal-small BookHeader = lit< tt
+refusal-small BookBody = lit< tt
+refusal-small UnknownGoal = lit< tt
+refusal-small DepthAboveTop = lit< tt
+refusal-small CacheLength = lit< tt
+refusal-small CacheForm = lit< tt
+refusal-small WorkLength = lit< tt
+refusal-small ProvisionalCacheFull = lit< tt
+refusal-small CacheConflict = lit< tt
+refusal-small Unreachable = lit< tt

@@ -1,0 +1,42 @@
+use native.Mathlib.Omega.{arith}
+use Rattle.question.proofs.Lines.{refusal-small}
+use borrow.Author.Needs.{needs}
+use Rattle.question.proofs.ending_number.Statement.{statement}
+use Rattle.question.proofs.ending_number.Tie as tie
+
+enum-known-e : tie.Need-enum-known-e
+enum-known-e c = search needs
+
+number-requires : tie.Need-number-requires
+number-requires c κs = search needs
+
+cast-result : tie.Need-cast-result
+cast-result c = record { fits = omega (arith, c .number .ensures, refusal-small (c .before .before .e .given .0 .0)) }
+
+enum-told : tie.Need-enum-told
+enum-told c = search needs
+
+enum-told-2 : tie.Need-enum-told-2
+enum-told-2 c = search needs
+
+returns : tie.Need-returns
+returns c = search needs
+
+returns-2 : tie.Need-returns-2
+returns-2 c = search needs
+
+returns-3 : tie.Need-returns-3
+returns-3 c = search needs
+
+pub ending-number-spec : {M : Type 1} → statement M
+ending-number-spec =
+    tie.close
+    (tie.spec
+    enum-known-e
+    number-requires
+    cast-result
+    enum-told
+    enum-told-2
+    returns
+    returns-2
+    returns-3)
