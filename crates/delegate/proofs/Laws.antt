@@ -7,7 +7,7 @@ use native.Mathlib.Omega.{arith}
 use Rattle.definition.specs.declared.answers.Answer.{Answer}
 use Rattle.definition.specs.declared.usages.HeadUsages.{HeadUsages}
 use Rattle.definition.specs.Part.{Part, Parts, Then}
-use Rattle.definition.specs.Graph.{Graph, Outcome, andThen}
+use Rattle.definition.specs.Graph.{Graph, andThen}
 use Rattle.definition.specs.Evaluate.{Evaluator, evalPart}
 use Rattle.delegate.specs.declared.Op.{Op}
 use Rattle.delegate.specs.declared.Op.the-variants.{All, Any, Pick}

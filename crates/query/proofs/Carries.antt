@@ -11,7 +11,7 @@ use Rattle.definition.specs.Query.{Reply, query, zeros}
 use Rattle.soundness.specs.Sets.{Goals, least, greatest}
 use Rattle.soundness.specs.Statement.{Query, replyTo, RightReply, AllRight, RightWithout}
 use Rattle.soundness.proofs.Theorems.{demand-3}
-use Rattle.query.specs.Carried.{cacheAfter, Carried, Without, OfSet, RightQuery}
+use Rattle.query.specs.Carried.{cacheAfter, Carried, Without, RightQuery}
 
 module _ (bytes : List ℕ) (q : Query) where
   after-snoc : (cache : List ℕ) (qs : List Query) → cacheAfter bytes cache (qs ++ (q ∷ [])) ≡ replyTo bytes (cacheAfter bytes cache qs) q .cache

@@ -1,25 +1,23 @@
 -- A list of queries, turn by turn; and its codes are right.
-use mathlib.Core.Path.{_≡_, refl, sym, ap, ap₂, _∙_, subst}
+use mathlib.Core.Path.{_≡_, refl, sym, ap, _∙_, subst}
 use mathlib.Core.Bool.{Bool}
 use mathlib.Core.List.{List, [], _∷_, _++_}
 use Prim.Native.Nat.{ℕ, zero, suc, _+_, _*_, _-_, _≤_, _<_}
 use native.Mathlib.Numerals.{add-one}
 use native.Mathlib.Omega.{arith}
 use lib.ListN.{length, getD, set, take, drop, take-append-drop, drop-of-length-le}
-use Rattle.definition.specs.declared.answers.Answer.{Answer}
 use Rattle.definition.specs.declared.answers.Answer.the-variants.{No, Yes, Undecided, Overflow}
 use Rattle.definition.specs.declared.replies.Refusal.{Refusal}
 use Rattle.definition.specs.declared.replies.Refusal.the-variants.{BookLength, BookLine, BookHeader, BookBody, UnknownGoal, DepthAboveTop, CacheLength, CacheForm, WorkLength, ProvisionalCacheFull, CacheConflict, Unreachable}
 use Rattle.definition.specs.declared.replies.Response.{Response}
 use Rattle.definition.specs.declared.replies.Response.the-variants.{Answered, Refused}
 use Rattle.definition.specs.Answers.{refusalNumber}
-use Rattle.definition.specs.Part.{Book}
 use Rattle.definition.specs.Query.{Reply, query, zeros}
 use Rattle.soundness.specs.Sets.{Goals, least, greatest}
 use Rattle.soundness.specs.Statement.{RightReply}
 use Rattle.book.proofs.Lines.{part-from}
 use Rattle.query.specs.Replies.{replied, responseCode}
-use Rattle.query.specs.Carried.{Carried, Without, OfSet, RightQuery}
+use Rattle.query.specs.Carried.{Carried}
 use Rattle.query.specs.Lists.{Replies, repliedAll, withCode, askEach, askAll, RightCode, RightCodes, EveryCodeRight}
 use Rattle.query.proofs.Carries.{right-query, new-cache}
 

@@ -1,39 +1,38 @@
 -- The definition's equations where the three functions call each other, with nothing of the code in them.
 use mathlib.Core.Path.{_≡_, refl, sym, ap, _∙_, subst}
-use mathlib.Core.Bool.{Bool, true, false}
-use mathlib.Core.Option.{Option, none, some}
-use mathlib.Core.List.{List, [], _∷_}
+use mathlib.Core.Bool.{Bool, false}
+use mathlib.Core.Option.{none, some}
+use mathlib.Core.List.{List, _∷_}
 use Prim.Native.Nat.{ℕ, zero, suc, _+_, _*_, _-_, _^_, _≤_, _<_, pred}
 use native.Mathlib.Omega.{arith}
-use native.Mathlib.Numerals.{add-one, sub-one}
 use lib.ListN.{length, getD, drop}
 use Rattle.definition.specs.declared.paths.PathKind.{PathKind}
 use Rattle.definition.specs.declared.answers.Answer.{Answer}
 use Rattle.definition.specs.declared.format.Header.{Header}
 use Rattle.definition.specs.declared.replies.Refusal.the-variants.{Unreachable}
-use Rattle.definition.specs.Part.{Part, Book, partAt}
+use Rattle.definition.specs.Part.{Book, partAt}
 use Rattle.definition.specs.Graph.{Graph, withStack}
 use Rattle.definition.specs.Graph as graph
-use Rattle.definition.specs.Task.{evaluateGoalInTask, pushRerun, iteration, stepLimitReached}
-use Rattle.definition.specs.Task as task
-use Rattle.definition.specs.Evaluate.{Evaluator, evalPart, computeGoal, newFrame, afterTask, evaluateNewFrame, evaluateGoalWith, evaluateGoal}
-use Rattle.layout.specs.Work.{graphOf, mergedOf}
-use Rattle.book.specs.Parts.{Reads, partIn}
-use Rattle.book.specs.Read.{IsBook, bookIn, GoalStarts}
+use Rattle.definition.specs.Task.{evaluateGoalInTask}
+use Rattle.definition.specs.Evaluate.{evalPart, computeGoal, newFrame, afterTask, evaluateNewFrame, evaluateGoalWith, evaluateGoal}
+use Rattle.layout.specs.Work.{graphOf}
+use Rattle.book.specs.Parts.{partIn}
+use Rattle.book.specs.Read.{bookIn}
 use Rattle.global_cache.specs.Cache.{CacheBytes}
 use Rattle.evaluation.specs.declared.Outcome.{Outcome}
 use Rattle.evaluation.specs.declared.Outcome.the-variants.{Done, Stopped}
 use Rattle.evaluation.specs.declared.TaskOutcome.{TaskOutcome}
 use Rattle.evaluation.specs.Workspace.{WorkBytes, graphIn}
-use Rattle.evaluation.specs.Outcomes.{outcomeOf, taskOutcomeOf, FewEntries, FewTaskEntries}
+use Rattle.evaluation.specs.Outcomes.{outcomeOf, taskOutcomeOf}
 use Rattle.lookup.specs.declared.Found.{Found}
 use Rattle.lookup.specs.declared.Found.the-variants.{Known, Push}
 use Rattle.lookup.specs.Lookups.{found}
 use Rattle.task.specs.declared.Iteration.{Iteration}
 use Rattle.task.specs.declared.Iteration.the-variants.{End, Again}
 use Rattle.task.specs.Turns.{turn, turned, FewTurned}
-use Rattle.search_graph.specs.Calls.{Running, evaluator, Comes, TaskComes, keptBelow}
-use Rattle.search_graph.specs.Steps.{Looking, LookedUp, Pushed, IterationEnded, Finishing, Finished}
+use Rattle.task.proofs.Turns.{turn-is}
+use Rattle.search_graph.specs.Calls.{Running, evaluator, Comes, TaskComes}
+use Rattle.search_graph.specs.Steps.{Looking, LookedUp, Pushed, IterationEnded, Finished}
 
 -- ---- the measure: goals off the stack, then iterations left, then bytes left
 abbrev pub rank : ℕ → ℕ → ℕ → ℕ
@@ -170,16 +169,11 @@ module _ (book starts cache work : List ℕ) (h : Header) (root height n goal : 
           }
 
 -- ---- rerun
-module _ (f : Graph → graph.Outcome) where
-  turns : (left : ℕ) (overflow : Bool) (g : Graph) → evaluateGoalInTask f left overflow g ≡ turn left (evaluateGoalInTask f (left - 1)) overflow (f g)
-  turns zero overflow g = refl
-  turns (suc left) overflow g = let e : left ≡ suc left - 1 = omega arith in ap (λ (m : ℕ). iteration (λ o g1 f1 result. evaluateGoalInTask f m o (pushRerun g1 f1 result)) overflow (f g)) e
-
 module _ (goals root height left : ℕ) (overflow : Bool) (f : Graph → graph.Outcome) (g : Graph) (work work1 cache1 : List ℕ) (o : Outcome)
     (read : Comes goals root height (height - 1) (f g) work work1 cache1 o)
     (work2 : List ℕ) (r : Iteration) (ended : IterationEnded goals height left overflow o work1 work2 r) where
   ends : evaluateGoalInTask f left overflow g ≡ turned goals root height (evaluateGoalInTask f (left - 1)) (graphIn goals work2) cache1 r
-  ends = turns f left overflow g ∙ ap (turn left (evaluateGoalInTask f (left - 1)) overflow) (sym (read .is)) ∙ ended .is root cache1 (evaluateGoalInTask f (left - 1))
+  ends = turn-is f left overflow g ∙ ap (turn left (evaluateGoalInTask f (left - 1)) overflow) (sym (read .is)) ∙ ended .is root cache1 (evaluateGoalInTask f (left - 1))
 
   pub rerun-ends : (t : TaskOutcome) → r ≡ End t → TaskComes goals root (height - 1) (evaluateGoalInTask f left overflow g) work work2 cache1 t
   unfolding turned

@@ -1,5 +1,5 @@
 -- The graph is lent as the first part of the workspace, and comes back.
-use mathlib.Core.Path.{_≡_, refl, sym, ap, _∙_}
+use mathlib.Core.Path.{_≡_, sym, ap, _∙_}
 use mathlib.Core.Bool.{Bool}
 use mathlib.Core.List.{List, _∷_}
 use Prim.Native.Nat.{ℕ, _+_, _*_, _-_, _≤_, _<_}
@@ -7,8 +7,7 @@ use native.Mathlib.Omega.{arith}
 use lib.ListN.{length, take, drop}
 use Rattle.definition.specs.declared.paths.PathKind.{PathKind}
 use Rattle.definition.specs.declared.format.Header.{Header}
-use Rattle.definition.specs.Stack.{Frame, Stack}
-use Rattle.definition.specs.Graph.{Entry, Graph, withStack}
+use Rattle.definition.specs.Graph.{Graph}
 use Rattle.definition.specs.Graph as graph
 use Rattle.definition.specs.Task as task
 use Rattle.definition.specs.Evaluate.{evaluateGoalWith, newFrame, afterTask}
@@ -22,7 +21,7 @@ use Rattle.stack.proofs.Parts.{part, returned, part-length, part-back}
 use Rattle.evaluation.specs.declared.Outcome.{Outcome}
 use Rattle.evaluation.specs.declared.TaskOutcome.{TaskOutcome}
 use Rattle.evaluation.specs.Workspace.{WorkBytes, graphIn}
-use Rattle.evaluation.specs.Outcomes.{outcomeOf, taskOutcomeOf, FewEntries, FewTaskEntries}
+use Rattle.evaluation.specs.Outcomes.{outcomeOf, taskOutcomeOf, FewEntries}
 use Rattle.lookup.specs.declared.Found.{Found}
 use Rattle.lookup.specs.declared.Found.the-variants.{Push}
 use Rattle.lookup.specs.Lookups.{found}
@@ -110,7 +109,7 @@ module _ (goals : ℕ) (work : List ℕ) (n : ℕ) (w : WorkBytes goals work) (i
       record {
         is = λ root m cache.
             let s : stackOf goals (height + 1) (graphIn goals (returned work 0 n ys)) ≡ newFrame goals goal step available ∷ stackOf goals height (graphIn goals work) =
-                ap (stackOf goals (height + 1)) b ∙ es ∙ ap (λ (bs : List ℕ). newFrame goals goal step available ∷ stackOf goals height bs) l in
+            ap (stackOf goals (height + 1)) b ∙ es ∙ ap (λ (bs : List ℕ). newFrame goals goal step available ∷ stackOf goals height bs) l in
             let t : entriesOf goals m (graphIn goals (returned work 0 n ys)) ≡ entriesOf goals m (graphIn goals work) = ap (entriesOf goals m) b ∙ ee m ∙ ap (entriesOf goals m) l in
             λ j. record { rootDepth = root; stack = s j; provisionalCache = t j; globalCache = cache };
         merged = merged-back goals work n w is ys kept;

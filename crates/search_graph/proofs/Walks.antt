@@ -1,18 +1,14 @@
 -- A part is read by its first line; a group, part by part.
 use mathlib.Core.Path.{_≡_, refl, sym, ap, _∙_, subst}
-use mathlib.Core.Logic.{_≢_}
 use mathlib.Core.Bool.{Bool, true, false}
-use mathlib.Core.List.{List, [], _∷_}
-use Prim.Native.Nat.{ℕ, zero, suc, _+_, _*_, _-_, _≤_, _<_}
+use mathlib.Core.List.{List}
+use Prim.Native.Nat.{ℕ, _*_, _-_, _≤_, _<_}
 use native.Mathlib.Omega.{arith}
 use native.Mathlib.Decide.{decLt}
-use lib.ListN.{length, getD, take, drop, length-drop}
-use Rattle.definition.specs.declared.usages.HeadUsages.{HeadUsages}
-use Rattle.definition.specs.declared.answers.Answer.{Answer}
+use lib.ListN.{length, take, drop, length-drop}
 use Rattle.definition.specs.declared.answers.Answer.the-variants as answers
 use Rattle.definition.specs.declared.format.Line.{Line}
-use Rattle.definition.specs.declared.format.Header.{Header}
-use Rattle.definition.specs.Part.{Part, Parts, Node, UndecidedLine, Then}
+use Rattle.definition.specs.Part.{Part, Parts, Node, Then}
 use Rattle.definition.specs.Part as part
 use Rattle.definition.specs.Graph.{Graph, andThen}
 use Rattle.definition.specs.Graph as graph
@@ -26,7 +22,7 @@ use Rattle.book.proofs.Walk.{known-code, is-call, is-all, is-any, is-pick, is-u
 use Rattle.evaluation.specs.declared.Outcome.{Outcome}
 use Rattle.evaluation.specs.declared.Outcome.the-variants.{Done}
 use Rattle.evaluation.specs.Workspace.{graphIn}
-use Rattle.evaluation.specs.Outcomes.{outcomeOf, FewEntries}
+use Rattle.evaluation.specs.Outcomes.{outcomeOf}
 use Rattle.delegate.specs.declared.Op.{Op}
 use Rattle.delegate.specs.declared.Op.the-variants.{All, Any, Pick}
 use Rattle.delegate.specs.declared.Group.{Group}

@@ -15,7 +15,6 @@ use evaluation::TaskOutcome;
 use lookup::Found;
 use steps::Shape;
 use task::Iteration;
-ghost use mathlib.Core.Path.{_≡_};
 ghost use mathlib.Core.Bool.{false};
 ghost use Prim.Native.Nat.{_-_, _≤_, _<_};
 ghost use Rattle.definition.specs.Task.{evaluateGoalInTask};
@@ -92,7 +91,16 @@ fn rerun(
     ensures { λ r. ⌜ TaskComes (h .goals) root (height - 1) (evaluateGoalInTask (evalPart (evaluator (now (book .entry)) h height) (h .goals) (partIn (h .goals) false (now (p .entry)))) left overflow (graphOf (h .goals) root height entries (graphIn (h .goals) (now (work .entry))) (now (cache .entry)))) (now (work .entry)) (now (work .exit)) (now (cache .exit)) r ⌝ }
 {
     let o = read_part(
-        book, starts, p, cache, work, h, root, height, entries, false,
+        book,
+        starts,
+        p,
+        cache,
+        work,
+        h,
+        root,
+        height,
+        entries,
+        false,
     );
     let next = steps::end_iteration(o, work, h.goals, height, left, overflow);
     match next {

@@ -1,9 +1,9 @@
 use borrow.Author.Needs.{needs}
-use mathlib.Core.Path.{_≡_, refl, sym, ap, _∙_}
+use mathlib.Core.Path.{_≡_, refl, sym, _∙_}
 use mathlib.Core.Bool.{false}
 use native.Mathlib.Omega.{arith}
-use lib.ListN.{length, getD, take, drop}
-use Prim.Native.Nat.{ℕ, _+_, _-_, _*_, _≤_, _<_}
+use lib.ListN.{length, take, drop}
+use Prim.Native.Nat.{ℕ, _+_, _-_, _*_, _<_}
 use Rattle.definition.specs.Evaluate.{evalPart}
 use Rattle.layout.specs.Work.{graphOf, mergedOf}
 use Rattle.book.specs.Lines.{lineIn}
@@ -12,7 +12,7 @@ use Rattle.book.proofs.Walk.{a-line}
 use Rattle.evaluation.specs.Workspace.{graphIn}
 use Rattle.delegate.specs.Groups.{rest}
 use Rattle.search_graph.specs.Calls.{evaluator}
-use Rattle.search_graph.proofs.Cycle.{rank, lower, fewer, work-next, cache-next, running-next, looking, known, full, framed, rerun-ends, rerun-again, rerun-few}
+use Rattle.search_graph.proofs.Cycle.{rank, lower, fewer, work-next, cache-next, running-next, known, full, framed, rerun-ends, rerun-again, rerun-few}
 use Rattle.search_graph.proofs.Walks.{called, undecided, in-part, part-shorter, Walk, walk-starts, walk-whole, walk-reads, walk-stops, walk-next, walk-ends, call-comes, undecided-comes}
 use borrow.Fn.Kinds.{In}
 use borrow.Fn.PlainCycle.{Measures, is, falls, and}
@@ -266,8 +266,7 @@ read-part-before-requires t c κs =
 read-part-read-part-requires : (t : ℕ) → read-part-lts.Need-read-part-requires (read-part-claims t) (read-part-at t) read-part.Post read-part-Inv-loop read-part-μ-loop
 read-part-read-part-requires t c κs =
     let s = c .before .before .before .before .before .before .before .before .before .before .before .before .before .before .before .before .before .before .before .before .before .before .before .before .before in let a = s .args in let run = s .pre .1 .0 in let reads = s .pre .1 .1 .1 in let some-frame = s .pre .1 .1 .0 in
-    let l = c .before .before .before .before .before .before .before .loop in let walk = l .inv .0 in
-    (
+    let l = c .before .before .before .before .before .before .before .loop in let walk = l .inv .0 in (
       fewer ((a .h .goals - a .height) * 128 + 0) (length (a .p .now)) (length (l .t .now)) t (s .pre .0) (walk .shorter),
       (
         running-next _ _ (a .height) _ run (l .inv .1 .1) (c .before .before .before .before .before2 .kept .1 .0 ∙ l .inv .1 .0 ∙ c .before .before .before .before .before .before .before .before .before .before .before .before .begin .kept .1 .0) (run .stack) (walk .few),

@@ -2,10 +2,6 @@ use Rattle.search_graph.proofs.Lending.{iteration-ended}
 use borrow.Author.Needs.{needs}
 use Rattle.search_graph.proofs.steps.end_iteration.Statement.{statement}
 use Rattle.search_graph.proofs.steps.end_iteration.Tie as tie
-use Rattle.search_graph.proofs.steps.end_iteration.Reads as reads
-use Rattle.search_graph.proofs.steps.end_iteration.Lts as lts
-use Rattle.layout.proofs.offsets.graph_length.Reads as graph-length-reads
-use Rattle.task.proofs.end_iteration.Reads as end-iteration-reads
 
 -- src/steps.rt:115:9
 graph-length-requires : tie.Need-graph-length-requires

@@ -2,10 +2,6 @@ use Rattle.search_graph.proofs.Lending.{finished, lent-bytes}
 use borrow.Author.Needs.{needs}
 use Rattle.search_graph.proofs.steps.finish.Statement.{statement}
 use Rattle.search_graph.proofs.steps.finish.Tie as tie
-use Rattle.search_graph.proofs.steps.finish.Reads as reads
-use Rattle.search_graph.proofs.steps.finish.Lts as lts
-use Rattle.layout.proofs.offsets.graph_length.Reads as graph-length-reads
-use Rattle.task.proofs.finish.Reads as finish-reads
 
 -- src/steps.rt:132:9
 graph-length-requires : tie.Need-graph-length-requires

@@ -2,10 +2,6 @@ use Rattle.search_graph.proofs.Lending.{looked-up}
 use borrow.Author.Needs.{needs}
 use Rattle.search_graph.proofs.steps.look_up.Statement.{statement}
 use Rattle.search_graph.proofs.steps.look_up.Tie as tie
-use Rattle.search_graph.proofs.steps.look_up.Reads as reads
-use Rattle.search_graph.proofs.steps.look_up.Lts as lts
-use Rattle.layout.proofs.offsets.graph_length.Reads as graph-length-reads
-use Rattle.lookup.proofs.lookup.Reads as lookup-reads
 
 -- src/steps.rt:75:9
 graph-length-requires : tie.Need-graph-length-requires

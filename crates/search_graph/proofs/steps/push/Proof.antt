@@ -2,10 +2,6 @@ use Rattle.search_graph.proofs.Lending.{pushed}
 use borrow.Author.Needs.{needs}
 use Rattle.search_graph.proofs.steps.push.Statement.{statement}
 use Rattle.search_graph.proofs.steps.push.Tie as tie
-use Rattle.search_graph.proofs.steps.push.Reads as reads
-use Rattle.search_graph.proofs.steps.push.Lts as lts
-use Rattle.layout.proofs.offsets.graph_length.Reads as graph-length-reads
-use Rattle.stack.proofs.push.Reads as push-reads
 
 -- src/steps.rt:100:9
 graph-length-requires : tie.Need-graph-length-requires

@@ -1,8 +1,6 @@
 use Rattle.search_graph.proofs.Codes.{coded, uncoded}
 use Rattle.search_graph.proofs.steps.shape_of.Statement.{statement}
 use Rattle.search_graph.proofs.steps.shape_of.Tie as tie
-use Rattle.search_graph.proofs.steps.shape_of.Reads as reads
-use Rattle.search_graph.proofs.steps.shape_of.Lts as lts
 
 -- src/steps.rt:26:1
 returns : tie.Need-returns
