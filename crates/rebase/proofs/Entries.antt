@@ -56,9 +56,6 @@ module _ (reason : RebaseReason) (kind result : Answer) (u : HeadUsages) (is : r
   pub reason-same : t ≡ true → (r : Bool) → r ≡ sameAnswer result kind → r ≡ reasonKeeps reason result u
   reason-same e r is-r = is-r ∙ sym (ap (λ (x : Bool). x && sameAnswer result kind) e) ∙ reason-open
 
-  pub reason-not : t ≡ false → false ≡ reasonKeeps reason result u
-  reason-not e = sym (ap (λ (x : Bool). x && sameAnswer result kind) e) ∙ reason-open
-
 pub reason-single : (reason : RebaseReason) (kind : PathKind) (result : Answer) (u : HeadUsages) → reason ≡ FirstFixpoint kind → (r : Bool) → r ≡ isSingle u kind → r ≡ reasonKeeps reason result u
 reason-single reason kind result u is r is-r = is-r ∙ sym (ap (λ (x : RebaseReason). reasonKeeps x result u) is)
 

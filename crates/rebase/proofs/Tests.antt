@@ -5,7 +5,7 @@ use mathlib.Core.List.{List, [], _∷_}
 use Prim.Native.Nat.{ℕ}
 use Rattle.definition.specs.declared.paths.PathKind.{PathKind}
 use Rattle.definition.specs.declared.paths.PathKind.the-variants.{Inductive, Unknown, Coinductive, ForcedAmbiguity}
-use Rattle.definition.specs.Paths.{extend, sameKind, containsPath, pathKinds, containedIn, iterPaths}
+use Rattle.definition.specs.Paths.{extend, sameKind, containsPath, pathKinds, containedIn}
 use Rattle.definition.specs.ProvisionalCache.{everyEpKeeps, everyPhKeeps}
 use Rattle.provisional_cache.proofs.Tests.{not-true, not-false}
 

@@ -9,7 +9,6 @@ use lib.ListN.{length, drop}
 use lib.Seq.{drop-set-lt}
 use Rattle.definition.specs.Graph.{Entry}
 use Rattle.definition.specs.Heads.{CycleHeads}
-use Rattle.definition.specs.Stack.{Frame}
 use Rattle.buffer.specs.Regions.{region, overwrite}
 use Rattle.buffer.proofs.Tables.{record-whole}
 use Rattle.layout.specs.Blocks.{headsSize, headsOf, HeadsBlock}

@@ -1,4 +1,4 @@
-use mathlib.Core.Path.{sym, ap, _∙_}
+use mathlib.Core.Path.{ap, _∙_}
 use mathlib.Core.Option.{none}
 use lib.ListN.{getD}
 use Rattle.definition.specs.Heads.{CycleHeads}

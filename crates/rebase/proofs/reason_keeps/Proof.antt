@@ -1,4 +1,4 @@
-use Rattle.rebase.proofs.Entries.{reason-same, reason-not, reason-single}
+use Rattle.rebase.proofs.Entries.{reason-same, reason-single}
 use borrow.Author.Needs.{needs}
 use Rattle.rebase.proofs.reason_keeps.Statement.{statement}
 use Rattle.rebase.proofs.reason_keeps.Tie as tie
