@@ -1,12 +1,12 @@
 //! The proved library and the original, side by side in one process, on generated cases: answers, refusals, every byte of
 //! cache and workspace, and guard bytes around what is lent.
 
-mod library;
+mod guarded;
 
 use std::process::ExitCode;
 use std::time::Instant;
 
-use library::Guarded;
+use guarded::Guarded;
 use oracle_core::arguments::Arguments;
 use oracle_core::case::{Case, Query};
 use oracle_core::generate::{CLASSES, Class, class_named};
@@ -87,7 +87,13 @@ fn compare_query(
         Outcome::Panicked | Outcome::FrameIsWrong(_) => return tally.panics += 1,
     };
     let book = Guarded::new(&case.book);
-    let code = library::query(&book, &mut our_cache, &mut our_work, query.goal, query.depth);
+    let code = library::query(
+        book.inner(),
+        our_cache.inner_mut(),
+        our_work.inner_mut(),
+        query.goal,
+        query.depth,
+    );
     tally.compared += 1;
     match refusal {
         0 => tally.answers[answer as usize] += 1,

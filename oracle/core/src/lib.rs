@@ -21,6 +21,8 @@ mod delegate;
 mod read_book;
 #[cfg(not(feature = "wrong_readings"))]
 pub mod reply;
+#[cfg(not(feature = "wrong_readings"))]
+pub mod session;
 
 // The same four modules, with the edits of wrong_readings.rs.
 #[cfg(feature = "wrong_readings")]

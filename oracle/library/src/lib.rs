@@ -1,0 +1,40 @@
+//! The proved library: the C functions of include/search_graph.h, on slices.
+
+unsafe extern "C" {
+    fn search_graph_work_len(goals: usize) -> usize;
+    fn search_graph_cache_len(goals: usize, top_depth: usize) -> usize;
+    fn search_graph_query(
+        book: *const u8,
+        book_len: usize,
+        cache: *mut u8,
+        cache_len: usize,
+        work: *mut u8,
+        work_len: usize,
+        goal: usize,
+        depth: usize,
+    ) -> u32;
+}
+
+pub fn work_len(goals: usize) -> usize {
+    unsafe { search_graph_work_len(goals) }
+}
+
+pub fn cache_len(goals: usize, top_depth: usize) -> usize {
+    unsafe { search_graph_cache_len(goals, top_depth) }
+}
+
+/// Answer + 256 * refusal.
+pub fn query(book: &[u8], cache: &mut [u8], work: &mut [u8], goal: usize, depth: usize) -> u32 {
+    unsafe {
+        search_graph_query(
+            book.as_ptr(),
+            book.len(),
+            cache.as_mut_ptr(),
+            cache.len(),
+            work.as_mut_ptr(),
+            work.len(),
+            goal,
+            depth,
+        )
+    }
+}
