@@ -17,7 +17,13 @@ pub struct List {
 pub struct Class {
     pub name: &'static str,
     pub what: &'static str,
-    pub lists: Vec<List>,
+    make: fn() -> Vec<List>,
+}
+
+impl Class {
+    pub fn lists(&self) -> Vec<List> {
+        (self.make)()
+    }
 }
 
 fn list(book: &Book, queries: Vec<(usize, usize)>, warm: bool) -> List {
@@ -102,23 +108,24 @@ fn cached(lists: Vec<List>) -> Vec<List> {
         .collect()
 }
 
-pub fn classes() -> Vec<Class> {
-    let class = |name, what, lists| Class { name, what, lists };
-    vec![
-        class("rings-4", "rings of 4 goals", rings(4, true, 20, 20)),
-        class("rings-16", "rings of 16 goals", rings(16, true, 20, 100)),
-        class("rings-64", "rings of 64 goals", rings(64, true, 10, 300)),
-        class("rings-4-off", "the same, provisional cache off", rings(4, false, 20, 20)),
-        class("rings-16-off", "the same, provisional cache off", rings(16, false, 20, 100)),
-        class("rings-64-off", "the same, provisional cache off", rings(64, false, 5, 300)),
-        class("picks", "picks of calls", generated("picks", 20, 30)),
-        class("tangled", "cycles that cross each other", generated("tangled", 20, 50)),
-        class("nested", "parts nested up to 8 deep", generated("nested", 20, 30)),
-        class("large", "17 to 64 goals", generated("large", 20, 50)),
-        class("long", "up to 1,000 lines", generated("long", 20, 30)),
-        class("cached-4", "4 goals, all in the cache", cached(rings(4, true, 20, 1))),
-        class("cached-16", "16 goals, all in the cache", cached(rings(16, true, 20, 1))),
-        class("cached-64", "64 goals, all in the cache", cached(rings(64, true, 5, 1))),
-        class("cached-long", "up to 1,000 lines, all in the cache", cached(generated("long", 20, 30))),
-    ]
+const fn class(name: &'static str, what: &'static str, make: fn() -> Vec<List>) -> Class {
+    Class { name, what, make }
 }
+
+pub const CLASSES: &[Class] = &[
+    class("rings-4", "rings of 4 goals", || rings(4, true, 20, 20)),
+    class("rings-16", "rings of 16 goals", || rings(16, true, 20, 100)),
+    class("rings-64", "rings of 64 goals", || rings(64, true, 10, 300)),
+    class("rings-4-off", "the same, provisional cache off", || rings(4, false, 20, 20)),
+    class("rings-16-off", "the same, provisional cache off", || rings(16, false, 20, 100)),
+    class("rings-64-off", "the same, provisional cache off", || rings(64, false, 5, 300)),
+    class("picks", "picks of calls", || generated("picks", 20, 30)),
+    class("tangled", "cycles that cross each other", || generated("tangled", 20, 50)),
+    class("nested", "parts nested up to 8 deep", || generated("nested", 20, 30)),
+    class("large", "17 to 64 goals", || generated("large", 20, 50)),
+    class("long", "up to 1,000 lines", || generated("long", 20, 30)),
+    class("cached-4", "4 goals, all in the cache", || cached(rings(4, true, 20, 1))),
+    class("cached-16", "16 goals, all in the cache", || cached(rings(16, true, 20, 1))),
+    class("cached-64", "64 goals, all in the cache", || cached(rings(64, true, 5, 1))),
+    class("cached-long", "up to 1,000 lines, all in the cache", || cached(generated("long", 20, 30))),
+];

@@ -5,7 +5,7 @@ mod lists;
 use std::hint::black_box;
 use std::time::Instant;
 
-use lists::{Class, List};
+use lists::List;
 use oracle_core::session::Session;
 use oracle_core::work_len;
 
@@ -54,8 +54,8 @@ fn floor(list: &List, work: &mut [u8]) -> u64 {
     start.elapsed().as_nanos() as u64
 }
 
-fn total(class: &Class, run: &mut dyn FnMut(&List, &mut [u8]) -> u64) -> u64 {
-    class.lists.iter().map(|list| run(list, &mut vec![0; work_len(list.goals)])).sum()
+fn total(lists: &[List], run: &mut dyn FnMut(&List, &mut [u8]) -> u64) -> u64 {
+    lists.iter().map(|list| run(list, &mut vec![0; work_len(list.goals)])).sum()
 }
 
 fn median(mut values: Vec<f64>) -> f64 {
@@ -67,30 +67,31 @@ fn median(mut values: Vec<f64>) -> f64 {
 fn table(rounds: usize) {
     println!("| class | lists | queries | library, µs a query | original, µs a query | original / library | library / floor |");
     println!("|---|---|---|---|---|---|---|");
-    for class in lists::classes() {
-        let queries: usize = class.lists.iter().map(|l| l.queries.len()).sum();
+    for class in lists::CLASSES {
+        let lists = class.lists();
+        let queries: usize = lists.iter().map(|l| l.queries.len()).sum();
         let (mut ours, mut theirs, mut floors) = (vec![], vec![], vec![]);
         for _ in 0..rounds {
-            ours.push(total(&class, &mut |l, w| library(l, w)) as f64);
-            theirs.push(total(&class, &mut |l, _| original(l)) as f64);
-            floors.push(total(&class, &mut |l, w| floor(l, w)) as f64);
+            ours.push(total(&lists, &mut |l, w| library(l, w)) as f64);
+            theirs.push(total(&lists, &mut |l, _| original(l)) as f64);
+            floors.push(total(&lists, &mut |l, w| floor(l, w)) as f64);
         }
         let (ours, theirs, floors) = (median(ours), median(theirs), median(floors));
         let each = |total: f64| total / 1000.0 / queries as f64;
         println!(
             "| {} ({}) | {} | {queries} | {:.1} | {:.1} | {:.2} | {:.1} |",
-            class.name, class.what, class.lists.len(), each(ours), each(theirs), theirs / ours, ours / floors
+            class.name, class.what, lists.len(), each(ours), each(theirs), theirs / ours, ours / floors
         );
     }
 }
 
 fn count(name: &str, engine: &str, times: usize) -> Result<(), String> {
-    let class = lists::classes().into_iter().find(|c| c.name == name).ok_or("no such class")?;
+    let lists = lists::CLASSES.iter().find(|c| c.name == name).ok_or("no such class")?.lists();
     for _ in 0..times {
         match engine {
-            "library" => total(&class, &mut |l, w| library(l, w)),
-            "original" => total(&class, &mut |l, _| original(l)),
-            "floor" => total(&class, &mut |l, w| floor(l, w)),
+            "library" => total(&lists, &mut |l, w| library(l, w)),
+            "original" => total(&lists, &mut |l, _| original(l)),
+            "floor" => total(&lists, &mut |l, w| floor(l, w)),
             _ => return Err("no such engine".into()),
         };
     }
