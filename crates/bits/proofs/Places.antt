@@ -2,7 +2,7 @@
 use mathlib.Core.Path.{_≡_, refl, sym, ap, ap₂, _∙_}
 use mathlib.Core.Bool.{Bool, true, false}
 use mathlib.Core.List.{List, [], _∷_, _++_}
-use mathlib.Core.Option.{Option, none, some}
+use mathlib.Core.Option.{Option, none, some, Option·some-injective, Option·none-ne-some, Option·some-ne-none}
 use Prim.Native.Nat.{ℕ, zero, suc, _+_, _*_, _-_, _/_, _%_, _^_, _≤_, _<_, min}
 use native.Mathlib.Nat.{pow-suc, add-zero}
 use native.Mathlib.Omega.{arith}
@@ -146,35 +146,35 @@ pub clear-less : (a : ℕ) → 0 < a → bitAnd a (a - 1) < a
 clear-less a p = omega (arith, and-le-r a (a - 1))
 
 next-some : (o : Option ℕ) (j : ℕ) → nextPlace o ≡ some j → (i : ℕ) × (o ≡ some i) × (suc i ≡ j)
-next-some none j e = let z : _≡_ {A = ℕ} 0 1 = cc in absurd (omega arith)
-next-some (some i) j e = (i, refl, cc)
+next-some none j e = absurd (Option·none-ne-some j e)
+next-some (some i) j e = (i, refl, Option·some-injective (suc i) j e)
 
 next-none : (o : Option ℕ) → nextPlace o ≡ none → o ≡ none
 next-none none e = refl
-next-none (some i) e = let z : _≡_ {A = ℕ} 0 1 = cc in absurd (omega arith)
+next-none (some i) e = absurd (Option·some-ne-none (suc i) e)
 
-some-zero : (j : ℕ) → _≡_ {A = Option ℕ} (some 0) (some j) → 0 ≡ j
-some-zero j e = cc
-
-no-some : (j : ℕ) → _≡_ {A = Option ℕ} none (some j) → ⊥
-no-some j e = let z : _≡_ {A = ℕ} 0 1 = cc in omega arith
-
-some-none : (j : ℕ) → _≡_ {A = Option ℕ} (some j) none → ⊥
-some-none j e = let z : _≡_ {A = ℕ} 0 1 = cc in omega arith
+-- the first place is set
+pub first-set : (xs : List Bool) (j : ℕ) → firstPlace xs ≡ some j → getD xs j false ≡ true
+unfolding firstPlace
+first-set [] j e = absurd (Option·none-ne-some j e)
+first-set (true ∷ xs) j e = sym (ap (λ (k : ℕ). getD (true ∷ xs) k false) (Option·some-injective 0 j e))
+first-set (false ∷ xs) j e =
+    let n = next-some (firstPlace xs) j e in
+    sym (ap (λ (k : ℕ). getD (false ∷ xs) k false) (n .2)) ∙ first-set xs (n .0) (n .1)
 
 module _ {S : Type 0} (f : ℕ → S → S) where
   -- the end of a fold over the places
   pub fold-none : (xs : List Bool) (i : ℕ) (s : S) → firstPlace xs ≡ none → foldPlaces f i xs s ≡ s
   unfolding firstPlace foldPlaces
   fold-none [] i s e = refl
-  fold-none (true ∷ xs) i s e = absurd (some-none 0 e)
+  fold-none (true ∷ xs) i s e = absurd (Option·some-ne-none 0 e)
   fold-none (false ∷ xs) i s e = fold-none xs (suc i) s (next-none (firstPlace xs) e)
 
   -- its first turn
   pub fold-next : (xs : List Bool) (i j : ℕ) (s : S) → firstPlace xs ≡ some j → foldPlaces f i xs s ≡ foldPlaces f i (set xs j false) (f (i + j) s)
   unfolding firstPlace foldPlaces
-  fold-next [] i j s e = absurd (no-some j e)
-  fold-next (true ∷ xs) i j s e = rw (sym (some-zero j e), add-zero i)
+  fold-next [] i j s e = absurd (Option·none-ne-some j e)
+  fold-next (true ∷ xs) i j s e = rw (sym (Option·some-injective 0 j e), add-zero i)
   fold-next (false ∷ xs) i j s e =
       let n = next-some (firstPlace xs) j e in
       let m : suc i + n .0 ≡ i + suc (n .0) = omega arith in
@@ -186,16 +186,16 @@ module _ {A : Type 0} (f : ℕ → A → A) where
   unfolding firstPlace updatePlaces
   update-none [] i ys e = refl
   update-none (x ∷ xs) i [] e = refl
-  update-none (true ∷ xs) i (y ∷ ys) e = absurd (some-none 0 e)
+  update-none (true ∷ xs) i (y ∷ ys) e = absurd (Option·some-ne-none 0 e)
   update-none (false ∷ xs) i (y ∷ ys) e = ap (λ (l : List A). y ∷ l) (update-none xs (suc i) ys (next-none (firstPlace xs) e))
 
   -- its first turn
   pub update-next : (d : A) (xs : List Bool) (i j : ℕ) (ys : List A) → firstPlace xs ≡ some j
       → updatePlaces f i xs ys ≡ updatePlaces f i (set xs j false) (set ys j (f (i + j) (getD ys j d)))
   unfolding firstPlace updatePlaces
-  update-next d [] i j ys e = absurd (no-some j e)
-  update-next d (true ∷ xs) i j [] e = rw (sym (some-zero j e))
-  update-next d (true ∷ xs) i j (y ∷ ys) e = rw (sym (some-zero j e), add-zero i)
+  update-next d [] i j ys e = absurd (Option·none-ne-some j e)
+  update-next d (true ∷ xs) i j [] e = rw (sym (Option·some-injective 0 j e))
+  update-next d (true ∷ xs) i j (y ∷ ys) e = rw (sym (Option·some-injective 0 j e), add-zero i)
   update-next d (false ∷ xs) i j [] e = rw (sym (next-some (firstPlace xs) j e .2))
   update-next d (false ∷ xs) i j (y ∷ ys) e =
       let n = next-some (firstPlace xs) j e in

@@ -14,11 +14,12 @@ use borrow.Author.Tests.{lt-ltb, le-ltb}
 use Rattle.definition.specs.declared.format.Line.{Line}
 use Rattle.definition.specs.Part.{Part, partAt}
 use Rattle.definition.specs.Reader.{TakenPart, TakenGoals, readPart, isGoalLine, readGoal, readGoals}
+use Rattle.definition.proofs.Lists.{part-from}
 use Rattle.book.specs.Lines.{lineIn, linesIn}
 use Rattle.book.specs.Grammar.{afterPart, afterBytes}
 use Rattle.book.specs.Parts.{partRead, partIn, Reads}
 use Rattle.book.specs.Read.{GoalStarts, Started, noLine, wholeBody, StartedBy}
-use Rattle.book.proofs.Lines.{part-from, lines-cons, lines-none}
+use Rattle.book.proofs.Lines.{lines-cons, lines-none}
 use Rattle.book.proofs.Sizes.{after-some}
 use Rattle.book.proofs.Views.{never, of-some}
 use Rattle.book.proofs.Walk.{part-is, reads}

@@ -1,6 +1,6 @@
 -- The tests on a book's length and header, and small facts of lines.
 use mathlib.Core.Path.{_≡_, refl, sym, ap, _∙_}
-use mathlib.Core.Bool.{Bool, true, false, _&&_}
+use mathlib.Core.Bool.{Bool, true, false, _&&_, and-eq-true-iff}
 use Prim.Native.Nat.{ℕ, zero, suc, _%_, _≤_, _<_}
 use native.Mathlib.Omega.{arith}
 use lib.Dec.{eqb, leb, ltb}
@@ -69,16 +69,11 @@ in-range l e =
       divisor-fits = leb-true (l .fourth) 99 (t .1 .1 .1 .1 .1);
     }
   where
-    both : (a b : Bool) → a && b ≡ true → (a ≡ true) × (b ≡ true)
-    both true true e = (refl, refl)
-    both true false e = (refl, e)
-    both false b e = (e, let z : _≡_ {A = ℕ} 0 1 = cc in absurd (omega arith))
-
     tests : (a b c d e f g : Bool) → a && b && c && d && e && f && g ≡ true → (b ≡ true) × ((c ≡ true) × ((d ≡ true) × ((e ≡ true) × ((f ≡ true) × (g ≡ true)))))
     tests a b c d e f g h =
-        let s6 = both (a && b && c && d && e && f) g h in
-        let s5 = both (a && b && c && d && e) f (s6 .0) in
-        let s4 = both (a && b && c && d) e (s5 .0) in
-        let s3 = both (a && b && c) d (s4 .0) in
-        let s2 = both (a && b) c (s3 .0) in
-        (both a b (s2 .0) .1, (s2 .1, (s3 .1, (s4 .1, (s5 .1, s6 .1)))))
+        let s6 = and-eq-true-iff (a && b && c && d && e && f) g .0 h in
+        let s5 = and-eq-true-iff (a && b && c && d && e) f .0 (s6 .0) in
+        let s4 = and-eq-true-iff (a && b && c && d) e .0 (s5 .0) in
+        let s3 = and-eq-true-iff (a && b && c) d .0 (s4 .0) in
+        let s2 = and-eq-true-iff (a && b) c .0 (s3 .0) in
+        (and-eq-true-iff a b .0 (s2 .0) .1, (s2 .1, (s3 .1, (s4 .1, (s5 .1, s6 .1)))))

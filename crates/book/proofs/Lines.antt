@@ -6,17 +6,14 @@ use mathlib.Core.List.{List, [], _∷_}
 use Prim.Native.Nat.{ℕ, zero, suc, _+_, _-_, _*_, _/_, _≤_, _<_}
 use native.Mathlib.Omega.{arith}
 use lib.ListN.{length, getD, take, drop, length-drop}
-use lib.Seq.{take-all, getD-take}
+use lib.Seq.{getD-take}
 use lib.Dec.{eqb}
 use Rattle.definition.specs.declared.format.Line.{Line}
 use Rattle.definition.specs.Line.{isField, fieldValue, fieldAt, lineOf, readLine, readLines}
 use Rattle.definition.specs.Reader.{linesOf}
+use Rattle.definition.proofs.Lists.{part-from}
 use Rattle.book.specs.Lines.{fieldIn, lineIn, linesFrom, linesIn, fieldFits, lineFits, linesFit, allFit, linesIf}
 use Rattle.book.proofs.Tests.{stop, pass}
-
--- a part of a slice that reaches to its end
-pub part-from : (a : ℕ) (l : List ℕ) → take (length l - a) (drop a l) ≡ drop a l
-part-from a l = take-all (length l - a) (drop a l) (rw length-drop (omega arith))
 
 -- ---- one line and the others
 more-lines : (s : List ℕ) → 16 ≤ length s → length s / 16 ≡ suc (length (drop 16 s) / 16)

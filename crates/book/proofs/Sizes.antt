@@ -14,12 +14,13 @@ use borrow.Author.Tests.{lt-ltb, le-ltb, le-leb, lt-leb, eq-eqb, ne-eqb}
 use Rattle.definition.specs.declared.format.Line.{Line}
 use Rattle.definition.specs.Part.{Op, All, Any, Pick, Then}
 use Rattle.definition.specs.Reader.{TakenPart, TakenParts, usesFirst, readParts, nodeOf, readByCode, readFirst, readPart, isGoalLine, readGoal}
+use Rattle.definition.proofs.Lists.{part-from}
 use Rattle.book.specs.declared.grammar.Opened.{Opened}
 use Rattle.book.specs.declared.grammar.Opened.the-variants.{Parts, Nothing}
 use Rattle.book.specs.Lines.{lineIn, linesIn}
 use Rattle.book.specs.Grammar.{afterPart, afterParts, afterBytes, afterOpened, openedIf, callFits, undecidedFits, pickFits}
 use Rattle.book.proofs.Tests.{refused, held}
-use Rattle.book.proofs.Lines.{part-from, lines-cons, lines-none}
+use Rattle.book.proofs.Lines.{lines-cons, lines-none}
 
 -- bytes that say something
 pub after-some : (r : ℕ) (s : List ℕ) → (r ≡ 0 → ⊥) → afterBytes r s ≡ some (linesIn (drop r s))
@@ -171,15 +172,15 @@ andThen (some ls) g = g ls
 abbrev pub joined : TakenPart → Option TakenParts → Option TakenParts
 joined p x = elim x [ none ↦ none | some ps ↦ some (record { parts = Then (p .part) (ps .parts); rest = ps .rest }) ]
 
+pub after-joined : (p : TakenPart) (x : Option TakenParts) → afterParts (joined p x) ≡ afterParts x
+after-joined p none = refl
+after-joined p (some t) = refl
+
 module _ (f : List Line → Option TakenPart) where
   pub step : (k : ℕ) → 0 < k → (ls : List Line) → afterParts (readParts f k ls) ≡ andThen (afterPart (f ls)) (λ rest. afterParts (readParts f (k - 1) rest))
   step zero pos ls = absurd (omega arith)
   step (suc k) pos ls = rw sub-one (go (f ls))
     where
-      after-joined : (p : TakenPart) (x : Option TakenParts) → afterParts (joined p x) ≡ afterParts x
-      after-joined p none = refl
-      after-joined p (some t) = refl
-
       go : (x : Option TakenPart) → afterParts (elim x [ none ↦ none | some p ↦ joined p (readParts f k (p .rest)) ]) ≡ andThen (afterPart x) (λ rest. afterParts (readParts f k rest))
       go none = refl
       go (some p) = after-joined p (readParts f k (p .rest))

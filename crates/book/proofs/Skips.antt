@@ -10,10 +10,11 @@ use lib.ListN.{length, take, drop}
 use Rattle.definition.specs.declared.format.Line.{Line}
 use Rattle.definition.specs.Part.{End, Then}
 use Rattle.definition.specs.Reader.{TakenPart, TakenParts, readParts, readPart}
+use Rattle.definition.proofs.Lists.{part-from}
 use Rattle.book.specs.Lines.{lineIn, linesIn}
 use Rattle.book.specs.Grammar.{afterParts}
 use Rattle.book.specs.Parts.{partsBelow, partRead, partIn, restIn, Reads, StartsPart}
-use Rattle.book.proofs.Lines.{part-from, lines-length}
+use Rattle.book.proofs.Lines.{lines-length}
 use Rattle.book.proofs.Views.{never, of-some, First, uncons, cons, Looser, part-within, parts-within, part-shrinks, parts-room, parts-add, below-of, count-is, none-low, none-high}
 use Rattle.book.proofs.Walk.{has-line, viewed}
 

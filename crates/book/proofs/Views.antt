@@ -15,7 +15,7 @@ use Rattle.definition.specs.Part.{Op, All, Any, Pick, Part, Call, Node, Undecid
 use Rattle.definition.specs.Reader.{TakenPart, TakenParts, usesFirst, readParts, nodeOf, readByCode, readFirst, readPart}
 use Rattle.book.specs.Grammar.{afterParts, callFits, undecidedFits}
 use Rattle.book.specs.Parts.{partsBelow}
-use Rattle.book.proofs.Sizes.{joined}
+use Rattle.book.proofs.Sizes.{joined, after-joined}
 
 pub never : {A B : Type 0} {b : B} → _≡_ {A = Option B} none (some b) → A
 never e = let z : _≡_ {A = ℕ} 0 1 = cc in absurd (omega arith)
@@ -206,10 +206,6 @@ parts-add f (suc a) b ls t e =
     rw suc-add (ap (λ (x : Option TakenPart). afterParts (firstAnd f (a + b) x)) (o .one-is) ∙ after-joined (o .one) (readParts f (a + b) (o .one .rest)))
     ∙ parts-add f a b (o .one .rest) (o .others) (o .others-are)
     ∙ ap (λ (x : TakenParts). afterParts (readParts f b (x .rest))) (o .all-are)
-  where
-    after-joined : (p : TakenPart) (x : Option TakenParts) → afterParts (joined p x) ≡ afterParts x
-    after-joined p none = refl
-    after-joined p (some t) = refl
 
 -- ---- the view that a code leaves
 pub record Noded (op : Op) (f : List Line → Option TakenPart) (n : ℕ) (ls : List Line) (t : TakenPart) : Type 0 where

@@ -1,14 +1,14 @@
 -- The turns of the loops over bytes.
 use mathlib.Core.Path.{_≡_, refl, sym, ap, ap₂, _∙_}
 use mathlib.Core.Bool.{Bool, true, false, _&&_}
-use mathlib.Core.List.{List, [], _∷_, _++_}
+use mathlib.Core.List.{List, [], _∷_, _++_, append-nil}
 use Prim.Native.Nat.{ℕ, _+_, _≤_, _<_}
 use native.Mathlib.Nat.{zero-add}
 use native.Mathlib.Numerals.{add-one}
 use native.Mathlib.Omega.{arith}
 use borrow.Author.Tests.{eq-eqb, ne-eqb}
-use lib.ListN.{length, getD, drop, set, replicate, length-replicate, replicate-append-replicate, drop-of-length-le}
-use lib.Seq.{drop-cons}
+use lib.ListN.{length, getD, take, drop, set, replicate, length-replicate, replicate-append-replicate, drop-of-length-le}
+use lib.Seq.{drop-cons, take-length, paste, paste-suc}
 use lib.Dec.{eqb}
 use Rattle.buffer.specs.Regions.{region, overwrite, allZero}
 use Rattle.buffer.proofs.Regions.{length-region, region-snoc, byte-after, overwrite-snoc, overwrite-all}
@@ -52,3 +52,15 @@ module _ (bs : List ℕ) (i : ℕ) (rest : allZero (drop i bs) ≡ allZero bs) w
 
   pub zero-all : length bs ≤ i → true ≡ allZero bs
   zero-all h = sym (ap allZero (drop-of-length-le bs h)) ∙ rest
+
+-- the bytes s, copied into d from a on, to its end
+module _ (a : ℕ) (d s now : List ℕ) (j : ℕ) (e : now ≡ paste d a s j) (len : length d ≡ a + length s) where
+  pub pasted-more : j < length s → set now (a + j) (getD s j 0) ≡ paste d a s (j + 1)
+  pasted-more h = ap (λ (l : List ℕ). set l (a + j) (getD s j 0)) e ∙ paste-suc d a s j 0 (omega arith) h ∙ ap (paste d a s) (sym (add-one j))
+
+  pub pasted-all : j ≡ length s → now ≡ take a d ++ s
+  pasted-all h =
+      e
+      ∙ ap (paste d a s) h
+      ∙ ap₂ (λ (l m : List ℕ). (take a d ++ l) ++ m) (take-length s) (drop-of-length-le d {i = a + length s} (omega arith))
+      ∙ append-nil (take a d ++ s)

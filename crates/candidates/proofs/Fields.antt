@@ -1,6 +1,6 @@
 -- What the functions on one block and on one frame read and write.
 use mathlib.Core.Path.{_≡_, refl, sym, ap, ap₂, _∙_, subst}
-use mathlib.Core.Bool.{Bool, true, false}
+use mathlib.Core.Bool.{Bool, true, false, true≢false, false≢true}
 use mathlib.Core.Option.{Option, none, some}
 use mathlib.Core.List.{List, [], _∷_, _++_}
 use Prim.Native.Nat.{ℕ, zero, suc, _+_, _*_, _-_, _≤_, _<_}
@@ -15,6 +15,7 @@ use Rattle.definition.specs.Parent.{orNoUsages}
 use Rattle.definition.specs.Candidates.{noCandidateUsages, withUsages, ignoreOwnUsages}
 use Rattle.bits.specs.Masks.{flags}
 use Rattle.bits.proofs.Flags.{length-flags, flags-zero}
+use Rattle.bits.proofs.Marks.{only}
 use Rattle.buffer.specs.Numbers.{numberOf}
 use Rattle.buffer.specs.Regions.{region, overwrite}
 use Rattle.buffer.proofs.Regions.{length-region, length-overwrite, region-same}
@@ -27,7 +28,7 @@ use Rattle.stack.specs.Bytes.{FrameBytes}
 use Rattle.stack.specs.Results.{isSome}
 use Rattle.stack.proofs.Parts.{part, returned, part-length, part-back}
 use Rattle.candidates.specs.Steps.{Names, keep, trackedOf, addAt, ignoreAt, withTracked, ignoreHeadAt, ignoreOwn}
-use Rattle.candidates.proofs.Kept.{false-true, keep-up, keep-no-usages, no-usages-at, no-flag, below-only}
+use Rattle.candidates.proofs.Kept.{keep-up, keep-no-usages, below-only}
 
 -- ---- a block of usages
 pub mask-names : (goals : ℕ) (bs : List ℕ) (n m : ℕ) → goals ≤ 64 → n ≡ numberOf (region 0 8 bs) → flags 64 m ≡ take goals (flags 64 n) ++ replicate (64 - goals) false → Names goals m (candidateOf goals bs)
@@ -91,10 +92,10 @@ chosen goals o = elim o [ none ↦ noCandidateUsages goals | some us ↦ us ]
 
 chosen-none : (goals : ℕ) (o : Option (List HeadUsages)) → isSome o ≡ false → noCandidateUsages goals ≡ chosen goals o
 chosen-none goals none e = refl
-chosen-none goals (some us) e = false-true (sym e)
+chosen-none goals (some us) e = absurd (true≢false e)
 
 chosen-some : (goals n : ℕ) (us : List HeadUsages) → isSome (whenSet n us) ≡ true → us ≡ chosen goals (whenSet n us)
-chosen-some goals zero us e = false-true e
+chosen-some goals zero us e = absurd (false≢true e)
 chosen-some goals (suc n) us e = refl
 
 module _ (goals : ℕ) (bs : List ℕ) (t : Bool) (is-t : t ≡ isSome ((frameOf goals bs) .candidateUsages)) where
@@ -112,14 +113,14 @@ module _ (goals : ℕ) (bs : List ℕ) (t : Bool) (is-t : t ≡ isSome ((frameOf
       subst (Names goals 0) (none-tracked e)
       (record {
         all = ap (λ (l : List Bool). keep l (noCandidateUsages goals)) (flags-zero 64) ∙ keep-no-usages 64 goals few;
-        below = λ i h. false-true (sym (ap (λ (l : List Bool). getD l i false) (flags-zero 64) ∙ no-flag 64 i) ∙ h);
+        below = λ i h. absurd (false≢true (sym (ap (λ (l : List Bool). getD l i false) (flags-zero 64) ∙ only false 64 i) ∙ h));
       })
 
   pub names-some : t ≡ true → (r : List ℕ) (m : ℕ) → r ≡ region (candidateStart goals) (blockSize goals) bs → Names goals m (candidateOf goals r) → Names goals m (trackedOf goals (frameOf goals bs))
   names-some e r m is-r h = subst (Names goals m) (some-tracked e r is-r) h
 
   pub tracked-none : t ≡ false → (i : ℕ) (u : HeadUsages) → u ≡ noUsages → u ≡ getD (trackedOf goals (frameOf goals bs)) i noUsages
-  tracked-none e i u is = is ∙ sym (no-usages-at goals i) ∙ ap (λ (l : List HeadUsages). getD l i noUsages) (none-tracked e)
+  tracked-none e i u is = is ∙ sym (only noUsages goals i) ∙ ap (λ (l : List HeadUsages). getD l i noUsages) (none-tracked e)
 
   pub tracked-some : t ≡ true → (r : List ℕ) → r ≡ region (candidateStart goals) (blockSize goals) bs → (i : ℕ) (u : HeadUsages) → u ≡ getD (candidateOf goals r) i noUsages → u ≡ getD (trackedOf goals (frameOf goals bs)) i noUsages
   tracked-some e r is-r i u is = is ∙ ap (λ (l : List HeadUsages). getD l i noUsages) (some-tracked e r is-r)
@@ -160,7 +161,7 @@ ignore-head-frame goals bs ys e i u long is-e kept is-y =
 -- ---- `ignore_own`
 own-none : (o : Option HeadUsages) (u : HeadUsages) → isSome o ≡ false → o ≡ ignoreOwnUsages o u
 own-none none u e = refl
-own-none (some v) u e = false-true (sym e)
+own-none (some v) u e = absurd (true≢false e)
 
 pub ignore-own-none : (f : Frame) (u : HeadUsages) (t : Bool) → t ≡ isSome (f .usages) → t ≡ false → f ≡ ignoreOwn u f
 ignore-own-none f u t is e = ap (λ (o : Option HeadUsages). withUsages f (f .heads) o (f .candidateUsages)) (own-none (f .usages) u (sym is ∙ e))

@@ -1,130 +1,39 @@
 -- Usages whose flag is set, and what is done with them, one index after the other.
 use mathlib.Core.Path.{_≡_, refl, sym, ap, ap₂, _∙_}
-use mathlib.Core.Bool.{Bool, true, false, _&&_}
-use mathlib.Core.Option.{Option, none, some}
+use mathlib.Core.Bool.{Bool, true, false, _&&_, false≢true, and-false}
+use mathlib.Core.Option.{Option}
 use mathlib.Core.List.{List, [], _∷_, _++_}
-use Prim.Native.Nat.{ℕ, zero, suc, _+_, _-_, _≤_, _<_, min}
+use Prim.Native.Nat.{ℕ, zero, suc, _≤_, _<_}
 use native.Mathlib.Omega.{arith}
-use native.Mathlib.Decide.{decLt, ℕ-discrete}
-use borrow.Author.Tests.{le-leb}
+use native.Mathlib.Decide.{ℕ-discrete}
 use lib.ListN.{length, getD, set, take, replicate}
 use lib.Seq.{getD-set-other}
 use Rattle.definition.specs.declared.usages.HeadUsages.{HeadUsages}
 use Rattle.definition.specs.declared.heads.CycleHead.{CycleHead}
-use Rattle.definition.specs.Usages.{counterLimit, addCounter, subtractCounter, counterCovers, noUsages, addUsages, ignoreUsages, usagesCover, mergeUsages}
+use Rattle.definition.specs.Usages.{noUsages, addUsages, usagesCover, mergeUsages}
 use Rattle.definition.specs.Heads.{CycleHeads, usagesAt, ignoreAtHead, ignoreAtHeads}
 use Rattle.definition.specs.Candidates.{noCandidateUsages, headsCover}
-use Rattle.definition.proofs.Counters.{add-full, add-less, subtract-full, subtract-less, covers-full, covers-less}
-use Rattle.bits.specs.Masks.{flags, firstPlace, nextPlace}
+use Rattle.definition.proofs.Counters.{add-no-usages, ignore-nothing, cover-no-usages}
+use Rattle.bits.proofs.Marks.{only, set-only}
+use Rattle.bits.proofs.Marks as marks
 use Rattle.buffer.specs.Tables.{listUp}
 use Rattle.candidates.specs.Steps.{keep, addAt, ignoreAt}
 
-pub false-true : {B : Type 0} → false ≡ true → B
-false-true e = let z : _≡_ {A = ℕ} 0 1 = cc in absurd (omega arith)
-
-none-some : {B : Type 0} (j : ℕ) → _≡_ {A = Option ℕ} none (some j) → B
-none-some j e = let z : _≡_ {A = ℕ} 0 1 = cc in absurd (omega arith)
-
--- ---- no usages
-add-zero-counter : (a : ℕ) → addCounter a 0 ≡ a
-add-zero-counter a =
-    elim (decLt a counterLimit) [
-      | yes l ↦ let e : min (a + 0) counterLimit ≡ a = omega arith in sym (add-less a 0 l) ∙ e
-      | no g ↦ sym (add-full a 0 (omega arith))
-    ]
-
-subtract-zero-counter : (a : ℕ) → subtractCounter a 0 ≡ a
-subtract-zero-counter a =
-    elim (decLt a counterLimit) [
-      | yes l ↦ let e : a - 0 ≡ a = omega arith in sym (subtract-less a 0 l) ∙ e
-      | no g ↦ sym (subtract-full a 0 (omega arith))
-    ]
-
-covers-zero : (a : ℕ) → counterCovers a 0 ≡ true
-covers-zero a =
-    elim (decLt a counterLimit) [
-      | yes l ↦ sym (covers-less a 0 l) ∙ le-leb 0 a (omega arith)
-      | no g ↦ sym (covers-full a 0 (omega arith))
-    ]
-
-pub add-no-usages : (u : HeadUsages) → addUsages u noUsages ≡ u
-add-no-usages u =
-    let a = add-zero-counter (u .inductive) in
-    let b = add-zero-counter (u .unknown) in
-    let c = add-zero-counter (u .coinductive) in
-    let d = add-zero-counter (u .forced) in
-    λ t. record { inductive = a t; unknown = b t; coinductive = c t; forced = d t }
-
-ignore-no-usages : (u : HeadUsages) → ignoreUsages u noUsages ≡ u
-ignore-no-usages u =
-    let a = subtract-zero-counter (u .inductive) in
-    let b = subtract-zero-counter (u .unknown) in
-    let c = subtract-zero-counter (u .coinductive) in
-    let d = subtract-zero-counter (u .forced) in
-    λ t. record { inductive = a t; unknown = b t; coinductive = c t; forced = d t }
-
-pub ignore-nothing : (h : Option CycleHead) → ignoreAtHead h noUsages ≡ h
-ignore-nothing none = refl
-ignore-nothing (some h) = let e = ignore-no-usages (h .usages) in λ t. some (record { paths = h .paths; usages = e t })
-
-pub cover-no-usages : (u : HeadUsages) → usagesCover u noUsages ≡ true
-cover-no-usages u =
-    let a = covers-zero (u .inductive) in
-    let b = covers-zero (u .unknown) in
-    let c = covers-zero (u .coinductive) in
-    let d = covers-zero (u .forced) in
-    λ t. a t && (b t && (c t && d t))
-
--- ---- the usages whose flag is set
-abbrev picked : Bool → HeadUsages → HeadUsages
-picked t u = elim t [ true ↦ u | false ↦ noUsages ]
-
-picked-none : (t : Bool) → noUsages ≡ picked t noUsages
-picked-none true = refl
-picked-none false = refl
-
-pub keep-get : (xs : List Bool) (us : List HeadUsages) (j : ℕ) → getD (keep xs us) j noUsages ≡ picked (getD xs j false) (getD us j noUsages)
-keep-get [] us j = refl
-keep-get (x ∷ xs) [] j = picked-none (getD (x ∷ xs) j false)
-keep-get (true ∷ xs) (u ∷ us) zero = refl
-keep-get (false ∷ xs) (u ∷ us) zero = refl
-keep-get (true ∷ xs) (u ∷ us) (suc j) = keep-get xs us j
-keep-get (false ∷ xs) (u ∷ us) (suc j) = keep-get xs us j
-
-pub keep-at : (xs : List Bool) (us : List HeadUsages) (j : ℕ) → getD xs j false ≡ true → getD (keep xs us) j noUsages ≡ getD us j noUsages
-keep-at xs us j e = keep-get xs us j ∙ ap (λ (t : Bool). picked t (getD us j noUsages)) e
-
-pub keep-set : (xs : List Bool) (us : List HeadUsages) (j : ℕ) → keep (set xs j false) us ≡ set (keep xs us) j noUsages
-keep-set [] us j = refl
-keep-set (x ∷ xs) [] zero = refl
-keep-set (x ∷ xs) [] (suc j) = refl
-keep-set (true ∷ xs) (u ∷ us) zero = refl
-keep-set (false ∷ xs) (u ∷ us) zero = refl
-keep-set (true ∷ xs) (u ∷ us) (suc j) = ap (λ (l : List HeadUsages). u ∷ l) (keep-set xs us j)
-keep-set (false ∷ xs) (u ∷ us) (suc j) = ap (λ (l : List HeadUsages). noUsages ∷ l) (keep-set xs us j)
-
-pub no-flag : (n j : ℕ) → getD (replicate n false) j false ≡ false
-no-flag zero j = refl
-no-flag (suc n) zero = refl
-no-flag (suc n) (suc j) = no-flag n j
-
-pub kept-none : (k : ℕ) (us : List HeadUsages) (j : ℕ) → getD (keep (replicate k false) us) j noUsages ≡ noUsages
-kept-none k us j = keep-get (replicate k false) us j ∙ ap (λ (t : Bool). picked t (getD us j noUsages)) (no-flag k j)
+-- the usages whose flag is set
+pub keep-is : (xs : List Bool) (us : List HeadUsages) → keep xs us ≡ marks.keep noUsages xs us
+keep-is [] us = refl
+keep-is (x ∷ xs) [] = refl
+keep-is (true ∷ xs) (u ∷ us) = ap (λ (l : List HeadUsages). u ∷ l) (keep-is xs us)
+keep-is (false ∷ xs) (u ∷ us) = ap (λ (l : List HeadUsages). noUsages ∷ l) (keep-is xs us)
 
 keep-nil : (xs : List Bool) → keep xs [] ≡ []
-keep-nil [] = refl
-keep-nil (x ∷ xs) = refl
+keep-nil xs = keep-is xs [] ∙ marks.keep-nil noUsages xs
 
 -- no flag, of no usages
 pub keep-no-usages : (k n : ℕ) → n ≤ k → keep (replicate k false) (noCandidateUsages n) ≡ noCandidateUsages n
 keep-no-usages k zero h = keep-nil (replicate k false)
 keep-no-usages zero (suc n) h = absurd (omega arith)
 keep-no-usages (suc k) (suc n) h = ap (λ (l : List HeadUsages). noUsages ∷ l) (keep-no-usages k n (omega arith))
-
-pub no-usages-at : (n j : ℕ) → getD (noCandidateUsages n) j noUsages ≡ noUsages
-no-usages-at zero j = refl
-no-usages-at (suc n) zero = refl
-no-usages-at (suc n) (suc j) = no-usages-at n j
 
 -- the first n flags, of n usages that are none where the flag is clear
 pub keep-up : (f : ℕ → HeadUsages) (n : ℕ) (xs : List Bool) (k : ℕ) → n ≤ length xs → ((i : ℕ) → i < n → getD xs i false ≡ false → f i ≡ noUsages)
@@ -138,8 +47,8 @@ keep-up f (suc n) (false ∷ xs) k h clear =
 
 -- ---- flags below n
 pub below-only : (n : ℕ) (xs : List Bool) (k i : ℕ) → getD (take n xs ++ replicate k false) i false ≡ true → i < n
-below-only zero xs k i e = false-true (sym (no-flag k i) ∙ e)
-below-only (suc n) [] k i e = false-true (sym (no-flag k i) ∙ e)
+below-only zero xs k i e = absurd (false≢true (sym (only false k i) ∙ e))
+below-only (suc n) [] k i e = absurd (false≢true (sym (only false k i) ∙ e))
 below-only (suc n) (x ∷ xs) k zero e = omega arith
 below-only (suc n) (x ∷ xs) k (suc i) e = omega (arith, below-only n xs k i e)
 
@@ -148,25 +57,6 @@ below-same zero xs k i lt h = absurd (omega arith)
 below-same (suc n) [] k i lt h = absurd (omega arith)
 below-same (suc n) (x ∷ xs) k zero lt h = refl
 below-same (suc n) (x ∷ xs) k (suc i) lt h = below-same n xs k i (omega arith) (omega arith)
-
--- ---- the lowest flag
-pub first-set : (xs : List Bool) (j : ℕ) → firstPlace xs ≡ some j → getD xs j false ≡ true
-unfolding firstPlace
-first-set [] j e = none-some j e
-first-set (true ∷ xs) j e = let z : 0 ≡ j = cc in sym (ap (λ (k : ℕ). getD (true ∷ xs) k false) z)
-first-set (false ∷ xs) j e = go (firstPlace xs) (first-set xs) refl e
-  where
-    go : (o : Option ℕ) → ((i : ℕ) → firstPlace xs ≡ some i → getD xs i false ≡ true) → firstPlace xs ≡ o → nextPlace o ≡ some j → getD (false ∷ xs) j false ≡ true
-    go none ih q d = none-some j d
-    go (some i) ih q d = let z : suc i ≡ j = cc in sym (ap (λ (k : ℕ). getD (false ∷ xs) k false) z) ∙ ih i q
-
--- a flag that is still set was set
-pub still-set : (xs : List Bool) (i j : ℕ) → getD (set xs i false) j false ≡ true → getD xs j false ≡ true
-still-set [] i j e = e
-still-set (x ∷ xs) zero zero e = false-true e
-still-set (x ∷ xs) zero (suc j) e = e
-still-set (x ∷ xs) (suc i) zero e = e
-still-set (x ∷ xs) (suc i) (suc j) e = still-set xs i j e
 
 -- ---- merging
 pub merge-none : (us vs : List HeadUsages) → ((i : ℕ) → getD vs i noUsages ≡ noUsages) → mergeUsages us vs ≡ us
@@ -214,11 +104,6 @@ pub cover-same : (n : ℕ) (hs : CycleHeads) (us vs : List HeadUsages) → ((i :
 cover-same zero hs us vs h = refl
 cover-same (suc n) hs us vs h = ap₂ (λ (a b : Bool). a && b) (h n (omega arith)) (cover-same n hs us vs (λ i l. h i (omega arith)))
 
-cleared : (us : List HeadUsages) (i : ℕ) → getD (set us i noUsages) i noUsages ≡ noUsages
-cleared [] i = refl
-cleared (u ∷ us) zero = refl
-cleared (u ∷ us) (suc i) = cleared us i
-
 -- an index that is covered is left out
 pub cover-one : (n : ℕ) (hs : CycleHeads) (us : List HeadUsages) (i : ℕ) → coveredAt hs us i ≡ true → headsCover n hs (set us i noUsages) ≡ headsCover n hs us
 cover-one n hs us i e = cover-same n hs (set us i noUsages) us same
@@ -226,17 +111,13 @@ cover-one n hs us i e = cover-same n hs (set us i noUsages) us same
     same : (j : ℕ) → j < n → coveredAt hs (set us i noUsages) j ≡ coveredAt hs us j
     same j l =
         elim (ℕ-discrete j i) [
-          | yes q ↦ ap (coveredAt hs (set us i noUsages)) q ∙ ap (usagesCover (usagesAt hs i)) (cleared us i) ∙ cover-no-usages (usagesAt hs i) ∙ sym e ∙ sym (ap (coveredAt hs us) q)
+          | yes q ↦ ap (coveredAt hs (set us i noUsages)) q ∙ ap (usagesCover (usagesAt hs i)) (set-only noUsages us i) ∙ cover-no-usages (usagesAt hs i) ∙ sym e ∙ sym (ap (coveredAt hs us) q)
           | no ne ↦ ap (usagesCover (usagesAt hs j)) (getD-set-other us i j noUsages noUsages ne)
         ]
 
 pub cover-none : (n : ℕ) (hs : CycleHeads) (us : List HeadUsages) → ((i : ℕ) → getD us i noUsages ≡ noUsages) → headsCover n hs us ≡ true
 cover-none zero hs us h = refl
 cover-none (suc n) hs us h = ap₂ (λ (a b : Bool). a && b) (ap (usagesCover (usagesAt hs n)) (h n) ∙ cover-no-usages (usagesAt hs n)) (cover-none n hs us h)
-
-and-false : (t : Bool) → (t && false) ≡ false
-and-false true = refl
-and-false false = refl
 
 -- one that is not
 pub cover-fails : (n : ℕ) (hs : CycleHeads) (us : List HeadUsages) (i : ℕ) → i < n → coveredAt hs us i ≡ false → headsCover n hs us ≡ false

@@ -12,49 +12,36 @@ use Rattle.definition.specs.Stack.{Frame, Stack}
 use Rattle.definition.specs.Parent.{orNoUsages}
 use Rattle.definition.specs.Candidates.{withUsages, candidateUsagesOf, headsCover, canIgnore, ignoreOnTop, ignoreOwnUsages}
 use Rattle.bits.specs.Masks.{flags, firstPlace, placeOr}
-use Rattle.bits.proofs.Flags.{length-flags, flags-zero}
-use Rattle.bits.proofs.Places.{first-some}
+use Rattle.bits.proofs.Flags.{length-flags}
+use Rattle.bits.proofs.Marks.{keep-get, none-left, turn-set, turn-at, turn-still, turn-rest}
+use Rattle.bits.proofs.Marks as marks
 use Rattle.layout.specs.Work.{stackOf, entriesOf, mergedOf}
 use Rattle.layout.specs.Frame.{frameOf}
 use Rattle.layout.specs.Blocks.{candidateOf}
 use Rattle.layout.proofs.Graphs.{length-stack}
 use Rattle.stack.specs.Bytes.{frameAt}
+use Rattle.stack.proofs.Loops.{stack-top}
 use Rattle.evaluation.specs.Workspace.{WorkBytes, graphIn}
-use Rattle.candidates.specs.Steps.{keep, Names, trackedOf, addAt, ignoreHeadAt, ignoreHeads, ignoreOwn}
+use Rattle.candidates.specs.Steps.{Names, trackedOf, addAt, ignoreHeadAt, ignoreHeads, ignoreOwn}
 use Rattle.candidates.specs.Written.{mergedBytes, topBytes, topOf, MergedWritten, FrameWritten}
-use Rattle.candidates.proofs.Kept.{keep-get, keep-at, keep-set, kept-none, below-only, below-same, first-set, still-set, merge-none, merge-one, ignore-none, ignore-one, cover-same, cover-one, cover-none, cover-fails}
-use Rattle.candidates.proofs.Parts.{stack-top, merged-is, frame-now, frame-again, frame-same, frame-kept}
+use Rattle.candidates.proofs.Kept.{keep-is, below-only, below-same, merge-none, merge-one, ignore-none, ignore-one, cover-same, cover-one, cover-none, cover-fails}
+use Rattle.candidates.proofs.Parts.{merged-is, frame-now, frame-again, frame-same, frame-kept}
 
 -- ---- the mask that is left
 abbrev pub Below : ℕ → ℕ → Type 0
 Below n left = (i : ℕ) → getD (flags 64 left) i false ≡ true → i < n
 
--- none is left
-none-left : (left : ℕ) → left ≤ 0 → (us : List HeadUsages) (j : ℕ) → getD (keep (flags 64 left) us) j noUsages ≡ noUsages
-none-left left h us j =
-    let z : left ≡ 0 = omega arith in
-    ap (λ (xs : List Bool). getD (keep xs us) j noUsages) (ap (flags 64) z ∙ flags-zero 64) ∙ kept-none 64 us j
-
 -- a turn, at index i
-module _ (left i : ℕ) (pos : 0 < left) (small : left < 2 ^ 64) (is : i ≡ placeOr 64 (firstPlace (flags 64 left))) where
-  turn-set : getD (flags 64 left) i false ≡ true
-  turn-set =
-      let s = first-some 64 left pos small in
-      ap (λ (k : ℕ). getD (flags 64 left) k false) (is ∙ ap (placeOr 64) (s .1)) ∙ first-set (flags 64 left) (s .0) (s .1)
+pub turn-below : (left i : ℕ) → 0 < left → left < 2 ^ 64 → i ≡ placeOr 64 (firstPlace (flags 64 left)) → (n : ℕ) → Below n left → i < n
+turn-below left i pos small is n below = below i (turn-set left i pos small is)
 
-  pub turn-below : (n : ℕ) → Below n left → i < n
-  turn-below n below = below i turn-set
+-- the usages at the indices that are left
+abbrev keep : List Bool → List HeadUsages → List HeadUsages
+keep = marks.keep noUsages
 
-  turn-at : (us : List HeadUsages) → getD (keep (flags 64 left) us) i noUsages ≡ getD us i noUsages
-  turn-at us = keep-at (flags 64 left) us i turn-set
-
-  module _ (left′ : ℕ) (is-left : flags 64 left′ ≡ set (flags 64 left) (placeOr 64 (firstPlace (flags 64 left))) false) where
-    turn-rest : (us : List HeadUsages) → keep (flags 64 left′) us ≡ set (keep (flags 64 left) us) i noUsages
-    turn-rest us =
-        ap (λ (xs : List Bool). keep xs us) (is-left ∙ ap (λ (k : ℕ). set (flags 64 left) k false) (sym is)) ∙ keep-set (flags 64 left) us i
-
-    turn-still : (n : ℕ) → Below n left → Below n left′
-    turn-still n below j h = below j (still-set (flags 64 left) (placeOr 64 (firstPlace (flags 64 left))) j (ap (λ (xs : List Bool). getD xs j false) (sym is-left) ∙ h))
+-- a mask that names every index that has usages
+all-kept : (goals m : ℕ) (us : List HeadUsages) → Names goals m us → keep (flags 64 m) us ≡ us
+all-kept goals m us names = sym (keep-is (flags 64 m) us) ∙ names .all
 
 less : (a b n : ℕ) → a < b → b < n → a < n
 less a b n p q = omega arith
@@ -71,7 +58,7 @@ module _ (goals own : ℕ) (old : List ℕ) where
   pub merge-start : (r : List ℕ) (left : ℕ) → r ≡ topBytes goals own old → left < 2 ^ 64 → Names goals left (trackedOf goals (frameOf goals r)) → Merging goals own old old left
   merge-start r left is-r small names =
       let same : frameOf goals r ≡ topOf goals own old = ap (frameOf goals) is-r in
-      let all : keep (flags 64 left) (trackedOf goals (topOf goals own old)) ≡ trackedOf goals (topOf goals own old) = subst (λ (f : Frame). keep (flags 64 left) (trackedOf goals f) ≡ trackedOf goals f) same (names .all) in
+      let all : keep (flags 64 left) (trackedOf goals (topOf goals own old)) ≡ trackedOf goals (topOf goals own old) = subst (λ (f : Frame). keep (flags 64 left) (trackedOf goals f) ≡ trackedOf goals f) same (all-kept goals left (trackedOf goals (frameOf goals r)) names) in
       record {
         same-length = refl;
         small = small;
@@ -89,14 +76,14 @@ module _ (goals own : ℕ) (old : List ℕ) where
         let vs : List HeadUsages = trackedOf goals (topOf goals own old) in
         let graph : graphIn goals now ≡ graphIn goals old = inv .written .graph in
         let tracked : trackedOf goals (frameOf goals r) ≡ vs = ap (λ (l : List ℕ). trackedOf goals (frameOf goals l)) is-r ∙ ap (λ (g : List ℕ). trackedOf goals (frameAt goals own g)) graph in
-        let at : u ≡ getD (keep (flags 64 left) vs) i noUsages = is-u ∙ ap (λ (l : List HeadUsages). getD l i noUsages) tracked ∙ sym (turn-at left i pos (inv .small) is vs) in
+        let at : u ≡ getD (keep (flags 64 left) vs) i noUsages = is-u ∙ ap (λ (l : List HeadUsages). getD l i noUsages) tracked ∙ sym (turn-at left i pos (inv .small) is noUsages vs) in
         record {
           same-length = len ∙ inv .same-length;
           small = less left′ left (2 ^ 64) lt (inv .small);
-          below = turn-still left i pos (inv .small) is left′ is-left goals (inv .below);
+          below = λ j h. inv .below j (turn-still left i pos (inv .small) is left′ is-left j h);
           written = record { written = refl; others = λ j l. w .others j l ∙ inv .written .others j l; graph = w .graph ∙ graph };
           rest =
-              ap₂ mergeUsages (w .written) (turn-rest left i pos (inv .small) is left′ is-left vs)
+              ap₂ mergeUsages (w .written) (turn-rest left i pos (inv .small) is left′ is-left noUsages vs)
               ∙ merge-one (mergedOf goals own now) (keep (flags 64 left) vs) i u at
               ∙ inv .rest;
         }
@@ -105,7 +92,7 @@ module _ (goals own : ℕ) (old : List ℕ) where
     merge-done h =
         record {
           written =
-              sym (merge-none (mergedOf goals own now) (keep (flags 64 left) (trackedOf goals (topOf goals own old))) (none-left left h (trackedOf goals (topOf goals own old))))
+              sym (merge-none (mergedOf goals own now) (keep (flags 64 left) (trackedOf goals (topOf goals own old))) (none-left noUsages left h (trackedOf goals (topOf goals own old))))
               ∙ inv .rest
               ∙ sym (ap (λ (s : Stack). mergeUsages (mergedOf goals own old) (candidateUsagesOf goals s)) (stack-top goals own (graphIn goals old)));
           others = inv .written .others;
@@ -132,21 +119,21 @@ module _ (own : ℕ) (hs : CycleHeads) (us : List HeadUsages) where
 
       same : (i : ℕ) → i < own → getD (keep (flags 64 left) us) i noUsages ≡ getD us i noUsages
       same i l =
-          keep-get (flags 64 left) us i
+          keep-get noUsages (flags 64 left) us i
           ∙ ap (λ (t : Bool). elim t [ true ↦ getD us i noUsages | false ↦ noUsages ]) (flag i l)
-          ∙ sym (keep-get (flags 64 m) us i)
-          ∙ ap (λ (l : List HeadUsages). getD l i noUsages) (names .all)
+          ∙ sym (keep-get noUsages (flags 64 m) us i)
+          ∙ ap (λ (l : List HeadUsages). getD l i noUsages) (all-kept goals m us names)
 
   module _ (left : ℕ) (inv : Covering own hs us left) where
     module _ (i : ℕ) (pos : 0 < left) (is : i ≡ placeOr 64 (firstPlace (flags 64 left))) (u : HeadUsages) (is-u : u ≡ getD us i noUsages) (t : Bool) (is-t : t ≡ usagesCover (usagesAt hs i) u) where
       pub cover-next : t ≡ true → (left′ : ℕ) → flags 64 left′ ≡ set (flags 64 left) (placeOr 64 (firstPlace (flags 64 left))) false → left′ < left → Covering own hs us left′
       cover-next e left′ is-left lt =
-          let covered : usagesCover (usagesAt hs i) (getD (keep (flags 64 left) us) i noUsages) ≡ true = ap (usagesCover (usagesAt hs i)) (turn-at left i pos (inv .small) is us ∙ sym is-u) ∙ sym is-t ∙ e in
+          let covered : usagesCover (usagesAt hs i) (getD (keep (flags 64 left) us) i noUsages) ≡ true = ap (usagesCover (usagesAt hs i)) (turn-at left i pos (inv .small) is noUsages us ∙ sym is-u) ∙ sym is-t ∙ e in
           record {
             small = less left′ left (2 ^ 64) lt (inv .small);
-            below = turn-still left i pos (inv .small) is left′ is-left own (inv .below);
+            below = λ j h. inv .below j (turn-still left i pos (inv .small) is left′ is-left j h);
             rest =
-                ap (headsCover own hs) (turn-rest left i pos (inv .small) is left′ is-left us)
+                ap (headsCover own hs) (turn-rest left i pos (inv .small) is left′ is-left noUsages us)
                 ∙ cover-one own hs (keep (flags 64 left) us) i covered
                 ∙ inv .rest;
           }
@@ -155,7 +142,7 @@ module _ (own : ℕ) (hs : CycleHeads) (us : List HeadUsages) where
       cover-stops e = sym (cover-fails own hs us i (turn-below left i pos (inv .small) is own (inv .below)) (ap (usagesCover (usagesAt hs i)) (sym is-u) ∙ sym is-t ∙ e))
 
     pub cover-done : left ≤ 0 → true ≡ headsCover own hs us
-    cover-done h = sym (cover-none own hs (keep (flags 64 left) us) (none-left left h us)) ∙ inv .rest
+    cover-done h = sym (cover-none own hs (keep (flags 64 left) us) (none-left noUsages left h us)) ∙ inv .rest
 
 -- ---- `can_ignore`
 module _ (goals own : ℕ) (work f b : List ℕ) (w : WorkBytes goals work) (lt : own < goals) (is-f : f ≡ topBytes goals own work) (is-b : b ≡ mergedBytes goals own work) (t : Bool)
@@ -198,7 +185,7 @@ module _ (goals own : ℕ) (lt : own < goals) (old : List ℕ) (bytes : WorkByte
   pub ignore-start : (b : List ℕ) (left : ℕ) → b ≡ mergedBytes goals own old → left < 2 ^ 64 → Names goals left (candidateOf goals b) → Ignoring goals own old old left
   ignore-start b left is-b small names =
       let same : candidateOf goals b ≡ mergedOf goals own old = merged-is goals old bytes own lt b is-b in
-      let all : keep (flags 64 left) (mergedOf goals own old) ≡ mergedOf goals own old = subst (λ (us : List HeadUsages). keep (flags 64 left) us ≡ us) same (names .all) in
+      let all : keep (flags 64 left) (mergedOf goals own old) ≡ mergedOf goals own old = subst (λ (us : List HeadUsages). keep (flags 64 left) us ≡ us) same (all-kept goals left (candidateOf goals b) names) in
       record {
         same-length = refl;
         small = small;
@@ -218,14 +205,14 @@ module _ (goals own : ℕ) (lt : own < goals) (old : List ℕ) (bytes : WorkByte
         let g : Frame = ignoreHeadAt i u f in
         let top-new : topOf goals own new ≡ g = frame-now goals own g now new w in
         let merged : candidateOf goals b ≡ us = merged-is goals now ok own lt b is-b ∙ inv .written .merged own lt in
-        let at : u ≡ getD (keep (flags 64 left) us) i noUsages = is-u ∙ ap (λ (l : List HeadUsages). getD l i noUsages) merged ∙ sym (turn-at left i pos (inv .small) is us) in
+        let at : u ≡ getD (keep (flags 64 left) us) i noUsages = is-u ∙ ap (λ (l : List HeadUsages). getD l i noUsages) merged ∙ sym (turn-at left i pos (inv .small) is noUsages us) in
         record {
           same-length = len ∙ inv .same-length;
           small = less left′ left (2 ^ 64) le (inv .small);
-          below = turn-still left i pos (inv .small) is left′ is-left goals (inv .below);
+          below = λ j h. inv .below j (turn-still left i pos (inv .small) is left′ is-left j h);
           written = frame-same goals own g old new (frame-again goals own f old now (inv .written) g new w) (topOf goals own new) (sym top-new);
           rest =
-              ap₂ ignoreHeads (turn-rest left i pos (inv .small) is left′ is-left us) top-new
+              ap₂ ignoreHeads (turn-rest left i pos (inv .small) is left′ is-left noUsages us) top-new
               ∙ ap (withThose f) (ignore-one (f .heads) (keep (flags 64 left) us) i u at)
               ∙ inv .rest;
         }
@@ -234,7 +221,7 @@ module _ (goals own : ℕ) (lt : own < goals) (old : List ℕ) (bytes : WorkByte
     ignore-done h =
         let us : List HeadUsages = mergedOf goals own old in
         let f : Frame = topOf goals own now in
-        let is : f ≡ ignoreHeads us (topOf goals own old) = ap (withThose f) (sym (ignore-none (f .heads) (keep (flags 64 left) us) (none-left left h us))) ∙ inv .rest in
+        let is : f ≡ ignoreHeads us (topOf goals own old) = ap (withThose f) (sym (ignore-none (f .heads) (keep (flags 64 left) us) (none-left noUsages left h us))) ∙ inv .rest in
         frame-same goals own f old now (inv .written) (ignoreHeads us (topOf goals own old)) is
 
 -- ---- `ignore`

@@ -1,13 +1,17 @@
 -- The counters of `HeadUsages`.
-use mathlib.Core.Path.{_≡_, sym, ap, ap₂, _∙_}
+use mathlib.Core.Path.{_≡_, refl, sym, ap, ap₂, _∙_}
 use mathlib.Core.Bool.{Bool, true, false, _&&_, _||_}
+use mathlib.Core.Option.{Option, none, some}
 use Prim.Native.Nat.{ℕ, _+_, _-_, _≤_, _<_, min}
 use native.Mathlib.Omega.{arith}
-use native.Mathlib.Decide.{ℕ-discrete}
+use native.Mathlib.Decide.{decLt, ℕ-discrete}
 use borrow.Author.Tests.{le-leb, lt-leb, eq-eqb, ne-eqb}
 use lib.Bits.{bitAnd, bitOr, and-le-l, and-le-r, or-add-and}
 use lib.Dec.{eqb, leb}
-use Rattle.definition.specs.Usages.{counterLimit, addCounter, subtractCounter, counterCovers}
+use Rattle.definition.specs.declared.usages.HeadUsages.{HeadUsages}
+use Rattle.definition.specs.declared.heads.CycleHead.{CycleHead}
+use Rattle.definition.specs.Usages.{counterLimit, addCounter, subtractCounter, counterCovers, noUsages, addUsages, ignoreUsages, usagesCover}
+use Rattle.definition.specs.Heads.{ignoreAtHead}
 
 -- a join is 0 where both numbers are
 none-of : (a b : ℕ) → eqb (bitOr a b) 0 ≡ (eqb a 0 && eqb b 0)
@@ -42,3 +46,53 @@ module _ (a b : ℕ) where
 
   pub covers-less : a < counterLimit → leb b a ≡ counterCovers a b
   covers-less h = rw (lt-leb counterLimit a h, counterCovers)
+
+-- ---- nothing to add, to take away or to cover
+pub add-zero : (a : ℕ) → addCounter a 0 ≡ a
+add-zero a =
+    elim (decLt a counterLimit) [
+      | yes l ↦ let e : min (a + 0) counterLimit ≡ a = omega arith in sym (add-less a 0 l) ∙ e
+      | no g ↦ sym (add-full a 0 (omega arith))
+    ]
+
+pub subtract-zero : (a : ℕ) → subtractCounter a 0 ≡ a
+subtract-zero a =
+    elim (decLt a counterLimit) [
+      | yes l ↦ let e : a - 0 ≡ a = omega arith in sym (subtract-less a 0 l) ∙ e
+      | no g ↦ sym (subtract-full a 0 (omega arith))
+    ]
+
+pub covers-zero : (a : ℕ) → counterCovers a 0 ≡ true
+covers-zero a =
+    elim (decLt a counterLimit) [
+      | yes l ↦ sym (covers-less a 0 l) ∙ le-leb 0 a (omega arith)
+      | no g ↦ sym (covers-full a 0 (omega arith))
+    ]
+
+pub add-no-usages : (u : HeadUsages) → addUsages u noUsages ≡ u
+add-no-usages u =
+    let a = add-zero (u .inductive) in
+    let b = add-zero (u .unknown) in
+    let c = add-zero (u .coinductive) in
+    let d = add-zero (u .forced) in
+    λ t. record { inductive = a t; unknown = b t; coinductive = c t; forced = d t }
+
+pub ignore-no-usages : (u : HeadUsages) → ignoreUsages u noUsages ≡ u
+ignore-no-usages u =
+    let a = subtract-zero (u .inductive) in
+    let b = subtract-zero (u .unknown) in
+    let c = subtract-zero (u .coinductive) in
+    let d = subtract-zero (u .forced) in
+    λ t. record { inductive = a t; unknown = b t; coinductive = c t; forced = d t }
+
+pub ignore-nothing : (h : Option CycleHead) → ignoreAtHead h noUsages ≡ h
+ignore-nothing none = refl
+ignore-nothing (some h) = let e = ignore-no-usages (h .usages) in λ t. some (record { paths = h .paths; usages = e t })
+
+pub cover-no-usages : (u : HeadUsages) → usagesCover u noUsages ≡ true
+cover-no-usages u =
+    let a = covers-zero (u .inductive) in
+    let b = covers-zero (u .unknown) in
+    let c = covers-zero (u .coinductive) in
+    let d = covers-zero (u .forced) in
+    λ t. a t && (b t && (c t && d t))

@@ -8,6 +8,7 @@ use lib.Dec.{eqb, leb, T, eqb→eq}
 use lib.ListN.{length, replicate, getD, take}
 use Rattle.definition.specs.Answers.{responseAnswer, responseRefusal}
 use Rattle.definition.specs.Query.{Reply, query, workLength}
+use Rattle.definition.proofs.Tests.{and-left, and-right}
 
 -- ---- a book's bytes
 
@@ -90,19 +91,11 @@ abbrev pub allRight : List Example → Bool
 allRight [] = true
 allRight (e ∷ es) = right e && allRight es
 
-left-of : (a b : Bool) → T (a && b) → T a
-left-of true b t = tt
-left-of false b t = t
-
-right-of : (a b : Bool) → T (a && b) → T b
-right-of true b t = t
-right-of false b t = absurd t
-
 is-right : (e : Example) → T (right e) → Right e
 is-right e t =
     record {
-      answered = eqb→eq _ _ (left-of (eqb (responseAnswer (replyTo e .response)) (e .answer)) (eqb (responseRefusal (replyTo e .response)) (e .refusal)) t);
-      refused = eqb→eq _ _ (right-of (eqb (responseAnswer (replyTo e .response)) (e .answer)) (eqb (responseRefusal (replyTo e .response)) (e .refusal)) t);
+      answered = eqb→eq _ _ (and-left (eqb (responseAnswer (replyTo e .response)) (e .answer)) (eqb (responseRefusal (replyTo e .response)) (e .refusal)) t);
+      refused = eqb→eq _ _ (and-right (eqb (responseAnswer (replyTo e .response)) (e .answer)) (eqb (responseRefusal (replyTo e .response)) (e .refusal)) t);
     }
 
 abbrev pub noExample : Example
@@ -110,5 +103,5 @@ noExample = record { bytes = []; goals = 0; cacheLength = 0; goal = 0; depth = 0
 
 pub each-right : (es : List Example) → T (allRight es) → (k : ℕ) → k < length es → Right (getD es k noExample)
 each-right [] t k h = absurd (not-suc-le-zero h)
-each-right (e ∷ es) t zero h = is-right e (left-of (right e) (allRight es) t)
-each-right (e ∷ es) t (suc k) h = each-right es (right-of (right e) (allRight es) t) k (le-of-suc-le-suc h)
+each-right (e ∷ es) t zero h = is-right e (and-left (right e) (allRight es) t)
+each-right (e ∷ es) t (suc k) h = each-right es (and-right (right e) (allRight es) t) k (le-of-suc-le-suc h)

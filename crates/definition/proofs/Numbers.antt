@@ -4,6 +4,9 @@ use mathlib.Core.Bool.{true, false}
 use Prim.Native.Nat.{ℕ, zero, suc, _≤_, _<_}
 use lib.Dec.{leb}
 use borrow.Author.Tests.{le-leb, lt-leb}
+use Rattle.definition.specs.declared.answers.Answer.{Answer}
+use Rattle.definition.specs.declared.answers.Answer.the-variants.{No, Yes, Undecided, Overflow}
+use Rattle.definition.specs.Answers.{answerNumber, answerOf}
 
 -- what holds from 3 on holds of a number that is not 0, 1 or 2
 pub from-three : (P : ℕ → Type 0) → ((n : ℕ) → P (suc (suc (suc n)))) → (n : ℕ) → (n ≡ 0 → ⊥) → (n ≡ 1 → ⊥) → (n ≡ 2 → ⊥) → P n
@@ -22,3 +25,10 @@ module _ {A : Type 0} (number : A → ℕ) (a b : A) (m n : ℕ) (is-m : m ≡ n
 
   pub later-first : n < m → a ≡ elim (leb (number a) (number b)) [ true ↦ b | false ↦ a ]
   later-first h = rw (same-test ∙ lt-leb m n h)
+
+-- an answer by its number
+pub answer-back : (a : Answer) → answerOf (answerNumber a) ≡ a
+answer-back No = refl
+answer-back Yes = refl
+answer-back Undecided = refl
+answer-back Overflow = refl

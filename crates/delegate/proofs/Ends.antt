@@ -1,6 +1,6 @@
 -- `end`.
 use mathlib.Core.Path.{_≡_, refl, sym, ap, ap₂, _∙_, subst}
-use mathlib.Core.Bool.{Bool, true, false, not}
+use mathlib.Core.Bool.{Bool, true, false}
 use mathlib.Core.List.{List}
 use Prim.Native.Nat.{ℕ, _+_, _*_, _-_, _≤_}
 use Rattle.definition.specs.declared.answers.Answer.{Answer}
@@ -21,14 +21,6 @@ use Rattle.delegate.specs.declared.Group.{Group}
 use Rattle.delegate.specs.Groups.{restOf}
 use Rattle.delegate.specs.Steps.{MergedKept, PickEnded, Ended}
 use Rattle.delegate.proofs.Starts.{top-height}
-
-twice : (b : Bool) → b ≡ not (not b)
-twice true = refl
-twice false = refl
-
--- a test of `!b`
-pub opposite : (b x : Bool) → not b ≡ x → b ≡ not x
-opposite b x e = twice b ∙ ap not e
 
 -- ---- a pick, on the frame at index `own`
 module _ (goals own entries : ℕ) (combined : Answer) (old : List ℕ) (few : entries ≤ 2 * goals) where

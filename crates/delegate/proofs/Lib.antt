@@ -1,5 +1,5 @@
 pub mod Laws
-pub mod Lent
+pub mod Tracking
 pub mod Starts
 pub mod Turns
 pub mod Ends

@@ -1,6 +1,6 @@
 -- `begin`, and `before` each part.
 use mathlib.Core.Path.{_≡_, refl, sym, ap₂, subst}
-use mathlib.Core.Bool.{true, false}
+use mathlib.Core.Bool.{false, true≢false}
 use mathlib.Core.Option.{some}
 use mathlib.Core.List.{List}
 use Prim.Native.Nat.{ℕ, _+_, _-_, _≤_, _<_}
@@ -25,12 +25,9 @@ top-height height pos = omega arith
 pub same-kept : (op : Op) (goals own : ℕ) (work : List ℕ) → Kept op goals own work work
 same-kept op goals own work = record { below = λ i lt. refl; here = λ e. refl }
 
-true-false : {B : Type 0} → true ≡ false → B
-true-false e = let z : _≡_ {A = ℕ} 0 1 = cc in absurd (omega arith)
-
 -- a pick writes the merged usages of its frame
 pub pick-kept : (goals own : ℕ) (old new : List ℕ) → ((i : ℕ) → i < own → mergedOf goals i new ≡ mergedOf goals i old) → Kept Pick goals own old new
-pick-kept goals own old new h = record { below = h; here = λ e. true-false e }
+pick-kept goals own old new h = record { below = h; here = λ e. absurd (true≢false e) }
 
 module _ (goals height entries : ℕ) where
   all-begun : (work : List ℕ) → Begun goals height entries All work work (record { op = All; met = false; combined = Yes; entries = entries })

@@ -216,6 +216,3 @@ module _ (goals height : ℕ) (g : Group) where
   pub stepped-done : (o : Outcome) (answer : Answer) (entries : ℕ) (old new : List ℕ) (r : Step) → o ≡ Done answer entries → Stepped goals height (Done answer entries) g old new r
       → Stepped goals height o g old new r
   stepped-done o answer entries old new r e s = subst (λ (p : Outcome). Stepped goals height p g old new r) (sym e) s
-
-pub few-done : (goals : ℕ) (o : Outcome) (answer : Answer) (entries : ℕ) → o ≡ Done answer entries → FewEntries goals o → entries ≤ 2 * goals
-few-done goals o answer entries e few = subst (FewEntries goals) e few

@@ -83,7 +83,7 @@ fn enter(work: &mut [u8], goals: usize, own: usize)
     ensures { λ _. ⌜ Tracked goals own (some (noCandidateUsages goals)) (now (work .entry)) (now (work .exit)) ⌝ }
 {
     let n = offsets::graph_length(goals);
-    candidates::enter_single_candidate(&mut work[..n], goals, own);
+    candidates::enter_single_candidate(&mut work[0..n], goals, own);
 }
 
 // finish_single_candidate, on the graph of the workspace.
@@ -92,7 +92,7 @@ fn finish(work: &mut [u8], goals: usize, own: usize)
     ensures { λ _. ⌜ Tracked goals own none (now (work .entry)) (now (work .exit)) ⌝ }
 {
     let n = offsets::graph_length(goals);
-    candidates::finish_single_candidate(&mut work[..n], goals, own);
+    candidates::finish_single_candidate(&mut work[0..n], goals, own);
 }
 
 // Before each part of a group.

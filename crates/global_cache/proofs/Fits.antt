@@ -1,6 +1,6 @@
 -- The form of a slot, of a goal's slots and of the cache.
 use mathlib.Core.Path.{_≡_, refl, sym, ap, ap₂, _∙_}
-use mathlib.Core.Bool.{Bool, true, false, _&&_, _||_}
+use mathlib.Core.Bool.{Bool, true, false, _&&_, _||_, and-assoc, and-false}
 use mathlib.Core.List.{List, [], _∷_}
 use Prim.Native.Nat.{ℕ, zero, suc, _+_, _-_, _^_, _≤_, _<_}
 use native.Mathlib.Decide.{ℕ-discrete}
@@ -14,8 +14,8 @@ use Rattle.definition.specs.declared.format.Header.{Header}
 use Rattle.definition.specs.CacheForm.{allAtMost, depthFits, slotFits, slotsFit, goalsFit}
 use Rattle.definition.specs.GlobalCache.{slotAt, slotsPerGoal}
 use Rattle.global_cache.specs.Cache.{headerWith}
-use Rattle.global_cache.proofs.Flags.{or-low, and-assoc, and-false}
-use Rattle.global_cache.proofs.Slots.{part-from}
+use Rattle.global_cache.proofs.Flags.{or-low}
+use Rattle.definition.proofs.Lists.{part-from}
 
 -- the depth of an overflow slot
 pub own-depth : (goals top slot depth : ℕ) → (slot ≡ 0 → ⊥) → eqb (depth + 1) slot ≡ depthFits (headerWith goals top) slot depth

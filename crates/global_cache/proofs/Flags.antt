@@ -1,6 +1,6 @@
 -- The flags of several bytes together tell a bound 2 ^ k - 1 of each.
 use mathlib.Core.Path.{_≡_, refl, sym, ap, ap₂, _∙_}
-use mathlib.Core.Bool.{Bool, true, false, _&&_}
+use mathlib.Core.Bool.{Bool, _&&_, and-assoc, and-true, and-false}
 use mathlib.Core.List.{List, [], _∷_}
 use Prim.Native.Nat.{ℕ, zero, suc, _+_, _-_, _^_, _≤_, _<_}
 use native.Mathlib.Decide.{decLt}
@@ -14,18 +14,6 @@ use lib.Pow.{le-ones, lt-of-le-ones}
 use lib.Seq.{drop-cons}
 use Rattle.definition.specs.CacheForm.{allAtMost}
 use Rattle.definition.specs.Nested.{nestedEmpty}
-
-pub and-assoc : (a b c : Bool) → ((a && b) && c) ≡ (a && (b && c))
-and-assoc true b c = refl
-and-assoc false b c = refl
-
-pub and-true : (a : Bool) → (a && true) ≡ a
-and-true true = refl
-and-true false = refl
-
-pub and-false : (a : Bool) → (a && false) ≡ false
-and-false true = refl
-and-false false = refl
 
 le-or-l : (a b : ℕ) → a ≤ bitOr a b
 le-or-l a b = omega (arith, or-add-and a b, and-le-r a b)

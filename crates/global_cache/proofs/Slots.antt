@@ -1,15 +1,14 @@
 -- A goal's slot in the cache's bytes.
 use mathlib.Core.Path.{_≡_, refl, sym, ap, ap₂, _∙_}
 use mathlib.Core.Bool.{Bool, true, false, not, _&&_}
-use mathlib.Core.List.{List, [], _∷_, _++_, append-nil}
+use mathlib.Core.List.{List, [], _∷_, _++_}
 use mathlib.Core.Option.{Option, none, some}
 use Prim.Native.Nat.{ℕ, zero, suc, _+_, _*_, _-_, _≤_, _<_}
 use native.Mathlib.Nat.{mul-le-mul-right}
-use native.Mathlib.Numerals.{add-one}
 use native.Mathlib.Omega.{arith}
 use lib.Dec.{eqb}
 use lib.ListN.{length, getD, take, drop, set, drop-of-length-le, length-drop}
-use lib.Seq.{take-nil, take-all, take-length, drop-drop, paste, paste-suc}
+use lib.Seq.{take-nil, drop-drop}
 use Rattle.buffer.proofs.Regions.{length-region}
 use Rattle.definition.specs.declared.answers.Answer.{Answer}
 use Rattle.definition.specs.Answers.{answerNumber}
@@ -29,10 +28,6 @@ pub part-slot : (cache : List ℕ) (a b size : ℕ) → a ≡ b → take (a + si
 part-slot cache a b size e =
     let n : a + size - a ≡ size = omega arith in
     ap₂ (λ (m k : ℕ). take m (drop k cache)) n e
-
--- a part `[n..]` is all that is left
-pub part-from : (n : ℕ) (s : List ℕ) → take (length s - n) (drop n s) ≡ drop n s
-part-from n s = take-all (length s - n) (drop n s) (omega (arith, length-drop n s))
 
 -- a slot of a known goal is as long as a slot is
 pub slot-length : (goals top goal slot : ℕ) (cache : List ℕ) → CacheBytes goals top cache → goal < goals → slot < top + 2
@@ -61,17 +56,6 @@ pub same-bytes : (goals top : ℕ) (cache other : List ℕ) → CacheBytes goals
 same-bytes goals top cache other g e = record { few = g .few; low = g .low; whole = e ∙ g .whole }
 
 -- ---- a slot written
-pub copied-more : (d s now : List ℕ) (j : ℕ) → now ≡ paste d 3 s j → length d ≡ 3 + length s → j < length s → set now (3 + j) (getD s j 0) ≡ paste d 3 s (j + 1)
-copied-more d s now j e len h =
-    ap (λ (l : List ℕ). set l (3 + j) (getD s j 0)) e ∙ paste-suc d 3 s j 0 (omega arith) h ∙ ap (paste d 3 s) (sym (add-one j))
-
-pub copied-all : (d s now : List ℕ) (j : ℕ) → now ≡ paste d 3 s j → length d ≡ 3 + length s → j ≡ length s → now ≡ take 3 d ++ s
-copied-all d s now j e len h =
-    e
-    ∙ ap (paste d 3 s) h
-    ∙ ap₂ (λ (l m : List ℕ). (take 3 d ++ l) ++ m) (take-length s) (drop-of-length-le d {i = 3 + length s} (omega arith))
-    ∙ append-nil (take 3 d ++ s)
-
 -- the three first bytes, then the nested goals
 pub held-bytes : (s ns : List ℕ) (x y z : ℕ) → length s ≡ 3 + length ns → take 3 (set (set (set s 0 x) 1 y) 2 z) ++ ns ≡ x ∷ y ∷ z ∷ ns
 held-bytes [] ns x y z h = absurd (omega arith)

@@ -2,14 +2,16 @@
 use mathlib.Core.Path.{_≡_, refl, sym, ap, ap₂, _∙_, subst}
 use mathlib.Core.List.{List, [], _∷_, _++_}
 use Prim.Native.Nat.{ℕ, suc, _+_, _*_, _-_, _≤_, _<_}
-use native.Mathlib.Nat.{zero-add, add-zero, mul-le-mul-right}
+use native.Mathlib.Nat.{zero-add, add-zero, le-trans, le-add-right, mul-le-mul-right}
 use native.Mathlib.Omega.{arith}
+use native.Mathlib.Decide.{decLt}
 use lib.ListN.{length, getD, set, drop}
+use lib.Seq.{drop-set-lt}
 use Rattle.definition.specs.Stack.{Frame}
 use Rattle.definition.specs.Graph.{Entry, withStack, withProvisionalCache}
 use Rattle.definition.specs.Query.{workLength}
 use Rattle.buffer.specs.Regions.{region, overwrite}
-use Rattle.buffer.specs.Tables.{recordAt, table, tableDown}
+use Rattle.buffer.specs.Tables.{listUp, recordAt, table, tableDown}
 use Rattle.buffer.proofs.Regions.{region-before, region-after}
 use Rattle.buffer.proofs.Tables.{length-up, up-at, up-snoc, length-down, down-at, down-drop, apart, table-below, table-above, table-inside, table-whole, tableDown-below, tableDown-inside, tableDown-push, record-whole, record-other}
 use Rattle.layout.specs.Blocks.{blockSize, candidateOf}
@@ -37,19 +39,13 @@ module _ {A : Type 0} (dec : List ℕ → A) (size : ℕ) where
         subst (λ (x : ℕ). tableDown dec size 0 (suc i) (overwrite bs x ys) ≡ dec ys ∷ tableDown dec size 0 i bs) (zero-add (i * size)) (tableDown-push dec size 0 bs i ys e room-zero)
 
 -- ---- orders, over what the sizes are
-trans : {l m n : ℕ} → l ≤ m → m ≤ n → l ≤ n
-trans p q = omega arith
-
-at-least : {m n : ℕ} → n ≡ m → m ≤ n
+pub at-least : {m n : ℕ} → n ≡ m → m ≤ n
 at-least e = omega arith
-
-more : (a x : ℕ) → a ≤ a + x
-more a x = omega arith
 
 whole-fits : (a : ℕ) {x y n : ℕ} → x ≡ y → a + y ≤ n → a + x ≤ n
 whole-fits a e h = omega arith
 
-into-fits : (a k x : ℕ) {y n : ℕ} → k + x ≤ y → a + y ≤ n → a + k + x ≤ n
+pub into-fits : (a k x : ℕ) {y n : ℕ} → k + x ≤ y → a + y ≤ n → a + k + x ≤ n
 into-fits a k x p h = omega arith
 
 add-both : (a j : ℕ) {x y : ℕ} → x ≤ y → a + x ≤ a + y + j
@@ -89,6 +85,10 @@ module _ (goals : ℕ) where
   unfolding entriesOf
   length-entries n bs = length-up (recordAt (entryOf goals) (entrySize goals) (entriesStart goals) bs) n
 
+  pub no-entries : (bs : List ℕ) → entriesOf goals 0 bs ≡ []
+  unfolding entriesOf listUp
+  no-entries bs = refl
+
   pub entries-snoc : (n : ℕ) (bs : List ℕ) → entriesOf goals (suc n) bs ≡ entriesOf goals n bs ++ (entryOf goals (region (entryStart goals n) (entrySize goals) bs) ∷ [])
   unfolding entriesOf
   entries-snoc n bs = up-snoc (recordAt (entryOf goals) (entrySize goals) (entriesStart goals) bs) n
@@ -114,7 +114,7 @@ module _ (goals : ℕ) where
 
     -- frame i is there
     pub frame-room : (i : ℕ) → i < goals → frameStart goals i + frameSize goals ≤ length bs
-    frame-room i lt = trans (apart i goals (frameSize goals) lt) frames-end
+    frame-room i lt = le-trans (apart i goals (frameSize goals) lt) frames-end
 
     pub entry-room : (k : ℕ) → k < 2 * goals → entryStart goals k + entrySize goals ≤ length bs
     entry-room k lt = room-of (entrySize goals) (entriesStart goals) (2 * goals) k lt (at-least long)
@@ -127,12 +127,12 @@ module _ (goals : ℕ) where
       stack-inside h under = down-inside (frameOf goals) (frameSize goals) bs i (frame-room i lt) k ys inner h under
 
       pub stack-under : stackOf goals i (overwrite bs (frameStart goals i + k) ys) ≡ stackOf goals i bs
-      stack-under = stack-below i bs (frameStart goals i + k) ys (more (frameStart goals i) k) (into-fits (frameStart goals i) k (length ys) inner (frame-room i lt))
+      stack-under = stack-below i bs (frameStart goals i + k) ys (le-add-right (frameStart goals i) k) (into-fits (frameStart goals i) k (length ys) inner (frame-room i lt))
 
       pub entries-frame : (n : ℕ) → entriesOf goals n (overwrite bs (frameStart goals i + k) ys) ≡ entriesOf goals n bs
       entries-frame n =
           let below : frameStart goals i + k + length ys ≤ entriesStart goals = into-fits (frameStart goals i) k (length ys) inner (apart i goals (frameSize goals) lt) in
-          entries-above n bs (frameStart goals i + k) ys below (trans below frames-end)
+          entries-above n bs (frameStart goals i + k) ys below (le-trans below frames-end)
 
     -- ---- a write of frame i
     module _ (i : ℕ) (ys : List ℕ) (lt : i < goals) (whole : length ys ≡ frameSize goals) where
@@ -144,11 +144,11 @@ module _ (goals : ℕ) where
       pub entries-push : (n : ℕ) → entriesOf goals n (overwrite bs (frameStart goals i) ys) ≡ entriesOf goals n bs
       entries-push n =
           let below : frameStart goals i + length ys ≤ entriesStart goals = whole-fits (frameStart goals i) whole (apart i goals (frameSize goals) lt) in
-          entries-above n bs (frameStart goals i) ys below (trans below frames-end)
+          entries-above n bs (frameStart goals i) ys below (le-trans below frames-end)
 
     -- ---- a write in entry k, j bytes into it
     module _ (k j : ℕ) (ys : List ℕ) (lt : k < 2 * goals) (inner : j + length ys ≤ entrySize goals) where
-      fits-entry : entryStart goals k + j + length ys ≤ length bs
+      pub fits-entry : entryStart goals k + j + length ys ≤ length bs
       fits-entry = into-fits (entryStart goals k) j (length ys) inner (entry-room k lt)
 
       pub entries-inside : (n : ℕ) → k < n
@@ -160,7 +160,7 @@ module _ (goals : ℕ) where
       entries-under n le = entries-below n bs (entryStart goals k + j) ys (add-both (entriesStart goals) j (mul-le-mul-right (entrySize goals) le)) fits-entry
 
       pub stack-entry : (h : ℕ) → h ≤ goals → stackOf goals h (overwrite bs (entryStart goals k + j) ys) ≡ stackOf goals h bs
-      stack-entry h le = stack-below h bs (entryStart goals k + j) ys (trans (mul-le-mul-right (frameSize goals) le) (trans (more (entriesStart goals) (k * entrySize goals)) (more (entryStart goals k) j))) fits-entry
+      stack-entry h le = stack-below h bs (entryStart goals k + j) ys (le-trans (mul-le-mul-right (frameSize goals) le) (le-trans (le-add-right (entriesStart goals) (k * entrySize goals)) (le-add-right (entryStart goals k) j))) fits-entry
 
     -- ---- a write of entry k
     module _ (k : ℕ) (ys : List ℕ) (lt : k < 2 * goals) (whole : length ys ≡ entrySize goals) where
@@ -168,8 +168,24 @@ module _ (goals : ℕ) where
       unfolding entriesOf
       entries-whole n under = table-whole (entryOf goals) (entrySize goals) (entriesStart goals) bs k ys whole (entry-room k lt) n under
 
-      fits-whole : entryStart goals k + length ys ≤ length bs
+      pub fits-whole : entryStart goals k + length ys ≤ length bs
       fits-whole = whole-fits (entryStart goals k) whole (entry-room k lt)
+
+      -- those before it, and those behind entry i
+      pub entries-before : (n : ℕ) → n ≤ k → entriesOf goals n (overwrite bs (entryStart goals k) ys) ≡ entriesOf goals n bs
+      entries-before n le = entries-below n bs (entryStart goals k) ys (later (entriesStart goals) (mul-le-mul-right (entrySize goals) le)) fits-whole
+        where
+          later : (base : ℕ) {x y : ℕ} → x ≤ y → base + x ≤ base + y
+          later base h = omega arith
+
+      pub entries-behind : (i : ℕ) → k ≤ i → (n : ℕ) → drop (i + 1) (entriesOf goals n (overwrite bs (entryStart goals k) ys)) ≡ drop (i + 1) (entriesOf goals n bs)
+      entries-behind i le n =
+          elim (decLt k n) [
+            | yes under ↦
+                ap (drop (i + 1)) (entries-whole n under)
+                ∙ drop-set-lt (i + 1) (entriesOf goals n bs) k (entryOf goals ys) (omega arith)
+            | no past ↦ ap (drop (i + 1)) (entries-before n (omega arith))
+          ]
 
       -- one more
       pub entries-push-back : entriesOf goals (suc k) (overwrite bs (entryStart goals k) ys) ≡ entriesOf goals k bs ++ (entryOf goals ys ∷ [])
@@ -179,7 +195,7 @@ module _ (goals : ℕ) where
           ∙ ap₂ (λ (l : List Entry) (e : Entry). l ++ (e ∷ [])) (entries-below k bs (entryStart goals k) ys (at-least refl) fits-whole) (record-whole (entryOf goals) (entrySize goals) (entriesStart goals) bs k ys whole (entry-room k lt))
 
       pub stack-entry-whole : (h : ℕ) → h ≤ goals → stackOf goals h (overwrite bs (entryStart goals k) ys) ≡ stackOf goals h bs
-      stack-entry-whole h le = stack-below h bs (entryStart goals k) ys (trans (mul-le-mul-right (frameSize goals) le) (more (entriesStart goals) (k * entrySize goals))) fits-whole
+      stack-entry-whole h le = stack-below h bs (entryStart goals k) ys (le-trans (mul-le-mul-right (frameSize goals) le) (le-add-right (entriesStart goals) (k * entrySize goals))) fits-whole
 
 -- ---- the graph
 module _ (goals root : ℕ) (bs cache : List ℕ) (long : length bs ≡ graphLength goals) where
@@ -212,7 +228,7 @@ pub work-length : (goals : ℕ) → workLength goals ≡ graphLength goals + goa
 work-length goals = omega arith
 
 module _ (goals : ℕ) (work : List ℕ) (long : length work ≡ workLength goals) where
-  merged-room : (i : ℕ) → i < goals → mergedStart goals i + blockSize goals ≤ length work
+  pub merged-room : (i : ℕ) → i < goals → mergedStart goals i + blockSize goals ≤ length work
   merged-room i lt = room-of (blockSize goals) (graphLength goals) goals i lt (at-least (long ∙ work-length goals))
 
   -- a write of the merged usages of frame i
@@ -232,10 +248,10 @@ module _ (goals : ℕ) (work : List ℕ) (long : length work ≡ workLength goal
 
     -- the graph's bytes
     pub merged-graph : region 0 (graphLength goals) (overwrite work (mergedStart goals i) ys) ≡ region 0 (graphLength goals) work
-    merged-graph = region-before work (mergedStart goals i) ys fits-merged 0 (graphLength goals) (trans (at-least (sym (zero-add (graphLength goals)))) (more (graphLength goals) (i * blockSize goals)))
+    merged-graph = region-before work (mergedStart goals i) ys fits-merged 0 (graphLength goals) (le-trans (at-least (sym (zero-add (graphLength goals)))) (le-add-right (graphLength goals) (i * blockSize goals)))
 
   -- a write in the graph's bytes
   pub graph-merged : (a : ℕ) (ys : List ℕ) → a + length ys ≤ graphLength goals → (i : ℕ) → mergedOf goals i (overwrite work a ys) ≡ mergedOf goals i work
   unfolding mergedOf
   graph-merged a ys h i =
-      ap (candidateOf goals) (region-after work a ys (trans h (trans (more (graphLength goals) (goals * blockSize goals)) (at-least (long ∙ work-length goals)))) (mergedStart goals i) (blockSize goals) (trans h (more (graphLength goals) (i * blockSize goals))))
+      ap (candidateOf goals) (region-after work a ys (le-trans h (le-trans (le-add-right (graphLength goals) (goals * blockSize goals)) (at-least (long ∙ work-length goals)))) (mergedStart goals i) (blockSize goals) (le-trans h (le-add-right (graphLength goals) (i * blockSize goals))))

@@ -1,5 +1,6 @@
 pub mod Blocks
 pub mod Frames
 pub mod Graphs
+pub mod Marks
 pub mod Present
 pub mod Written

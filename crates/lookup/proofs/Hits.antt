@@ -5,6 +5,7 @@ use mathlib.Core.Option.{Option, none, some}
 use mathlib.Core.List.{List}
 use Prim.Native.Nat.{ℕ, _+_, _≤_, _<_}
 use native.Mathlib.Omega.{arith}
+use borrow.Author.Tests.{not-true, not-false}
 use lib.Dec.{leb}
 use Rattle.definition.specs.declared.paths.PathKind.{PathKind}
 use Rattle.definition.specs.declared.answers.Answer.{Answer}
@@ -25,7 +26,6 @@ use Rattle.stack.specs.declared.frame.Depth.the-variants.{Allowed, Overflow}
 use Rattle.stack.specs.declared.OnStack.{OnStack}
 use Rattle.stack.specs.declared.OnStack.the-variants.{At, Nowhere}
 use Rattle.provisional_cache.specs.Entries.{entryAt, entryFound}
-use Rattle.provisional_cache.proofs.Tests.{not-true, not-false}
 use Rattle.provisional_cache.proofs.Outcomes.{found-some, found-none}
 use Rattle.lookup.specs.Lookups.{applicable, hitOf, found}
 use Rattle.lookup.specs.declared.Hit.{Hit}

@@ -3,9 +3,8 @@ use mathlib.Core.Path.{_≡_, sym, ap, ap₂, _∙_}
 use mathlib.Core.Bool.{Bool, true, false, not, _&&_, _||_}
 use mathlib.Core.List.{List}
 use Prim.Native.Nat.{ℕ, _≤_, _<_}
-use borrow.Author.Tests.{le-leb, lt-leb}
+use borrow.Author.Tests.{le-leb, lt-leb, not-true, not-false}
 use lib.Dec.{leb}
-use Rattle.provisional_cache.proofs.Tests.{not-true, not-false}
 
 -- ---- `candidate_is_applicable`
 module _ (empty on any x y : Bool) (is-x : x ≡ empty) (is-y : y ≡ on) (some : x ≡ false) where

@@ -1,6 +1,6 @@
 -- What the writes of `track`, `join`, `use_itself`, `reach` and of nested goals make of a frame.
 use mathlib.Core.Path.{_≡_, refl, sym, ap, ap₂, _∙_}
-use mathlib.Core.Bool.{Bool, true, false, not, _||_}
+use mathlib.Core.Bool.{Bool, true, false, not, _||_, true≢false}
 use mathlib.Core.Option.{Option, none, some}
 use mathlib.Core.List.{List, [], _∷_}
 use Prim.Native.Nat.{ℕ, zero, suc, _+_, _*_, _-_, _≤_, _<_, min}
@@ -29,12 +29,9 @@ use Rattle.stack.proofs.Parts.{part, returned, part-length, part-back}
 use Rattle.parent.specs.Head.{addUsagesAt, trackedAt, joined, used, trackAt, joinAt, useOwn, addHeadAt, reachFrame, setNested}
 
 -- ---- `track`
-not-both : true ≡ false → ⊥
-not-both e = let z : _≡_ {A = ℕ} 0 1 = cc in omega arith
-
 tracked-none : (o : Option (List HeadUsages)) (i : ℕ) (u : HeadUsages) → isSome o ≡ false → o ≡ trackedAt o i u
 tracked-none none i u e = refl
-tracked-none (some us) i u e = absurd (not-both e)
+tracked-none (some us) i u e = absurd (true≢false e)
 
 pub track-none : (f : Frame) (i : ℕ) (u : HeadUsages) (t : Bool) → t ≡ isSome (f .candidateUsages) → t ≡ false → f ≡ trackAt i u f
 track-none f i u t is e = ap (λ (o : Option (List HeadUsages)). withUsages f (f .heads) (f .usages) o) (tracked-none (f .candidateUsages) i u (sym is ∙ e))

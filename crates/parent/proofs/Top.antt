@@ -2,7 +2,6 @@
 use mathlib.Core.Path.{_≡_, refl, sym, ap, ap₂, _∙_, subst}
 use mathlib.Core.List.{List, [], _∷_}
 use Prim.Native.Nat.{ℕ, suc, _+_, _*_, _-_, _≤_, _<_}
-use native.Mathlib.Numerals.{add-one}
 use native.Mathlib.Omega.{arith}
 use lib.ListN.{length}
 use Rattle.definition.specs.Stack.{Frame, Stack}
@@ -10,9 +9,9 @@ use Rattle.buffer.specs.Regions.{region, overwrite}
 use Rattle.buffer.proofs.Regions.{region-after}
 use Rattle.layout.specs.Frame.{frameSize, frameOf}
 use Rattle.layout.specs.Work.{frameStart, stackOf, entriesOf}
-use Rattle.layout.proofs.Graphs.{frame-room, stack-unfold}
 use Rattle.stack.specs.Bytes.{GraphBytes, frameBytes, frameAt}
 use Rattle.stack.proofs.Parts.{part, returned, part-length, part-back}
+use Rattle.stack.proofs.Loops.{stack-top, top-is, under-is}
 use Rattle.stack.proofs.Graph.{part-room, part-is, stack-written, entries-written}
 use Rattle.parent.specs.Top.{TopWritten}
 
@@ -34,28 +33,16 @@ module _ (goals : ℕ) (bs : List ℕ) (i a n : ℕ) (g : GraphBytes goals bs) (
       same : (x y z : ℕ) → z ≡ x + y - x → x + y ≡ x + z
       same x y z e = omega arith
 
--- the frame that was written
-first-of : (f h : Frame) (fs gs : Stack) → f ∷ fs ≡ h ∷ gs → f ≡ h
-first-of f h fs gs e = cc
-
-rest-of : (f h : Frame) (fs gs : Stack) → f ∷ fs ≡ h ∷ gs → fs ≡ gs
-rest-of f h fs gs e = cc
-
 module _ (goals own : ℕ) (f : Frame) (bs mid : List ℕ) (w : TopWritten goals own f bs mid) where
-  both : frameAt goals own mid ∷ stackOf goals own mid ≡ f ∷ stackOf goals own bs
-  both = sym (stack-unfold goals own mid) ∙ sym (ap (λ (k : ℕ). stackOf goals k mid) (add-one own)) ∙ w .stack
-
+  -- the frame that was written
   pub top-frame : frameAt goals own mid ≡ f
-  top-frame = first-of (frameAt goals own mid) f (stackOf goals own mid) (stackOf goals own bs) both
-
-  top-rest : stackOf goals own mid ≡ stackOf goals own bs
-  top-rest = rest-of (frameAt goals own mid) f (stackOf goals own mid) (stackOf goals own bs) both
+  top-frame = top-is goals own mid (w .stack)
 
   -- written again
   pub top-again : (h : Frame) (out : List ℕ) → TopWritten goals own h mid out → TopWritten goals own h bs out
   top-again h out v =
       record {
-        stack = v .stack ∙ ap (λ (s : Stack). h ∷ s) top-rest;
+        stack = v .stack ∙ ap (λ (s : Stack). h ∷ s) (under-is goals own mid (w .stack));
         entries = λ n. v .entries n ∙ w .entries n;
         above = λ b m up. v .above b m up ∙ w .above b m up;
       }
@@ -67,4 +54,4 @@ module _ (goals own : ℕ) (f : Frame) (bs mid : List ℕ) (w : TopWritten goals
 -- nothing was written
 pub top-kept : (goals own : ℕ) (bs : List ℕ) → TopWritten goals own (frameAt goals own bs) bs bs
 top-kept goals own bs =
-    record { stack = ap (λ (k : ℕ). stackOf goals k bs) (add-one own) ∙ stack-unfold goals own bs; entries = λ n. refl; above = λ b m h. refl }
+    record { stack = stack-top goals own bs; entries = λ n. refl; above = λ b m h. refl }

@@ -1,6 +1,6 @@
 -- The loop of `add_heads`, and `updateParentGoal` by the frame on top.
 use mathlib.Core.Path.{_≡_, refl, sym, ap, ap₂, _∙_, subst}
-use mathlib.Core.Bool.{Bool, true, false}
+use mathlib.Core.Bool.{Bool, false}
 use mathlib.Core.Option.{Option, none, some}
 use mathlib.Core.List.{List, [], _∷_, _++_}
 use Prim.Native.Nat.{ℕ, zero, suc, _+_, _*_, _-_, _^_, _≤_, _<_}
@@ -16,8 +16,7 @@ use Rattle.definition.specs.Stack.{Frame, Stack}
 use Rattle.definition.specs.Paths.{flagOf}
 use Rattle.definition.specs.Parent.{UpdateParentGoalCtxt, Ordinary, CycleOnStack, ProvisionalCacheHit, addHeads, addRest, updateParentGoal}
 use Rattle.bits.specs.Masks.{flags, firstPlace, placeOr}
-use Rattle.bits.proofs.Flags.{flags-zero}
-use Rattle.bits.proofs.Places.{first-some}
+use Rattle.bits.proofs.Marks.{only, set-only}
 use Rattle.buffer.specs.Regions.{region, overwrite}
 use Rattle.buffer.proofs.Regions.{region-region}
 use Rattle.buffer.proofs.Tables.{apart}
@@ -27,60 +26,50 @@ use Rattle.layout.specs.Entry.{entryHeadsStart, entrySize, entryOf}
 use Rattle.layout.specs.Work.{frameStart, entriesStart, entryStart, graphLength, stackOf, entriesOf}
 use Rattle.layout.proofs.Frames.{length-heads}
 use Rattle.layout.proofs.Graphs.{length-stack, entry-room, frame-room}
+use Rattle.layout.proofs.Marks.{keep, Within}
+use Rattle.layout.proofs.Marks as marks
 use Rattle.layout.proofs.Present.{head-known}
 use Rattle.stack.specs.Bytes.{frameBytes, frameAt}
 use Rattle.stack.proofs.Parts.{part}
 use Rattle.stack.proofs.Loops.{top, none-left}
 use Rattle.parent.specs.Head.{addHeadAt}
 use Rattle.parent.specs.Top.{TopWritten}
-use Rattle.parent.proofs.Heads.{keep, keep-all, keep-set, keep-at, first-set, still-set, in-present, present-small, one-head, no-head, kept-none, none-in, set-none}
+use Rattle.parent.proofs.Heads.{one-head, no-head}
 use Rattle.parent.proofs.Top.{top-frame, top-again, top-same, top-kept}
 
 -- ---- the block of heads
 pub block-is : (goals start size : ℕ) (bs : List ℕ) → size ≡ headsSize goals → part bs start (start + size) ≡ region start (headsSize goals) bs
 block-is goals start size bs e = let w : start + size - start ≡ size = omega arith in ap (λ (m : ℕ). region start m bs) (w ∙ e)
 
-abbrev pub Within : ℕ → CycleHeads → Type 0
-Within left cs = (j : ℕ) → getD (flags 64 left) j false ≡ true → getD (present cs) j false ≡ true
-
+-- ---- the loop
 -- before the first turn
-module _ (cs : CycleHeads) (left n : ℕ) (is : flags 64 left ≡ present cs ++ replicate n false) where
-  pub loop-first : (step : PathKind) (own : ℕ) (f : Frame) → addHeads step own (keep (flags 64 left) cs) f ≡ addHeads step own cs f
-  loop-first step own f = ap (λ (ms : CycleHeads). addHeads step own ms f) (ap (λ (xs : List Bool). keep xs cs) is ∙ keep-all cs n)
-
-  pub loop-within : Within left cs
-  loop-within j e = in-present cs n j (ap (λ (xs : List Bool). getD xs j false) (sym is) ∙ e)
+pub loop-first : (cs : CycleHeads) (left n : ℕ) → flags 64 left ≡ present cs ++ replicate n false → (step : PathKind) (own : ℕ) (f : Frame) → addHeads step own (keep (flags 64 left) cs) f ≡ addHeads step own cs f
+loop-first cs left n is step own f = ap (λ (ms : CycleHeads). addHeads step own ms f) (marks.start-all cs left n is)
 
 -- a turn, at index i
-module _ (left i : ℕ) (pos : 0 < left) (small : left < 2 ^ 64) (is : i ≡ placeOr 64 (firstPlace (flags 64 left))) where
-  turn-set : getD (flags 64 left) i false ≡ true
-  turn-set =
-      let s = first-some 64 left pos small in
-      ap (λ (k : ℕ). getD (flags 64 left) k false) (is ∙ ap (placeOr 64) (s .1)) ∙ first-set (flags 64 left) (s .0) (s .1)
+module _ (left i : ℕ) (pos : 0 < left) (small : left < 2 ^ 64) (is : i ≡ placeOr 64 (firstPlace (flags 64 left))) (goals : ℕ) (block : List ℕ) (within : Within left (headsOf goals block)) where
+  abbrev cs : CycleHeads
+  cs = headsOf goals block
 
-  module _ (goals : ℕ) (block : List ℕ) (within : Within left (headsOf goals block)) where
-    pub turn-small : i < goals
-    turn-small = subst (λ (n : ℕ). i < n) (length-heads goals block) (present-small (headsOf goals block) i (within i turn-set))
+  pub turn-small : i < goals
+  turn-small = marks.turn-small cs left i pos small within is goals (length-heads goals block)
 
-    pub turn-rest : (step : PathKind) (own left′ : ℕ) (head : CycleHead) (f f′ whole : Frame) (b : List ℕ) → b ≡ block → head ≡ headOf (region (8 + i * 33) 33 b)
-        → addHeads step own (keep (flags 64 left) (headsOf goals block)) f ≡ whole → f′ ≡ addHeadAt step own i head f
-        → flags 64 left′ ≡ set (flags 64 left) (placeOr 64 (firstPlace (flags 64 left))) false
-        → addHeads step own (keep (flags 64 left′) (headsOf goals block)) f′ ≡ whole
-    turn-rest step own left′ head f f′ whole b is-b is-head rest is-f is-left =
-        let cs : CycleHeads = headsOf goals block in
-        let known : getD cs i none ≡ some head = head-known goals block i turn-small (within i turn-set) ∙ sym (ap (λ (h : CycleHead). some h) (is-head ∙ ap (λ (l : List ℕ). headOf (region (8 + i * 33) 33 l)) is-b)) in
-        ap₂ (λ (ms : CycleHeads) (x : Frame). addHeads step own ms x) (ap (λ (xs : List Bool). keep xs cs) (is-left ∙ ap (λ (k : ℕ). set (flags 64 left) k false) (sym is)) ∙ keep-set (flags 64 left) cs i) is-f
-        ∙ one-head step own (keep (flags 64 left) cs) i head f (keep-at (flags 64 left) cs i turn-set ∙ known)
-        ∙ rest
+  pub turn-rest : (step : PathKind) (own left′ : ℕ) (head : CycleHead) (f f′ whole : Frame) (b : List ℕ) → b ≡ block → head ≡ headOf (region (8 + i * 33) 33 b)
+      → addHeads step own (keep (flags 64 left) (headsOf goals block)) f ≡ whole → f′ ≡ addHeadAt step own i head f
+      → flags 64 left′ ≡ set (flags 64 left) (placeOr 64 (firstPlace (flags 64 left))) false
+      → addHeads step own (keep (flags 64 left′) (headsOf goals block)) f′ ≡ whole
+  turn-rest step own left′ head f f′ whole b is-b is-head rest is-f is-left =
+      let known : getD cs i none ≡ some head = head-known goals block i turn-small (marks.turn-present cs left i pos small within is) ∙ sym (ap (λ (h : CycleHead). some h) (is-head ∙ ap (λ (l : List ℕ). headOf (region (8 + i * 33) 33 l)) is-b)) in
+      ap₂ (λ (ms : CycleHeads) (x : Frame). addHeads step own ms x) (marks.turn-rest cs left i pos small within is left′ is-left) is-f
+      ∙ one-head step own (keep (flags 64 left) cs) i head f (marks.turn-kept cs left i pos small within is ∙ known)
+      ∙ rest
 
-    pub turn-within : (left′ : ℕ) → flags 64 left′ ≡ set (flags 64 left) (placeOr 64 (firstPlace (flags 64 left))) false → Within left′ (headsOf goals block)
-    turn-within left′ e j h = within j (still-set (flags 64 left) (placeOr 64 (firstPlace (flags 64 left))) j (ap (λ (xs : List Bool). getD xs j false) (sym e) ∙ h))
+  pub turn-within : (left′ : ℕ) → flags 64 left′ ≡ set (flags 64 left) (placeOr 64 (firstPlace (flags 64 left))) false → Within left′ (headsOf goals block)
+  turn-within = marks.turn-within cs left i pos small within is
 
 -- after the last turn
 pub loop-last : (step : PathKind) (own left : ℕ) (cs : CycleHeads) (f whole : Frame) → left ≤ 0 → addHeads step own (keep (flags 64 left) cs) f ≡ whole → f ≡ whole
-loop-last step own left cs f whole h rest =
-    let z : left ≡ 0 = omega arith in
-    sym (ap (λ (xs : List Bool). addHeads step own (keep xs cs) f) (ap (flags 64) z ∙ flags-zero 64) ∙ no-head step own (keep (replicate 64 false) cs) f (kept-none 64 cs)) ∙ rest
+loop-last step own left cs f whole h rest = sym (no-head step own (keep (flags 64 left) cs) f (marks.end-none cs left h)) ∙ rest
 
 -- ---- the stack
 module _ (goals height : ℕ) (bs : List ℕ) (step : PathKind) (hs : CycleHeads) (o : Bool) (ctxt : UpdateParentGoalCtxt) (r : ℕ) where
@@ -113,22 +102,22 @@ pub update-slot : (goals height : ℕ) (bs out : List ℕ) (step : PathKind) (o 
 update-slot goals height bs out step o ctxt r pos v =
     let f : Frame = frameAt goals (height - 1) bs in
     update-both goals height bs step (noHeads goals) o ctxt r bs out pos
-    (top-same goals (height - 1) f bs bs (top-kept goals (height - 1) bs) (addHeads step (height - 1) (noHeads goals) f) (sym (no-head step (height - 1) (noHeads goals) f (none-in goals)))) v
+    (top-same goals (height - 1) f bs bs (top-kept goals (height - 1) bs) (addHeads step (height - 1) (noHeads goals) f) (sym (no-head step (height - 1) (noHeads goals) f (only none goals)))) v
 
 -- ---- one head: a goal on the stack
 module _ (goals head : ℕ) (lt : head < goals) (step : PathKind) (own : ℕ) (c : CycleHead) (f : Frame) where
   clear : (i : ℕ) → getD (set (set (noHeads goals) head (some c)) head none) i none ≡ none
   clear i =
       elim (ℕ-discrete i head) [
-        | yes e ↦ ap (λ (k : ℕ). getD (set (set (noHeads goals) head (some c)) head none) k none) e ∙ set-none (set (noHeads goals) head (some c)) head
-        | no ne ↦ getD-set-other (set (noHeads goals) head (some c)) head i none none ne ∙ getD-set-other (noHeads goals) head i (some c) none ne ∙ none-in goals i
+        | yes e ↦ ap (λ (k : ℕ). getD (set (set (noHeads goals) head (some c)) head none) k none) e ∙ set-only none (set (noHeads goals) head (some c)) head
+        | no ne ↦ getD-set-other (set (noHeads goals) head (some c)) head i none none ne ∙ getD-set-other (noHeads goals) head i (some c) none ne ∙ only none goals i
       ]
 
   pub cycle-heads : (p : ℕ) (u : HeadUsages) → c ≡ record { paths = p; usages = u } → addHeadAt step own head c f ≡ addHeads step own (insertHead (noHeads goals) head p u) f
   cycle-heads p u e =
       let ms : CycleHeads = set (noHeads goals) head (some c) in
       let inside : head < length (noHeads goals) = rw length-replicate lt in
-      let is : ms ≡ insertHead (noHeads goals) head p u = ap (λ (x : CycleHead). set (noHeads goals) head (some x)) (e ∙ sym (ap (λ (h : Option CycleHead). joinHead h p u) (none-in goals head))) in
+      let is : ms ≡ insertHead (noHeads goals) head p u = ap (λ (x : CycleHead). set (noHeads goals) head (some x)) (e ∙ sym (ap (λ (h : Option CycleHead). joinHead h p u) (only none goals head))) in
       sym (no-head step own (set ms head none) (addHeadAt step own head c f) clear)
       ∙ one-head step own ms head c f (getD-set-same (noHeads goals) head (some c) none inside)
       ∙ ap (λ (l : CycleHeads). addHeads step own l f) is

@@ -7,10 +7,10 @@ use native.Mathlib.Omega.{arith}
 use lib.ListN.{length, set, take, drop, length-set}
 use Rattle.definition.specs.declared.paths.PathKind.{PathKind}
 use Rattle.definition.specs.declared.answers.Answer.{Answer}
-use Rattle.definition.specs.declared.answers.Answer.the-variants.{No, Yes, Undecided, Overflow}
 use Rattle.definition.specs.Paths.{kindNumber, kindOf}
 use Rattle.definition.specs.Answers.{answerNumber, answerOf}
-use Rattle.buffer.specs.Regions.{region}
+use Rattle.definition.proofs.Numbers.{answer-back}
+use Rattle.buffer.specs.Regions.{region, overwrite}
 use Rattle.buffer.proofs.Regions.{length-region}
 use Rattle.layout.specs.Blocks.{headsSize, HeadsBlock}
 use Rattle.layout.specs.Frame.{truth, headsStart}
@@ -19,7 +19,7 @@ use Rattle.layout.specs.Work.{entryStart}
 use Rattle.layout.proofs.Frames.{entry-byte, withEntryByte}
 use Rattle.layout.proofs.Graphs.{entry-room}
 use Rattle.stack.specs.Bytes.{FrameBytes, GraphBytes}
-use Rattle.stack.proofs.Parts.{part}
+use Rattle.stack.proofs.Parts.{part, returned, part-length, part-back}
 use Rattle.stack.proofs.Fields.{kind-back}
 use Rattle.provisional_cache.specs.Entries.{EntryBytes, entryBytes, withPath, withFields}
 
@@ -36,6 +36,14 @@ module _ (goals : ℕ) (bs : List ℕ) (i a n : ℕ) (g : GraphBytes goals bs) (
   pub part-is : part bs a (a + n) ≡ entryBytes goals i bs
   part-is = let e : a + n - a ≡ n = omega arith in ap₂ (λ (m k : ℕ). take m (drop k bs)) (e ∙ is-n) is-a
 
+  -- it comes back with ys
+  module _ (ys : List ℕ) (kept : length ys ≡ length (part bs a (a + n))) where
+    pub entry-back : returned bs a (a + n) ys ≡ overwrite bs (entryStart goals i) ys
+    entry-back = part-back bs a (a + n) ys (omega arith) part-room kept ∙ ap (λ (x : ℕ). overwrite bs x ys) is-a
+
+    pub entry-whole : length ys ≡ entrySize goals
+    entry-whole = let e : a + n - a ≡ n = omega arith in part-length bs a (a + n) ys (omega arith) part-room kept ∙ e ∙ is-n
+
 -- ---- a block of heads, n bytes from a on
 pub heads-part : (bs : List ℕ) (a n m : ℕ) → n ≡ m → part bs a (a + n) ≡ region a m bs
 heads-part bs a n m is-n = let e : a + n - a ≡ n = omega arith in ap (λ (k : ℕ). take k (drop a bs)) (e ∙ is-n)
@@ -51,12 +59,6 @@ frame-heads-block goals bs r b e =
     record { few = b .few; long = ap length e ∙ length-region headsStart (headsSize goals) bs (omega arith) }
 
 -- ---- writes
-pub answer-back : (a : Answer) → answerOf (answerNumber a) ≡ a
-answer-back No = refl
-answer-back Yes = refl
-answer-back Undecided = refl
-answer-back Overflow = refl
-
 module _ (goals : ℕ) (bs : List ℕ) (long : length bs ≡ entrySize goals) where
   pub path-written : (path : PathKind) (k : ℕ) → k ≡ kindNumber path → entryOf goals (set bs 2 k) ≡ withPath (entryOf goals bs) path
   path-written path k is =

@@ -17,7 +17,7 @@ use Rattle.definition.specs.Lookup.{entryMatches, firstMatch, entryApplies, any
 use Rattle.definition.specs.ProvisionalCache.{survivesRerun, survivors}
 use Rattle.layout.specs.Entry.{entryOf}
 use Rattle.layout.specs.Work.{entriesOf}
-use Rattle.layout.proofs.Graphs.{length-entries, entries-at}
+use Rattle.layout.proofs.Graphs.{no-entries, length-entries, entries-at}
 use Rattle.stack.specs.Bytes.{GraphBytes}
 use Rattle.provisional_cache.specs.Entries.{entryBytes, entryAt, entryFound, FramesKept, keptOf, Compacted}
 
@@ -86,13 +86,6 @@ frames-then goals a b c p q = record { bytes = q .bytes ∙ p .bytes; stacks = �
 
 pub graph-bytes : (goals : ℕ) (old new : List ℕ) → GraphBytes goals old → length new ≡ length old → GraphBytes goals new
 graph-bytes goals old new g e = record { some = g .some; few = g .few; long = e ∙ g .long }
-
-no-entries : (goals : ℕ) (bs : List ℕ) → entriesOf goals 0 bs ≡ []
-no-entries goals bs = none-of (entriesOf goals 0 bs) (length-entries goals 0 bs)
-  where
-    none-of : (l : List Entry) → length l ≡ 0 → l ≡ []
-    none-of [] e = refl
-    none-of (x ∷ l) e = absurd (omega arith)
 
 -- one entry of the rest
 kept-first : (rerun : ℕ) (e : Entry) (es : List Entry) (keep : Bool) → keep ≡ survivesRerun rerun e → keptOf keep e ++ survivors rerun es ≡ survivors rerun (e ∷ es)

@@ -155,10 +155,3 @@ module _ (e : Entry) (rerun h : ℕ) (is-h : h ≡ highestIndex (e .heads)) wher
       ∙ sym (ap (λ (t : Bool). not t || isEmpty (usagesAt (e .heads) rerun)) (eq-eqb h rerun same)) ∙ survives-open
 
 -- ---- a test that is turned round
-pub not-true : (t : Bool) → not t ≡ true → t ≡ false
-not-true true e = let z : _≡_ {A = ℕ} 0 1 = cc in absurd (omega arith)
-not-true false e = refl
-
-pub not-false : (t : Bool) → not t ≡ false → t ≡ true
-not-false true e = refl
-not-false false e = let z : _≡_ {A = ℕ} 0 1 = cc in absurd (omega arith)

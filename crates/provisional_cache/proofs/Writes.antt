@@ -3,12 +3,10 @@ use mathlib.Core.Path.{_≡_, refl, sym, ap, ap₂, _∙_, subst}
 use mathlib.Core.Bool.{Bool, true, false}
 use mathlib.Core.List.{List, [], _∷_, _++_, append-nil}
 use Prim.Native.Nat.{ℕ, _+_, _*_, _-_, _≤_, _<_}
-use native.Mathlib.Nat.{zero-add, mul-le-mul-right}
+use native.Mathlib.Nat.{zero-add, le-refl, add-le-add, mul-le-mul-right}
 use native.Mathlib.Numerals.{add-one}
 use native.Mathlib.Omega.{arith}
-use native.Mathlib.Decide.{decLt}
 use lib.ListN.{length, getD, set, drop}
-use lib.Seq.{drop-set-lt}
 use Rattle.definition.specs.declared.paths.PathKind.{PathKind}
 use Rattle.definition.specs.declared.answers.Answer.{Answer}
 use Rattle.definition.specs.Graph.{Entry}
@@ -20,36 +18,23 @@ use Rattle.layout.specs.Entry.{entrySize, entryOf}
 use Rattle.layout.specs.Frame.{headsStart, frameSize, frameOf}
 use Rattle.layout.specs.Work.{entriesStart, entryStart, frameStart, entriesOf}
 use Rattle.layout.proofs.Frames.{entry-heads}
-use Rattle.layout.proofs.Graphs.{entry-room, frame-room, entries-whole, entries-below, entries-under, entries-push-back, stack-entry, stack-entry-whole}
+use Rattle.layout.proofs.Graphs.{into-fits, entry-room, frame-room, fits-entry, fits-whole, entries-behind, entries-under, entries-push-back, stack-entry, stack-entry-whole}
 use Rattle.stack.specs.Bytes.{GraphBytes, frameBytes, frameAt}
-use Rattle.stack.proofs.Parts.{part, returned, part-length, part-back}
+use Rattle.stack.proofs.Parts.{part, returned}
 use Rattle.provisional_cache.specs.Entries.{entryBytes, entryAt, withFields, FramesKept, keptOf, Compacted}
-use Rattle.provisional_cache.proofs.Entries.{part-room, part-is}
+use Rattle.provisional_cache.proofs.Entries.{part-is, entry-back, entry-whole}
 use Rattle.provisional_cache.proofs.Loops.{frames-same, frames-then, graph-bytes}
 
 -- ---- orders, over what the sizes are
-later : (base size : ℕ) {k n : ℕ} → k ≤ n → base + k * size ≤ base + n * size
-later base size h = omega (arith, mul-le-mul-right size h)
-
-fits-of : (a : ℕ) {x y n : ℕ} → x ≡ y → a + y ≤ n → a + x ≤ n
-fits-of a e h = omega arith
-
-into-of : (a k x : ℕ) {y n : ℕ} → k + x ≤ y → a + y ≤ n → a + k + x ≤ n
-into-of a k x p h = omega arith
-
 start-of : (a x j : ℕ) → 0 + a ≤ a + x + j
 start-of a x j = omega arith
-
-not-under : (a b : ℕ) → (a < b → ⊥) → b ≤ a
-not-under a b ne = omega arith
 
 start-at : (a x : ℕ) → 0 + a ≤ a + x
 start-at a x = omega arith
 
 -- the bytes of a frame are among those that are kept
-pub frame-kept : (goals : ℕ) (old new : List ℕ) (i : ℕ) → FramesKept goals old new → i < goals → frameBytes goals i new ≡ frameBytes goals i old
-frame-kept goals old new i f lt =
-    sym (inside new) ∙ ap (region (frameStart goals i) (frameSize goals)) (f .bytes) ∙ inside old
+pub frame-kept : (goals : ℕ) (old new : List ℕ) (i : ℕ) → FramesKept goals old new → i < goals → frameAt goals i new ≡ frameAt goals i old
+frame-kept goals old new i f lt = ap (frameOf goals) (sym (inside new) ∙ ap (region (frameStart goals i) (frameSize goals)) (f .bytes) ∙ inside old)
   where
     inside : (l : List ℕ) → region (frameStart goals i) (frameSize goals) (region 0 (entriesStart goals) l) ≡ frameBytes goals i l
     inside l =
@@ -61,7 +46,7 @@ module _ (goals : ℕ) (bs : List ℕ) (g : GraphBytes goals bs) where
   pub frames-inside : (k j : ℕ) (ys : List ℕ) → k < 2 * goals → j + length ys ≤ entrySize goals → FramesKept goals bs (overwrite bs (entryStart goals k + j) ys)
   frames-inside k j ys lt inner =
       record {
-        bytes = region-before bs (entryStart goals k + j) ys (into-of (entryStart goals k) j (length ys) inner (entry-room goals bs (g .long) k lt)) 0 (entriesStart goals) (start-of (entriesStart goals) (k * entrySize goals) j);
+        bytes = region-before bs (entryStart goals k + j) ys (fits-entry goals bs (g .long) k j ys lt inner) 0 (entriesStart goals) (start-of (entriesStart goals) (k * entrySize goals) j);
         stacks = stack-entry goals bs (g .long) k j ys lt inner;
       }
 
@@ -69,7 +54,7 @@ module _ (goals : ℕ) (bs : List ℕ) (g : GraphBytes goals bs) where
   pub frames-whole : (k : ℕ) (ys : List ℕ) → k < 2 * goals → length ys ≡ entrySize goals → FramesKept goals bs (overwrite bs (entryStart goals k) ys)
   frames-whole k ys lt whole =
       record {
-        bytes = region-before bs (entryStart goals k) ys (fits-of (entryStart goals k) whole (entry-room goals bs (g .long) k lt)) 0 (entriesStart goals) (start-at (entriesStart goals) (k * entrySize goals));
+        bytes = region-before bs (entryStart goals k) ys (fits-whole goals bs (g .long) k ys lt whole) 0 (entriesStart goals) (start-at (entriesStart goals) (k * entrySize goals));
         stacks = stack-entry-whole goals bs (g .long) k ys lt whole;
       }
 
@@ -81,7 +66,7 @@ module _ (goals : ℕ) (bs : List ℕ) (g : GraphBytes goals bs) where
 
   pub move-room : (from to : ℕ) → to ≤ from → from < 2 * goals → (a b n : ℕ) → a ≡ entryStart goals from → b ≡ entryStart goals to → n ≡ entrySize goals → (b ≤ a) × (a + n ≤ length bs)
   move-room from to le lt a b n is-a is-b is-n = (
-    subst (λ (x : ℕ). x ≤ a) (sym is-b) (subst (λ (x : ℕ). entryStart goals to ≤ x) (sym is-a) (later (entriesStart goals) (entrySize goals) le)),
+    subst (λ (x : ℕ). x ≤ a) (sym is-b) (subst (λ (x : ℕ). entryStart goals to ≤ x) (sym is-a) (add-le-add (le-refl (entriesStart goals)) (mul-le-mul-right (entrySize goals) le))),
     subst (λ (x : ℕ). x ≤ length bs) (sym (ap₂ (λ (x y : ℕ). x + y) is-a is-n)) (entry-room goals bs (g .long) from lt),
   )
 
@@ -100,17 +85,6 @@ module _ (goals : ℕ) (bs : List ℕ) (g : GraphBytes goals bs) where
         rest = λ n few. refl;
       }
 
-  -- the entries behind entry i, after a write of an entry that does not come after it
-  keep-behind : (i kept : ℕ) (ys : List ℕ) → kept ≤ i → kept < 2 * goals → length ys ≡ entrySize goals → (n : ℕ) → drop (i + 1) (entriesOf goals n (overwrite bs (entryStart goals kept) ys)) ≡ drop (i + 1) (entriesOf goals n bs)
-  keep-behind i kept ys le lo whole n =
-      elim (decLt kept n) [
-        | yes under ↦
-            ap (drop (i + 1)) (entries-whole goals bs (g .long) kept ys lo whole n under)
-            ∙ drop-set-lt (i + 1) (entriesOf goals n bs) kept (entryOf goals ys) (omega arith)
-        | no past ↦
-            ap (drop (i + 1)) (entries-below goals n bs (entryStart goals kept) ys (later (entriesStart goals) (entrySize goals) (not-under kept n past)) (fits-of (entryStart goals kept) whole (entry-room goals bs (g .long) kept lo)))
-      ]
-
   pub keep-moved : (i kept : ℕ) (keep : Bool) (new : List ℕ) → keep ≡ true → kept ≤ i → i < 2 * goals → new ≡ overwrite bs (entryStart goals kept) (entryBytes goals i bs)
       → Compacted goals i kept keep bs new (kept + 1)
   keep-moved i kept keep new keeps le lt is =
@@ -125,7 +99,7 @@ module _ (goals : ℕ) (bs : List ℕ) (g : GraphBytes goals bs) where
             ap₂ (λ (k : ℕ) (l : List ℕ). entriesOf goals k l) (add-one kept) is
             ∙ entries-push-back goals bs (g .long) kept ys lo whole
             ∙ sym (ap (λ (t : Bool). entriesOf goals kept bs ++ keptOf t (entryAt goals i bs)) keeps);
-        rest = λ n few. ap (λ (l : List ℕ). drop (i + 1) (entriesOf goals n l)) is ∙ keep-behind i kept ys le lo whole n;
+        rest = λ n few. ap (λ (l : List ℕ). drop (i + 1) (entriesOf goals n l)) is ∙ entries-behind goals bs (g .long) kept ys lo whole i le n;
       }
 
 -- ---- `copy_up`
@@ -151,7 +125,7 @@ copy-room goals height i a b n bs g under lt is-a is-b is-n =
     let wide : 40 + size ≤ frameSize goals = omega arith in
     let inner : 8 + size ≤ entrySize goals = omega arith in
     let first = copy-order (entriesStart goals) (frameSize goals) size (frameStart goals height) (i * entrySize goals) (apart height goals (frameSize goals) under) wide in
-    let second = into-of (entryStart goals i) 8 size inner (entry-room goals bs (g .long) i lt) in (
+    let second = into-fits (entryStart goals i) 8 size inner (entry-room goals bs (g .long) i lt) in (
       subst (λ (x : ℕ). x ≤ b) (sym (ap₂ (λ (x y : ℕ). x + y) is-a is-n)) (subst (λ (x : ℕ). frameStart goals height + 40 + size ≤ x) (sym is-b) first),
       subst (λ (x : ℕ). x ≤ length bs) (sym (ap₂ (λ (x y : ℕ). x + y) is-b is-n)) second,
     )
@@ -182,7 +156,7 @@ module _ (goals height k : ℕ) (bs mid : List ℕ) (g : GraphBytes goals bs) (u
   inner = subst (λ (x : ℕ). 8 + x ≤ entrySize goals) (sym wide-heads) (omega arith)
 
   pub mid-length : length mid ≡ length bs
-  mid-length = ap length is-mid ∙ length-overwrite bs (entryStart goals k + 8) hs (into-of (entryStart goals k) 8 (length hs) inner (entry-room goals bs (g .long) k lt))
+  mid-length = ap length is-mid ∙ length-overwrite bs (entryStart goals k + 8) hs (fits-entry goals bs (g .long) k 8 hs lt inner)
 
   pub mid-bytes : GraphBytes goals mid
   mid-bytes = graph-bytes goals bs mid g mid-length
@@ -202,12 +176,10 @@ module _ (goals height k : ℕ) (bs mid : List ℕ) (g : GraphBytes goals bs) (u
 
   module _ (a n : ℕ) (is-a : a ≡ entryStart goals k) (is-n : n ≡ entrySize goals) (ys : List ℕ) (kept : length ys ≡ length (part mid a (a + n))) where
     back : returned mid a (a + n) ys ≡ overwrite mid (entryStart goals k) ys
-    back = part-back mid a (a + n) ys (omega arith) (part-room goals mid k a n mid-bytes lt is-a is-n) kept ∙ ap (λ (x : ℕ). overwrite mid x ys) is-a
+    back = entry-back goals mid k a n mid-bytes lt is-a is-n ys kept
 
     whole : length ys ≡ entrySize goals
-    whole =
-        let e : a + n - a ≡ n = omega arith in
-        part-length mid a (a + n) ys (omega arith) (part-room goals mid k a n mid-bytes lt is-a is-n) kept ∙ e ∙ is-n
+    whole = entry-whole goals mid k a n mid-bytes lt is-a is-n ys kept
 
     pub append-frames : FramesKept goals bs (returned mid a (a + n) ys)
     append-frames = subst (FramesKept goals bs) (sym back) (frames-then goals bs mid (overwrite mid (entryStart goals k) ys) mid-frames (frames-whole goals mid mid-bytes k ys lt whole))

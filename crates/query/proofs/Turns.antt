@@ -15,7 +15,7 @@ use Rattle.definition.specs.Answers.{refusalNumber}
 use Rattle.definition.specs.Query.{Reply, query, zeros}
 use Rattle.soundness.specs.Sets.{Goals, least, greatest}
 use Rattle.soundness.specs.Statement.{RightReply}
-use Rattle.book.proofs.Lines.{part-from}
+use Rattle.definition.proofs.Lists.{part-from}
 use Rattle.query.specs.Replies.{replied, responseCode}
 use Rattle.query.specs.Carried.{Carried}
 use Rattle.query.specs.Lists.{Replies, repliedAll, withCode, askEach, askAll, RightCode, RightCodes, EveryCodeRight}

@@ -1,6 +1,6 @@
 -- What is written in three columns is a field as a book has them, and says the number again.
 use mathlib.Core.Path.{_≡_, refl, sym, ap, subst, _∙_}
-use mathlib.Core.Bool.{Bool, true, false, _&&_}
+use mathlib.Core.Bool.{Bool, true, false, _&&_, and-eq-true-iff}
 use mathlib.Core.Option.{Option, none, some}
 use Prim.Native.Nat.{ℕ, zero, suc, _<_}
 use native.Mathlib.Omega.{arith}
@@ -18,21 +18,13 @@ readBelow : ℕ → Bool
 readBelow zero = true
 readBelow (suc n) = says n (fieldAt (columns n) 0) && readBelow n
 
-first : (a b : Bool) → a && b ≡ true → a ≡ true
-first true b h = refl
-first false b h = h
-
-second : (a b : Bool) → a && b ≡ true → b ≡ true
-second true b h = h
-second false b h = elim (subst T (sym h) tt) [ ]
-
 below : (k n : ℕ) → readBelow k ≡ true → n < k → says n (fieldAt (columns n) 0) ≡ true
 unfolding readBelow
 below zero n h l = let no : ⊥ = omega arith in elim no [ ]
 below (suc k) n h l =
     elim (ℕ-discrete n k) [
-      | yes e ↦ subst (λ (m : ℕ). says m (fieldAt (columns m) 0) ≡ true) (sym e) (first (says k (fieldAt (columns k) 0)) (readBelow k) h)
-      | no ne ↦ below k n (second (says k (fieldAt (columns k) 0)) (readBelow k) h) (omega arith)
+      | yes e ↦ subst (λ (m : ℕ). says m (fieldAt (columns m) 0) ≡ true) (sym e) (and-eq-true-iff (says k (fieldAt (columns k) 0)) (readBelow k) .0 h .0)
+      | no ne ↦ below k n (and-eq-true-iff (says k (fieldAt (columns k) 0)) (readBelow k) .0 h .1) (omega arith)
     ]
 
 said : (n : ℕ) (x : Option ℕ) → says n x ≡ true → x ≡ some n

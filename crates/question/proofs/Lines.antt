@@ -12,15 +12,12 @@ use Rattle.definition.specs.Line.{isField, fieldValue, fieldAt}
 use Rattle.definition.specs.Answers.{refusalNumber}
 use Rattle.definition.specs.declared.replies.Refusal.{Refusal}
 use Rattle.definition.specs.declared.replies.Refusal.the-variants.{BookLength, BookLine, BookHeader, BookBody, UnknownGoal, DepthAboveTop, CacheLength, CacheForm, WorkLength, ProvisionalCacheFull, CacheConflict, Unreachable}
+use Rattle.definition.proofs.Tests.{not-second}
 use Rattle.question.specs.declared.Question.{Question}
 use Rattle.question.specs.declared.Question.the-variants.{Asked, IllFormed}
 use Rattle.question.specs.Lines.{questionOf, readQuestion, leadingColumn, lastColumn}
 
 -- ---- reading
-and-false : (a b : Bool) → b ≡ false → a && b ≡ false
-and-false true b e = e
-and-false false b e = refl
-
 no-first : (b : Bool) (y : Option ℕ) → IllFormed ≡ questionOf b none y
 no-first true y = refl
 no-first false y = refl
@@ -63,7 +60,7 @@ module _ (s : List ℕ) where
 
   pub no-newline : (getD s 6 0 ≡ 10 → ⊥) → IllFormed ≡ readQuestion s
   no-newline h =
-      no-line isLine (fits 0) (fits 3) (value 0) (value 3) (and-false (eqb (length s) 7) (eqb (getD s 6 0) 10) (ne-eqb (getD s 6 0) 10 h))
+      no-line isLine (fits 0) (fits 3) (value 0) (value 3) (not-second (eqb (length s) 7) (eqb (getD s 6 0) 10) (ne-eqb (getD s 6 0) 10 h))
 
   pub no-goal : fits 0 ≡ false → IllFormed ≡ readQuestion s
   no-goal h = no-goal-field isLine (fits 0) (fits 3) (value 0) (value 3) h

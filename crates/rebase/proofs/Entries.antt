@@ -1,11 +1,11 @@
 -- Entry k after the popped frame, by the ways through the code.
 use mathlib.Core.Path.{_≡_, refl, sym, ap, ap₂, _∙_}
 use mathlib.Core.Bool.{Bool, true, false, not, _&&_}
-use mathlib.Core.Option.{Option, none, some}
+use mathlib.Core.Option.{Option, none, some, Option·none-ne-some, Option·some-ne-none}
 use mathlib.Core.List.{List}
 use Prim.Native.Nat.{ℕ, _<_}
 use native.Mathlib.Omega.{arith}
-use borrow.Author.Tests.{eq-eqb, ne-eqb}
+use borrow.Author.Tests.{eq-eqb, ne-eqb, not-true, not-false}
 use lib.Dec.{eqb}
 use lib.ListN.{length}
 use Rattle.definition.specs.declared.paths.PathKind.{PathKind}
@@ -23,9 +23,7 @@ use Rattle.definition.specs.Graph.{Entry}
 use Rattle.definition.specs.ProvisionalCache.{unusedHead, headThrough, pathsKeepKind, reasonKeeps, rebasedHeads, underNewHead, rebaseEntry}
 use Rattle.stack.specs.Bytes.{frameAt}
 use Rattle.provisional_cache.specs.Entries.{entryAt, withPath}
-use Rattle.provisional_cache.proofs.Tests.{not-true, not-false}
 use Rattle.rebase.specs.Rebased.{gainedHead, gainHead, withHeads, underHeads, keptEntry, OthersKept}
-use Rattle.rebase.proofs.Marks.{none-some, some-none}
 use Rattle.rebase.proofs.Writes.{frame-after}
 
 -- ---- `entry::extend_path`
@@ -177,7 +175,7 @@ module _ (s : Stack) (p : Frame) (reason : RebaseReason) (e : Entry) (popped : �
 
           go : (o : Option CycleHeads) → rebased popped ≡ o → none ≡ then (rebased popped)
           go none q = sym (ap then q)
-          go (some hs) q = none-some (withHeads e hs) (gone ∙ ap (underHeads e) q)
+          go (some hs) q = absurd (Option·none-ne-some (withHeads e hs) (gone ∙ ap (underHeads e) q))
 
       pub entry-under : not keep ≡ false → (o : Option Entry) (s1 : Stack) (p1 : Frame) → s1 ≡ s → p1 ≡ p → o ≡ underNewHead s1 p1 mid (mid .heads) → o ≡ rebaseEntry s p reason e
       entry-under d o s1 p1 is-s is-p is-o = is-o ∙ ap₂ (λ (x : Stack) (y : Frame). underNewHead x y mid (mid .heads)) is-s is-p ∙ go (rebased popped) refl ∙ opened
@@ -186,7 +184,7 @@ module _ (s : Stack) (p : Frame) (reason : RebaseReason) (e : Entry) (popped : �
           stays = sym (ap (λ (x : Bool). keptEntry x mid) (not-false keep d)) ∙ is-mid
 
           go : (c : Option CycleHeads) → rebased popped ≡ c → underNewHead s p mid (mid .heads) ≡ then (rebased popped)
-          go none q = some-none mid (stays ∙ ap (underHeads e) q)
+          go none q = absurd (Option·some-ne-none mid (stays ∙ ap (underHeads e) q))
           go (some hs) q =
               let x = stays ∙ ap (underHeads e) q in
               let m : mid ≡ withHeads e hs = cc in

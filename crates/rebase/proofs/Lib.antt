@@ -1,5 +1,4 @@
 pub mod Tests
-pub mod Marks
 pub mod Writes
 pub mod Loops
 pub mod Entries

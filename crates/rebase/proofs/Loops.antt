@@ -1,11 +1,12 @@
 -- The turns of the loops over the heads of the popped frame.
 use mathlib.Core.Path.{_≡_, refl, sym, ap, ap₂, _∙_}
 use mathlib.Core.Bool.{Bool, true, false, not, _&&_}
-use mathlib.Core.Option.{Option, none, some}
+use mathlib.Core.Option.{none, some, Option·none-ne-some, Option·some-ne-none}
 use mathlib.Core.List.{List, [], _∷_, _++_}
 use Prim.Native.Nat.{ℕ, zero, suc, _+_, _^_, _≤_, _<_}
 use native.Mathlib.Nat.{zero-add, add-zero}
 use native.Mathlib.Omega.{arith}
+use borrow.Author.Tests.{not-true, not-false}
 use lib.ListN.{length, getD, set, replicate}
 use Rattle.definition.specs.declared.paths.PathKind.{PathKind}
 use Rattle.definition.specs.declared.heads.CycleHead.{CycleHead}
@@ -16,11 +17,10 @@ use Rattle.definition.specs.Graph.{Entry}
 use Rattle.definition.specs.ProvisionalCache.{everyPhKeeps, pathsKeepKind}
 use Rattle.bits.specs.Masks.{flags, firstPlace, placeOr}
 use Rattle.layout.specs.Blocks.{present}
+use Rattle.layout.proofs.Marks.{keep, Within, start-all, start-within, turn-small, turn-head, turn-kept, turn-rest, turn-within, end-none, each-one, each-clear}
 use Rattle.stack.specs.Bytes.{frameAt}
 use Rattle.provisional_cache.specs.Entries.{entryAt}
-use Rattle.provisional_cache.proofs.Tests.{not-true, not-false}
 use Rattle.rebase.specs.Rebased.{gainedHead, gainHead, withHeads, OthersKept}
-use Rattle.rebase.proofs.Marks.{none-some, some-none, keep, Within, start-all, start-within, turn-small, turn-head, turn-kept, turn-rest, turn-within, end-none}
 use Rattle.rebase.proofs.Writes.{others-same, others-then, frame-after, popped-length}
 
 -- ---- `paths_keep_kind`
@@ -44,8 +44,8 @@ module _ (s : Stack) (step path : PathKind) (ep : ℕ) where
   -- one head c of the heads ms
   keep-one : (ms : CycleHeads) (j i : ℕ) (c : CycleHead) → getD ms i none ≡ some c
       → pathsKeepKind s step path ep j ms ≡ (keepsAt (j + i) c && pathsKeepKind s step path ep j (set ms i none))
-  keep-one [] j i c e = none-some c e
-  keep-one (none ∷ ms) j zero c e = none-some c e
+  keep-one [] j i c e = absurd (Option·none-ne-some c e)
+  keep-one (none ∷ ms) j zero c e = absurd (Option·none-ne-some c e)
   keep-one (some d ∷ ms) j zero c e =
       let q : d ≡ c = cc in
       ap₂ (λ (k : ℕ) (x : CycleHead). keepsAt k x && pathsKeepKind s step path ep (suc j) ms) (sym (add-zero j)) q
@@ -60,7 +60,7 @@ module _ (s : Stack) (step path : PathKind) (ep : ℕ) where
   keep-clear : (ms : CycleHeads) (j : ℕ) → ((i : ℕ) → getD ms i none ≡ none) → pathsKeepKind s step path ep j ms ≡ true
   keep-clear [] j h = refl
   keep-clear (none ∷ ms) j h = keep-clear ms (suc j) (λ i. h (suc i))
-  keep-clear (some c ∷ ms) j h = some-none c (h 0)
+  keep-clear (some c ∷ ms) j h = absurd (Option·some-ne-none c (h 0))
 
   module _ (cs : CycleHeads) where
     -- the heads that are left make the whole
@@ -100,22 +100,6 @@ module _ (s : Stack) (step path : PathKind) (ep : ℕ) where
     keeping-done left inv h = sym (keep-clear (keep (flags 64 left) cs) 0 (end-none cs left h)) ∙ inv .rest
 
 -- ---- `gain_heads`
-module _ (f : CycleHead → Option CycleHead → CycleHead) where
-  -- one head c of the heads ms
-  each-one : (hs ms : CycleHeads) (i : ℕ) (c : CycleHead) → getD ms i none ≡ some c → forEachHead f (set hs i (some (f c (getD hs i none)))) (set ms i none) ≡ forEachHead f hs ms
-  each-one [] ms i c e = refl
-  each-one (h ∷ hs) [] i c e = none-some c e
-  each-one (h ∷ hs) (none ∷ ms) zero c e = none-some c e
-  each-one (h ∷ hs) (some d ∷ ms) zero c e = let q : c ≡ d = cc in ap (λ (x : CycleHead). some (f x h) ∷ forEachHead f hs ms) q
-  each-one (h ∷ hs) (none ∷ ms) (suc i) c e = ap (λ (l : CycleHeads). h ∷ l) (each-one hs ms i c e)
-  each-one (h ∷ hs) (some d ∷ ms) (suc i) c e = ap (λ (l : CycleHeads). some (f d h) ∷ l) (each-one hs ms i c e)
-
-  each-clear : (hs ms : CycleHeads) → ((i : ℕ) → getD ms i none ≡ none) → forEachHead f hs ms ≡ hs
-  each-clear [] ms h = refl
-  each-clear (x ∷ hs) [] h = refl
-  each-clear (x ∷ hs) (none ∷ ms) h = ap (λ (l : CycleHeads). x ∷ l) (each-clear hs ms (λ i. h (suc i)))
-  each-clear (x ∷ hs) (some c ∷ ms) h = some-none c (h 0)
-
 module _ (goals popped k : ℕ) (used : Bool) (ep : ℕ) (old : List ℕ) where
   abbrev cs : CycleHeads
   cs = (frameAt goals popped old) .heads

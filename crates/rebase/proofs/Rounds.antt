@@ -10,21 +10,13 @@ use Rattle.definition.specs.declared.answers.RebaseReason.{RebaseReason}
 use Rattle.definition.specs.Stack.{Stack, Frame}
 use Rattle.definition.specs.Graph.{Entry}
 use Rattle.definition.specs.ProvisionalCache.{rebaseEntry, rebaseEntries}
-use Rattle.layout.specs.Frame.{frameOf}
 use Rattle.layout.specs.Work.{stackOf, entriesOf}
-use Rattle.layout.proofs.Graphs.{length-entries}
+use Rattle.layout.proofs.Graphs.{no-entries}
 use Rattle.stack.specs.Bytes.{frameAt}
 use Rattle.provisional_cache.specs.Entries.{entryAt, FramesKept, keptOf, Compacted}
 use Rattle.provisional_cache.proofs.Loops.{frames-same, frames-then, rest-open, rest-none}
 use Rattle.provisional_cache.proofs.Writes.{frame-kept}
 use Rattle.rebase.specs.Rebased.{keptEntry, OthersKept}
-
-no-entries : (goals : ℕ) (bs : List ℕ) → entriesOf goals 0 bs ≡ []
-no-entries goals bs = none-of (entriesOf goals 0 bs) (length-entries goals 0 bs)
-  where
-    none-of : (l : List Entry) → length l ≡ 0 → l ≡ []
-    none-of [] e = refl
-    none-of (x ∷ l) e = absurd (omega arith)
 
 -- one entry of the rest
 abbrev first : Stack → Frame → RebaseReason → List Entry → Option Entry → List Entry
@@ -73,7 +65,7 @@ module _ (goals popped : ℕ) (reason : RebaseReason) (count : ℕ) (old : List 
       let front = made .entries ∙ ap (λ (l : List Entry). l ++ keptOf keep (entryAt goals k mid)) (others .before kept k0) in
       let back = made .rest count room ∙ others .behind count in
       let is-s = inv .frames .stacks popped (omega arith) in
-      let is-p = ap (frameOf goals) (frame-kept goals old now popped (inv .frames) under) in
+      let is-p = frame-kept goals old now popped (inv .frames) under in
       let here = is ∙ ap₂ (λ (x : Stack) (y : Frame). rebaseEntry x y reason (entryAt goals k now)) is-s is-p in
       record {
         kept-few = omega arith;

@@ -1,13 +1,13 @@
 -- The four kinds of paths, one after the other.
-use mathlib.Core.Path.{_≡_, refl, sym, ap, _∙_}
-use mathlib.Core.Bool.{Bool, true, false, not, _&&_}
+use mathlib.Core.Path.{_≡_, sym, ap, _∙_}
+use mathlib.Core.Bool.{Bool, true, false, not, _&&_, and-true}
 use mathlib.Core.List.{List, [], _∷_}
 use Prim.Native.Nat.{ℕ}
+use borrow.Author.Tests.{not-true, not-false}
 use Rattle.definition.specs.declared.paths.PathKind.{PathKind}
 use Rattle.definition.specs.declared.paths.PathKind.the-variants.{Inductive, Unknown, Coinductive, ForcedAmbiguity}
 use Rattle.definition.specs.Paths.{extend, sameKind, containsPath, pathKinds, containedIn}
 use Rattle.definition.specs.ProvisionalCache.{everyEpKeeps, everyPhKeeps}
-use Rattle.provisional_cache.proofs.Tests.{not-true, not-false}
 
 -- ---- one kind of those in p
 abbrev first : ℕ → PathKind → List PathKind → Bool → List PathKind
@@ -34,10 +34,6 @@ module _ (p : ℕ) (k : PathKind) (ks : List PathKind) where
         ∙ sym (ap (λ (x : Bool). everyPhKeeps hp he eps (first p k ks x)) there)
 
 -- ---- the four kinds, F of those that are left
-and-true : (r : Bool) → r ≡ (r && true)
-and-true true = refl
-and-true false = refl
-
 module _ (F : List PathKind → Bool) (end : F [] ≡ true) where
   abbrev Test : PathKind → Bool → Type 0
   Test k r = (ks : List PathKind) → (r && F ks) ≡ F (k ∷ ks)
@@ -67,4 +63,4 @@ module _ (F : List PathKind → Bool) (end : F [] ≡ true) where
         fails-3 e = stop Coinductive c (ForcedAmbiguity ∷ []) tc e ∙ past-2
 
         pub last-4 : not c ≡ false → (d : Bool) → Test ForcedAmbiguity d → d ≡ F pathKinds
-        last-4 ec d td = and-true d ∙ sym (ap (λ (x : Bool). d && x) end) ∙ td [] ∙ on Coinductive c (ForcedAmbiguity ∷ []) tc ec ∙ past-2
+        last-4 ec d td = sym (and-true d) ∙ sym (ap (λ (x : Bool). d && x) end) ∙ td [] ∙ on Coinductive c (ForcedAmbiguity ∷ []) tc ec ∙ past-2

@@ -2,11 +2,8 @@
 use mathlib.Core.Path.{_≡_, refl, sym, ap, _∙_, subst}
 use mathlib.Core.List.{List}
 use Prim.Native.Nat.{ℕ, _+_, _*_, _-_, _≤_, _<_}
-use native.Mathlib.Nat.{mul-le-mul-right}
 use native.Mathlib.Omega.{arith}
-use native.Mathlib.Decide.{decLt}
-use lib.ListN.{length, drop}
-use lib.Seq.{drop-set-lt}
+use lib.ListN.{length}
 use Rattle.definition.specs.Graph.{Entry}
 use Rattle.definition.specs.Heads.{CycleHeads}
 use Rattle.buffer.specs.Regions.{region, overwrite}
@@ -14,27 +11,17 @@ use Rattle.buffer.proofs.Tables.{record-whole}
 use Rattle.layout.specs.Blocks.{headsSize, headsOf, HeadsBlock}
 use Rattle.layout.specs.Entry.{entryHeadsStart, entrySize, entryOf}
 use Rattle.layout.specs.Frame.{headsStart, frameOf}
-use Rattle.layout.specs.Work.{entriesStart, entryStart, stackOf, entriesOf}
+use Rattle.layout.specs.Work.{entriesStart, entryStart, stackOf}
 use Rattle.layout.proofs.Frames.{length-heads, entry-heads}
-use Rattle.layout.proofs.Graphs.{entry-room, entries-whole, entries-below}
+use Rattle.layout.proofs.Graphs.{entry-room, entries-before, entries-behind}
 use Rattle.stack.specs.Bytes.{GraphBytes, frameBytes, frameAt}
 use Rattle.stack.proofs.Graph.{frame-bytes}
 use Rattle.stack.proofs.Parts.{part, returned, part-length, part-back}
 use Rattle.provisional_cache.specs.Entries.{EntryBytes, entryBytes, entryAt}
-use Rattle.provisional_cache.proofs.Entries.{entry-bytes, part-room, part-is, heads-part, entry-heads-block, frame-heads-block}
+use Rattle.provisional_cache.proofs.Entries.{entry-bytes, part-is, entry-back, entry-whole, heads-part, entry-heads-block, frame-heads-block}
 use Rattle.provisional_cache.proofs.Loops.{frames-same, frames-then}
 use Rattle.provisional_cache.proofs.Writes.{frame-kept, frames-whole}
 use Rattle.rebase.specs.Rebased.{withHeads, OthersKept}
-
--- ---- orders, over what the sizes are
-later : (base size : ℕ) {k n : ℕ} → k ≤ n → base + k * size ≤ base + n * size
-later base size h = omega (arith, mul-le-mul-right size h)
-
-fits-of : (a : ℕ) {x y n : ℕ} → x ≡ y → a + y ≤ n → a + x ≤ n
-fits-of a e h = omega arith
-
-not-under : (a b : ℕ) → (a < b → ⊥) → b ≤ a
-not-under a b ne = omega arith
 
 -- ---- the heads of one entry's bytes are written, in the n bytes from 8 on
 pub heads-written : (goals : ℕ) (bs : List ℕ) (n : ℕ) (ys : List ℕ) (f : CycleHeads → CycleHeads) → EntryBytes goals bs → n ≡ headsSize goals → length ys ≡ length (part bs 8 (8 + n))
@@ -64,7 +51,7 @@ others-then goals k a b c p q =
 -- the popped frame, and the stack under it
 module _ (goals k : ℕ) (old new : List ℕ) (o : OthersKept goals k old new) (popped : ℕ) (lt : popped < goals) where
   pub frame-after : frameAt goals popped new ≡ frameAt goals popped old
-  frame-after = ap (frameOf goals) (frame-kept goals old new popped (o .frames) lt)
+  frame-after = frame-kept goals old new popped (o .frames) lt
 
   pub stack-after : stackOf goals popped new ≡ stackOf goals popped old
   stack-after = o .frames .stacks popped (omega arith)
@@ -72,42 +59,25 @@ module _ (goals k : ℕ) (old new : List ℕ) (o : OthersKept goals k old new) (
 -- entry k, at a, of n bytes, is lent and comes back with ys
 module _ (goals : ℕ) (bs : List ℕ) (k a n : ℕ) (g : GraphBytes goals bs) (lt : k < 2 * goals) (is-a : a ≡ entryStart goals k) (is-n : n ≡ entrySize goals) (ys : List ℕ) (kept : length ys ≡ length (part bs a (a + n))) where
   back : returned bs a (a + n) ys ≡ overwrite bs (entryStart goals k) ys
-  back = part-back bs a (a + n) ys (omega arith) (part-room goals bs k a n g lt is-a is-n) kept ∙ ap (λ (x : ℕ). overwrite bs x ys) is-a
+  back = entry-back goals bs k a n g lt is-a is-n ys kept
 
   whole : length ys ≡ entrySize goals
-  whole =
-      let e : a + n - a ≡ n = omega arith in
-      part-length bs a (a + n) ys (omega arith) (part-room goals bs k a n g lt is-a is-n) kept ∙ e ∙ is-n
-
-  room : entryStart goals k + entrySize goals ≤ length bs
-  room = entry-room goals bs (g .long) k lt
+  whole = entry-whole goals bs k a n g lt is-a is-n ys kept
 
   pub entry-written : (f : Entry → Entry) → entryOf goals ys ≡ f (entryOf goals (part bs a (a + n))) → entryAt goals k (returned bs a (a + n) ys) ≡ f (entryAt goals k bs)
   entry-written f e =
       ap (entryAt goals k) back
-      ∙ record-whole (entryOf goals) (entrySize goals) (entriesStart goals) bs k ys whole room
+      ∙ record-whole (entryOf goals) (entrySize goals) (entriesStart goals) bs k ys whole (entry-room goals bs (g .long) k lt)
       ∙ e ∙ ap (λ (l : List ℕ). f (entryOf goals l)) (part-is goals bs k a n g lt is-a is-n)
 
-  abbrev new : List ℕ
-  new = overwrite bs (entryStart goals k) ys
-
-  fits : entryStart goals k + length ys ≤ length bs
-  fits = fits-of (entryStart goals k) whole room
-
-  under : (m : ℕ) → m ≤ k → entriesOf goals m new ≡ entriesOf goals m bs
-  under m h = entries-below goals m bs (entryStart goals k) ys (later (entriesStart goals) (entrySize goals) h) fits
-
-  past : (m : ℕ) → drop (k + 1) (entriesOf goals m new) ≡ drop (k + 1) (entriesOf goals m bs)
-  past m =
-      elim (decLt k m) [
-        | yes lo ↦
-            ap (drop (k + 1)) (entries-whole goals bs (g .long) k ys lt whole m lo)
-            ∙ drop-set-lt (k + 1) (entriesOf goals m bs) k (entryOf goals ys) (omega arith)
-        | no hi ↦ ap (drop (k + 1)) (under m (not-under k m hi))
-      ]
-
   pub others-written : OthersKept goals k bs (returned bs a (a + n) ys)
-  others-written = subst (OthersKept goals k bs) (sym back) (record { frames = frames-whole goals bs g k ys lt whole; before = under; behind = past })
+  others-written =
+      subst (OthersKept goals k bs) (sym back)
+      (record {
+        frames = frames-whole goals bs g k ys lt whole;
+        before = entries-before goals bs (g .long) k ys lt whole;
+        behind = entries-behind goals bs (g .long) k ys lt whole k (omega arith);
+      })
 
 -- ---- blocks of heads in a graph
 pub popped-block : (goals popped : ℕ) (bs hs : List ℕ) → hs ≡ region headsStart (headsSize goals) (frameBytes goals popped bs) → headsOf goals hs ≡ (frameAt goals popped bs) .heads

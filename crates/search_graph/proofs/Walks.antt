@@ -17,7 +17,7 @@ use Rattle.layout.specs.Work.{graphOf, mergedOf}
 use Rattle.book.specs.Lines.{lineIn, linesIn}
 use Rattle.book.specs.Calls.{callOf}
 use Rattle.book.specs.Parts.{Reads, partIn, restIn, ReadsParts, partsIn}
-use Rattle.book.proofs.Lines.{part-from}
+use Rattle.definition.proofs.Lists.{part-from}
 use Rattle.book.proofs.Walk.{known-code, is-call, is-all, is-any, is-pick, is-undecided, no-parts, first-reads, others-of, first-and, others-read, first-then}
 use Rattle.evaluation.specs.declared.Outcome.{Outcome}
 use Rattle.evaluation.specs.declared.Outcome.the-variants.{Done}

@@ -27,7 +27,8 @@ use Rattle.definition.specs.declared.replies.Refusal.the-variants.{Unreachable}
 use Rattle.definition.specs.declared.replies.Response.the-variants.{Refused}
 use Rattle.soundness.specs.Always.{Always, Apart, Distinct, Ends, EntryInOrder, Every, Expected, FinishesFrame, Follows, HasHead, HeadsOn, InOrder, Keeps, Known, NeverUnreachable, goalsOf}
 use Rattle.soundness.specs.Statement.{EveryLine}
-use Rattle.soundness.proofs.Logic.{and-left, and-right, clash, of-true}
+use Rattle.definition.proofs.Tests.{and-left, and-right}
+use Rattle.soundness.proofs.Logic.{clash, of-true}
 use Rattle.soundness.proofs.Support.{step}
 use Rattle.soundness.proofs.World.{BookOk, World}
 use Rattle.soundness.proofs.Counters.{Reads}

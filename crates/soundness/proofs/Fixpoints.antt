@@ -9,7 +9,8 @@ use lib.Dec.{T, ltb→lt, lt→ltb}
 use lib.ListN.{length}
 use Rattle.definition.specs.Part.{All, Any, Book, Call, End, Node, Part, Parts, Pick, Then, UndecidedLine, partAt}
 use Rattle.soundness.specs.Sets.{Goals, GreatestSelfSupporting, LeastClosed, _⊆_, allGoals, everyHolds, greatest, holds, least, noGoals, round, rounds, someHolds}
-use Rattle.soundness.proofs.Logic.{and-left, and-right, both, or-cases, or-left, or-right}
+use Rattle.definition.proofs.Tests.{and-left, and-right}
+use Rattle.soundness.proofs.Logic.{both, or-cases, or-left, or-right}
 use Rattle.soundness.proofs.Chain.{climb, fall, iter, iter-keeps}
 
 -- more goals and a higher reading make no part fail

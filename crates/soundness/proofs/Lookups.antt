@@ -25,7 +25,8 @@ use Rattle.definition.specs.declared.heads.CycleHead.{CycleHead}
 use Rattle.definition.specs.declared.paths.PathKind.{PathKind}
 use Rattle.definition.specs.declared.paths.PathKind.the-variants.{Coinductive, ForcedAmbiguity, Inductive, Unknown}
 use Rattle.soundness.specs.Always.{Apart, Every, FramesInOrder, Known, goalsOf}
-use Rattle.soundness.proofs.Logic.{and-left, and-right, both, clash, nobody, of-true, or-left}
+use Rattle.definition.proofs.Tests.{and-left, and-right}
+use Rattle.soundness.proofs.Logic.{both, clash, nobody, of-true, or-left}
 use Rattle.soundness.proofs.Support.{step}
 use Rattle.soundness.proofs.World.{World}
 use Rattle.soundness.proofs.Counters.{Reads, counter, counter-add, counter-none, limit-positive}

@@ -23,7 +23,8 @@ use Rattle.definition.specs.declared.replies.Response.the-variants.{Refused}
 use Rattle.soundness.specs.Always.{CacheInOrder}
 use Rattle.soundness.specs.Sets.{Goals}
 use Rattle.soundness.specs.Statement.{AllRight, Query, RightReply, replyTo}
-use Rattle.soundness.proofs.Logic.{and-left, and-right, clash, nobody, or-cases}
+use Rattle.definition.proofs.Tests.{and-left, and-right}
+use Rattle.soundness.proofs.Logic.{clash, nobody, or-cases}
 use Rattle.soundness.proofs.World.{Judges, World}
 use Rattle.soundness.proofs.Inv.{After}
 use Rattle.soundness.proofs.Parts.{Claims}

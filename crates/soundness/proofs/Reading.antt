@@ -19,7 +19,8 @@ use Rattle.definition.specs.declared.paths.PathKind.{PathKind}
 use Rattle.definition.specs.declared.replies.Refusal.{Refusal}
 use Rattle.definition.specs.declared.replies.Refusal.the-variants.{BookBody, BookHeader, BookLength, BookLine, Unreachable}
 use Rattle.soundness.specs.Statement.{EveryLine}
-use Rattle.soundness.proofs.Logic.{and-left, and-right, clash, of-true}
+use Rattle.definition.proofs.Tests.{and-left, and-right}
+use Rattle.soundness.proofs.Logic.{clash, of-true}
 use Rattle.soundness.proofs.World.{AllCalls, BookOk, CallOk, Calls, EveryPart}
 
 -- what holds of every line gives what holds of every call

@@ -19,7 +19,8 @@ use Rattle.definition.specs.declared.answers.RebaseReason.the-variants.{Ambigui
 use Rattle.definition.specs.declared.paths.PathKind.{PathKind}
 use Rattle.definition.specs.declared.usages.HeadUsages.{HeadUsages}
 use Rattle.soundness.specs.Sets.{Goals, _⊆_}
-use Rattle.soundness.proofs.Logic.{and-left, clash, of-true, or-left, or-right, single, union, union-elim}
+use Rattle.definition.proofs.Tests.{and-left}
+use Rattle.soundness.proofs.Logic.{clash, of-true, or-left, or-right, single, union, union-elim}
 use Rattle.soundness.proofs.Fixpoints.{round-mono}
 use Rattle.soundness.proofs.Certain.{no-round-mono}
 use Rattle.soundness.proofs.World.{RightOf, World}

@@ -26,7 +26,7 @@ use Rattle.buffer.proofs.Sized.{sized}
 use Rattle.layout.specs.Blocks.{usagesSize, usagesOf, headsSize, headsOf, blockSize, candidateOf}
 use Rattle.layout.specs.Frame.{usagesStart, headsStart, candidateStart, nestedStart, frameSize, truth, resultOf, whenSet, frameOf}
 use Rattle.layout.proofs.Frames.{frame-by, frame-byte, frame-nested, withNested}
-use Rattle.stack.proofs.Parts.{part, returned, part-length, part-back, returned-length}
+use Rattle.stack.proofs.Parts.{part, returned, part-length, part-back}
 
 -- ---- numbers that are read back
 pub kind-back : (k : PathKind) → kindOf (kindNumber k) ≡ k
@@ -200,24 +200,16 @@ reset-frame goals bs fs us answer long is-f kept empty =
     ∙ was-reset goals bs us answer long (part-length x1 8 40 us (omega arith) (omega arith) kept) empty
 
 -- ---- `mark_overflow`
-pub mark-length : (goals : ℕ) (bs ys : List ℕ) (a : ℕ) → length bs ≡ frameSize goals → a ≡ nestedStart goals → length ys ≡ length (part (set bs 5 1) a (a + goals))
-    → length (returned (set bs 5 1) a (a + goals) ys) ≡ length bs
-mark-length goals bs ys a long is-a kept =
-    let l1 = length-set bs 5 1 in
-    returned-length (set bs 5 1) a (a + goals) ys (omega arith) (omega arith) kept ∙ l1
-
-pub mark-frame : (goals : ℕ) (bs ys : List ℕ) (goal a : ℕ) → length bs ≡ frameSize goals → a ≡ nestedStart goals
-    → goal ≡ (frameOf goals (set bs 5 1)) .input
-    → length ys ≡ length (part (set bs 5 1) a (a + goals)) → ys ≡ insertNested (part (set bs 5 1) a (a + goals)) goal 1
-    → frameOf goals (returned (set bs 5 1) a (a + goals) ys) ≡ markOverflow (frameOf goals bs)
+pub mark-frame : (goals : ℕ) (bs b1 ys : List ℕ) (a : ℕ) → length bs ≡ frameSize goals → b1 ≡ set bs 5 1 → a ≡ nestedStart goals → length ys ≡ length (part b1 a (a + goals))
+    → (goal : ℕ) → goal ≡ (frameOf goals b1) .input → ys ≡ insertNested (part b1 a (a + goals)) goal 1
+    → frameOf goals (returned b1 a (a + goals) ys) ≡ markOverflow (frameOf goals bs)
 unfolding frameOf
-mark-frame goals bs ys goal a long is-a is-goal kept is-y =
-    let b1 : List ℕ = set bs 5 1 in
-    let l1 : length b1 ≡ frameSize goals = length-set bs 5 1 ∙ long in
+mark-frame goals bs b1 ys a long marked is-a kept goal is-goal is-y =
+    let l1 : length b1 ≡ frameSize goals = ap length marked ∙ length-set bs 5 1 ∙ long in
     let n : length ys ≡ goals = omega (arith, part-length b1 a (a + goals) ys (omega arith) (omega arith) kept) in
     let e : a + goals - a ≡ goals = omega arith in
     let is : ys ≡ insertNested (region (nestedStart goals) goals b1) (getD b1 0 0) 1 = is-y ∙ ap₂ (λ (k m : ℕ). insertNested (region k m b1) goal 1) is-a e ∙ ap (λ (g : ℕ). insertNested (region (nestedStart goals) goals b1) g 1) is-goal in
     ap (frameOf goals) (part-back b1 a (a + goals) ys (omega arith) (omega arith) kept ∙ ap (λ (k : ℕ). overwrite b1 k ys) is-a)
     ∙ frame-nested goals b1 l1 ys n
     ∙ ap (withNested (frameOf goals b1)) is
-    ∙ ap (λ (f : Frame). withNested f (insertNested (f .nestedGoals) (f .input) 1)) (frame-byte goals bs long 5 1 (omega arith))
+    ∙ ap (λ (f : Frame). withNested f (insertNested (f .nestedGoals) (f .input) 1)) (ap (frameOf goals) marked ∙ frame-byte goals bs long 5 1 (omega arith))

@@ -1,5 +1,7 @@
 pub mod Parts
 pub mod Fields
 pub mod Values
+pub mod Records
+pub mod Lent
 pub mod Loops
 pub mod Graph

@@ -3,7 +3,8 @@ use mathlib.Core.Path.{_≡_, refl, sym, ap, ap₂, _∙_}
 use mathlib.Core.Bool.{Bool, true, false, not, _||_}
 use mathlib.Core.Option.{Option, none, some}
 use mathlib.Core.List.{List, [], _∷_}
-use Prim.Native.Nat.{ℕ, suc, _-_, _≤_, _<_}
+use Prim.Native.Nat.{ℕ, suc, _+_, _-_, _≤_, _<_}
+use native.Mathlib.Numerals.{add-one}
 use native.Mathlib.Omega.{arith}
 use borrow.Author.Tests.{eq-eqb, ne-eqb}
 use lib.ListN.{length, getD, take}
@@ -15,6 +16,7 @@ use Rattle.definition.specs.Paths.{extend, extendAll}
 use Rattle.definition.specs.Nested.{NestedGoals}
 use Rattle.definition.specs.Stack.{Frame, Stack, OnStack, stepKinds, cyclePathKind, stackFind}
 use Rattle.definition.specs.Lookup.{allowedDepthForNested, anyOnStack}
+use Rattle.definition.proofs.Lists.{first-same, rest-same}
 use Rattle.layout.specs.Frame.{frameOf}
 use Rattle.layout.specs.Work.{stackOf}
 use Rattle.layout.proofs.Graphs.{length-stack, stack-unfold}
@@ -27,6 +29,17 @@ pub top : (goals : ℕ) (bs : List ℕ) (i : ℕ) → 0 < i → stackOf goals i 
 top goals bs i pos =
     let e : i ≡ suc (i - 1) = omega arith in
     ap (λ (k : ℕ). stackOf goals k bs) e ∙ stack-unfold goals (i - 1) bs
+
+pub stack-top : (goals i : ℕ) (bs : List ℕ) → stackOf goals (i + 1) bs ≡ frameAt goals i bs ∷ stackOf goals i bs
+stack-top goals i bs = ap (λ (k : ℕ). stackOf goals k bs) (add-one i) ∙ stack-unfold goals i bs
+
+-- the frame and the stack under it, where both are known
+module _ (goals i : ℕ) (bs : List ℕ) {f : Frame} {fs : Stack} (is : stackOf goals (i + 1) bs ≡ f ∷ fs) where
+  pub top-is : frameAt goals i bs ≡ f
+  top-is = first-same (sym (stack-top goals i bs) ∙ is)
+
+  pub under-is : stackOf goals i bs ≡ fs
+  under-is = rest-same (sym (stack-top goals i bs) ∙ is)
 
 pub empty : (goals : ℕ) (bs : List ℕ) → stackOf goals 0 bs ≡ []
 unfolding stackOf

@@ -2,6 +2,7 @@
 // provisional result (0 none, else one more than its number), 5 overflow, 6 usages
 // present, 7 candidate usages present, 8 usages, then heads, candidate usages and nested
 // goals.
+use crate::small;
 use definition::answers::Answer;
 use definition::paths::PathKind;
 use definition::usages::HeadUsages;
@@ -222,7 +223,7 @@ pub fn mark_overflow(frame: &mut [u8], goals: usize)
     requires { ⌜ FrameBytes goals (now frame) ⌝ }
     ensures { λ _. ⌜ frameOf goals (now (frame .exit)) ≡ markOverflow (frameOf goals (now (frame .entry))) ⌝ }
 {
-    frame[5] = 1;
+    small::mark_bytes(&mut frame[0..8]);
     let goal = input(frame, goals);
     let a = offsets::nested_start(goals);
     let e = a + goals;

@@ -22,6 +22,7 @@ ghost use Rattle.stack.specs.declared.frame.Provisional.{Provisional};
 ghost use Rattle.stack.specs.declared.OnStack.the-variants.{At};
 
 pub mod frame;
+mod small;
 
 // What `find` finds: the index of the goal's frame, and its provisional result.
 pub enum OnStack {

@@ -1,13 +1,14 @@
 -- The nested goals of a frame, and a copy of them.
 use mathlib.Core.Path.{_≡_, sym, ap, ap₂, _∙_}
 use mathlib.Core.Bool.{Bool}
-use mathlib.Core.List.{List, _++_, append-nil}
+use mathlib.Core.List.{List}
 use Prim.Native.Nat.{ℕ, _+_, _-_, _≤_, _<_}
-use native.Mathlib.Numerals.{add-one}
+use native.Mathlib.Nat.{zero-add}
 use native.Mathlib.Omega.{arith}
-use lib.ListN.{length, getD, take, drop, set, replicate, drop-of-length-le}
-use lib.Seq.{take-length, paste, paste-suc}
+use lib.ListN.{length, getD, take, drop, set, replicate}
+use lib.Seq.{paste}
 use Rattle.buffer.specs.Regions.{region}
+use Rattle.buffer.proofs.Loops.{pasted-more, pasted-all}
 use Rattle.buffer.proofs.Regions.{length-region, region-region, region-same}
 use Rattle.definition.specs.declared.paths.PathKind.{PathKind}
 use Rattle.definition.specs.Heads.{CycleHeads, headsEmpty}
@@ -48,16 +49,10 @@ nested-length goals bs i g lt =
 
 -- ---- `copy`
 pub copied-more : (d s l : List ℕ) (j : ℕ) → l ≡ paste d 0 s j → length d ≡ length s → j < length s → set l j (getD s j 0) ≡ paste d 0 s (j + 1)
-copied-more d s l j e len h =
-    let z : j ≡ 0 + j = omega arith in
-    ap₂ (λ (m : List ℕ) (k : ℕ). set m k (getD s j 0)) e z ∙ paste-suc d 0 s j 0 (omega arith) h ∙ ap (paste d 0 s) (sym (add-one j))
+copied-more d s l j e len h = ap (λ (k : ℕ). set l k (getD s j 0)) (sym (zero-add j)) ∙ pasted-more 0 d s l j e (len ∙ sym (zero-add (length s))) h
 
 pub copied-all : (d s l : List ℕ) (j : ℕ) → l ≡ paste d 0 s j → length d ≡ length s → j ≡ length s → l ≡ s
-copied-all d s l j e len h =
-    e
-    ∙ ap (paste d 0 s) h
-    ∙ ap₂ (λ (l m : List ℕ). (take 0 d ++ l) ++ m) (take-length s) (drop-of-length-le d {i = 0 + length s} (omega arith))
-    ∙ append-nil s
+copied-all d s l j e len h = pasted-all 0 d s l j e (len ∙ sym (zero-add (length s))) h
 
 -- ---- `update_parent`: the copy stands first in an array of 64 bytes
 abbrev zeros : List ℕ

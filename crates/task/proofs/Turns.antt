@@ -1,8 +1,8 @@
 -- The end of an iteration.
-use mathlib.Core.Path.{_≡_, refl, sym, ap, _∙_, subst}
+use mathlib.Core.Path.{_≡_, refl, sym, ap, _∙_}
 use mathlib.Core.Bool.{Bool, _||_}
 use mathlib.Core.List.{List, _∷_}
-use Prim.Native.Nat.{ℕ, zero, suc, _+_, _*_, _-_, _≤_, _<_}
+use Prim.Native.Nat.{ℕ, zero, suc, _+_, _-_, _≤_, _<_}
 use native.Mathlib.Omega.{arith}
 use Rattle.definition.specs.declared.answers.Answer.{Answer}
 use Rattle.definition.specs.declared.answers.Answer.the-variants.{Overflow}
@@ -16,30 +16,21 @@ use Rattle.definition.specs.ProvisionalCache.{survivors, rebaseEntries}
 use Rattle.definition.specs.Task as task
 use Rattle.layout.specs.Frame.{frameOf}
 use Rattle.layout.specs.Work.{stackOf, entriesOf, graphOf}
-use Rattle.layout.proofs.Graphs.{stack-unfold}
 use Rattle.stack.specs.Bytes.{frameBytes, frameAt}
 use Rattle.stack.proofs.Loops.{top}
 use Rattle.provisional_cache.specs.Entries.{FramesKept}
 use Rattle.provisional_cache.proofs.Outcomes.{cleared-graph}
+use Rattle.provisional_cache.proofs.Writes.{frame-kept}
 use Rattle.evaluation.specs.declared.Outcome.{Outcome}
 use Rattle.evaluation.specs.declared.Outcome.the-variants.{Done, Stopped}
 use Rattle.evaluation.specs.declared.TaskOutcome.{TaskOutcome}
 use Rattle.evaluation.specs.declared.TaskOutcome.the-variants.{Evaluated, TaskStopped}
-use Rattle.evaluation.specs.Outcomes.{outcomeOf, taskOutcomeOf, FewEntries}
+use Rattle.evaluation.specs.Outcomes.{outcomeOf, taskOutcomeOf}
 use Rattle.task.specs.declared.Iteration.{Iteration}
 use Rattle.task.specs.declared.Iteration.the-variants.{End, Again}
 use Rattle.task.specs.declared.after.Next.{Next}
 use Rattle.task.specs.declared.after.Next.the-variants.{Finish, Rebase, Rerun}
 use Rattle.task.specs.Turns.{nextFor, rerunBy, turn, turned}
-
--- ---- the frame that was popped is kept
-first-of : (f h : Frame) (fs gs : Stack) → f ∷ fs ≡ h ∷ gs → f ≡ h
-first-of f h fs gs e = cc
-
-pub frame-kept : (goals own : ℕ) (old new : List ℕ) → own < goals → FramesKept goals old new → frameAt goals own new ≡ frameAt goals own old
-frame-kept goals own old new lt kept =
-    first-of (frameAt goals own new) (frameAt goals own old) (stackOf goals own new) (stackOf goals own old)
-    (sym (stack-unfold goals own new) ∙ kept .stacks (suc own) (omega arith) ∙ stack-unfold goals own old)
 
 -- ---- `rebased`
 pub rebased-task : (goals root own n r : ℕ) (old new cache : List ℕ) (reason : RebaseReason) (overflow : Bool) (answer : Answer) → own < goals → FramesKept goals old new
@@ -48,7 +39,7 @@ pub rebased-task : (goals root own n r : ℕ) (old new cache : List ℕ) (reason
 unfolding taskOutcomeOf
 rebased-task goals root own n r old new cache reason overflow answer lt kept es =
     let s = kept .stacks own (omega arith) in
-    let f = frame-kept goals own old new lt kept in
+    let f = frame-kept goals old new own kept lt in
     λ t. task.Evaluated (record { rootDepth = root; stack = s t; provisionalCache = es t; globalCache = cache }) (finalize (f t) overflow answer)
 
 -- ---- an end, in a turn with one frame more
@@ -70,7 +61,7 @@ module _ (goals root own n left : ℕ) (old cache : List ℕ) (next : Bool → G
   unfolding turned
   again-some pos lt r mid new kept es stack entries =
       let z : left ≡ suc (left - 1) = omega arith in
-      let f = sym (frame-kept goals own old mid lt kept) in
+      let f = sym (frame-kept goals old mid own kept lt) in
       let s = (λ t. task.rerunFrame (f t) answer ∷ sym (kept .stacks own (omega arith)) t) ∙ sym stack in
       let c = sym (cleared-graph goals root own n r old mid cache (omega arith) kept es) in
       let e = ap (λ (x : Graph). x .provisionalCache) c ∙ sym (entries r) in
@@ -124,9 +115,6 @@ module _ (goals root height left : ℕ) (next : Bool → Graph → task.TaskOutc
       ∙ ap (λ (s : Stack). task.popped (rerunBy left next) overflow (graphOf goals root height n bs cache) s answer) (top goals bs height pos)
       ∙ e
       ∙ ap (λ (k : ℕ). turned goals root k next new cache r) z
-
-pub few-done : (goals : ℕ) (o : Outcome) (answer : Answer) (n : ℕ) → o ≡ Done answer n → FewEntries goals o → n ≤ 2 * goals
-few-done goals o answer n is few = subst (FewEntries goals) is few
 
 -- a turn is one of the definition's, with those after it
 pub turn-is : (compute : Graph → graph.Outcome) (left : ℕ) (overflow : Bool) (g : Graph)

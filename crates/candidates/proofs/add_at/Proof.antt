@@ -20,7 +20,7 @@ part-add-start : tie.Need-part-add-start
 part-add-start c = search needs
 
 part-add-end : tie.Need-part-add-end
-part-add-end c = let s = c .before .before .before in parts.merged-room (s .args .goals) (s .args .work .now) (s .pre .0) (s .args .own) (s .pre .1 .0) (c .before .merged-start .result) (c .block-size .result) (c .before .merged-start .ensures .0) (c .block-size .ensures)
+part-add-end c = let s = c .before .before .before in parts.block-room (s .args .goals) (s .args .work .now) (s .pre .0) (s .args .own) (s .pre .1 .0) (c .before .merged-start .result) (c .block-size .result) (c .before .merged-start .ensures .0) (c .block-size .ensures)
 
 add-requires : tie.Need-add-requires
 add-requires c κs = search needs

@@ -1,4 +1,5 @@
 use Prim.Native.Nat.{_^_, _<_}
+use Rattle.evaluation.proofs.Lent.{same-bytes}
 use Rattle.candidates.proofs.Parts as parts
 use Rattle.candidates.proofs.Loops as loops
 use borrow.Author.Needs.{needs}
@@ -27,13 +28,13 @@ lowest-requires : tie.Need-lowest-requires Inv-loop μ-loop
 lowest-requires c κs = search needs
 
 merged-requires-2 : tie.Need-merged-requires-2 Inv-loop μ-loop
-merged-requires-2 c κs = let s = c .before .before .before .before .before .before .before .before in let l = c .before .before .before .loop in (parts.same-bytes (s .args .goals) (s .args .work .now) (s .pre .0) (l .work) (l .inv .same-length), s .pre .1)
+merged-requires-2 c κs = let s = c .before .before .before .before .before .before .before .before in let l = c .before .before .before .loop in (same-bytes (s .args .goals) (s .args .work .now) (s .pre .0) (l .work) (l .inv .same-length), s .pre .1)
 
 usages-requires : tie.Need-usages-requires Inv-loop μ-loop
-usages-requires c κs = let s = c .before .before .before .before .before .before .before .before .before in let l = c .before .before .before .before .loop in (parts.merged-bytes (s .args .goals) (l .work) (parts.same-bytes (s .args .goals) (s .args .work .now) (s .pre .0) (l .work) (l .inv .same-length)) (s .args .own) (s .pre .1) (c .merged2 .result .now) (c .merged2 .ensures), loops.turn-below (l .left) (c .before .before .lowest .result) (c .before .before .before .loop-test .taken) (l .inv .small) (c .before .before .lowest .ensures) (s .args .goals) (l .inv .below))
+usages-requires c κs = let s = c .before .before .before .before .before .before .before .before .before in let l = c .before .before .before .before .loop in (parts.merged-bytes (s .args .goals) (l .work) (same-bytes (s .args .goals) (s .args .work .now) (s .pre .0) (l .work) (l .inv .same-length)) (s .args .own) (s .pre .1) (c .merged2 .result .now) (c .merged2 .ensures), loops.turn-below (l .left) (c .before .before .lowest .result) (c .before .before .before .loop-test .taken) (l .inv .small) (c .before .before .lowest .ensures) (s .args .goals) (l .inv .below))
 
 ignore-head-requires : tie.Need-ignore-head-requires Inv-loop μ-loop
-ignore-head-requires c κs = let s = c .before .before .before .before .before .before .before .before .before .before .before in let l = c .before .before .before .before .before .before .loop in (parts.same-bytes (s .args .goals) (s .args .work .now) (s .pre .0) (l .work) (l .inv .same-length), (s .pre .1, loops.turn-below (l .left) (c .before .before .before .before .lowest .result) (c .before .before .before .before .before .loop-test .taken) (l .inv .small) (c .before .before .before .before .lowest .ensures) (s .args .goals) (l .inv .below)))
+ignore-head-requires c κs = let s = c .before .before .before .before .before .before .before .before .before .before .before in let l = c .before .before .before .before .before .before .loop in (same-bytes (s .args .goals) (s .args .work .now) (s .pre .0) (l .work) (l .inv .same-length), (s .pre .1, loops.turn-below (l .left) (c .before .before .before .before .lowest .result) (c .before .before .before .before .before .loop-test .taken) (l .inv .small) (c .before .before .before .before .lowest .ensures) (s .args .goals) (l .inv .below)))
 
 without-lowest-requires : tie.Need-without-lowest-requires Inv-loop μ-loop
 without-lowest-requires c κs = c .before .before .before .before .before .before .before .before .loop-test .taken
@@ -42,7 +43,7 @@ loop-less : tie.Need-loop-less Inv-loop μ-loop
 loop-less c = c .without-lowest .ensures .1
 
 loop-again : tie.Need-loop-again Inv-loop μ-loop
-loop-again c = let s = c .before .before .before .before .before .before .before .before .before .before .before .before .before .before .before in let l = c .before .before .before .before .before .before .before .before .before .before .loop in loops.ignore-next (s .args .goals) (s .args .own) (s .pre .1) (s .args .work .now) (s .pre .0) (l .work) (l .left) (l .inv) (parts.same-bytes (s .args .goals) (s .args .work .now) (s .pre .0) (l .work) (l .inv .same-length)) (c .before .before .before .before .before .before .before .before .lowest .result) (c .before .before .before .before .before .before .before .before .before .loop-test .taken) (c .before .before .before .before .before .before .before .before .lowest .ensures) (c .before .before .before .before .before .before .merged2 .result .now) (c .before .before .before .before .before .before .merged2 .ensures) (c .before .before .before .before .before .usages .result) (c .before .before .before .before .before .usages .ensures) (c .before .before .before .ignore-head .last .0) (c .before .before .before .ignore-head .kept .0) (c .before .before .before .ignore-head .ensures) (c .without-lowest .result) (c .without-lowest .ensures .0) (c .without-lowest .ensures .1)
+loop-again c = let s = c .before .before .before .before .before .before .before .before .before .before .before .before .before .before .before in let l = c .before .before .before .before .before .before .before .before .before .before .loop in loops.ignore-next (s .args .goals) (s .args .own) (s .pre .1) (s .args .work .now) (s .pre .0) (l .work) (l .left) (l .inv) (same-bytes (s .args .goals) (s .args .work .now) (s .pre .0) (l .work) (l .inv .same-length)) (c .before .before .before .before .before .before .before .before .lowest .result) (c .before .before .before .before .before .before .before .before .before .loop-test .taken) (c .before .before .before .before .before .before .before .before .lowest .ensures) (c .before .before .before .before .before .before .merged2 .result .now) (c .before .before .before .before .before .before .merged2 .ensures) (c .before .before .before .before .before .usages .result) (c .before .before .before .before .before .usages .ensures) (c .before .before .before .ignore-head .last .0) (c .before .before .before .ignore-head .kept .0) (c .before .before .before .ignore-head .ensures) (c .without-lowest .result) (c .without-lowest .ensures .0) (c .without-lowest .ensures .1)
 
 same-length : tie.Need-same-length Inv-loop μ-loop
 same-length c = c .before .loop .inv .same-length

@@ -1,4 +1,5 @@
 use Prim.Native.Nat.{_^_, _<_}
+use Rattle.evaluation.proofs.Lent.{same-bytes}
 use Rattle.candidates.proofs.Parts as parts
 use Rattle.candidates.proofs.Loops as loops
 use borrow.Author.Needs.{needs}
@@ -27,13 +28,13 @@ lowest-requires : tie.Need-lowest-requires Inv-loop μ-loop
 lowest-requires c κs = search needs
 
 top-requires-2 : tie.Need-top-requires-2 Inv-loop μ-loop
-top-requires-2 c κs = let s = c .before .before .before .before .before .before .before .before in let l = c .before .before .before .loop in (parts.same-bytes (s .args .goals) (s .args .work .now) (s .pre .0) (l .work) (l .inv .same-length), s .pre .1)
+top-requires-2 c κs = let s = c .before .before .before .before .before .before .before .before in let l = c .before .before .before .loop in (same-bytes (s .args .goals) (s .args .work .now) (s .pre .0) (l .work) (l .inv .same-length), s .pre .1)
 
 tracked-requires : tie.Need-tracked-requires Inv-loop μ-loop
-tracked-requires c κs = let s = c .before .before .before .before .before .before .before .before .before in let l = c .before .before .before .before .loop in (parts.top-bytes (s .args .goals) (l .work) (parts.same-bytes (s .args .goals) (s .args .work .now) (s .pre .0) (l .work) (l .inv .same-length)) (s .args .own) (s .pre .1) (c .top2 .result .now) (c .top2 .ensures), loops.turn-below (l .left) (c .before .before .lowest .result) (c .before .before .before .loop-test .taken) (l .inv .small) (c .before .before .lowest .ensures) (s .args .goals) (l .inv .below))
+tracked-requires c κs = let s = c .before .before .before .before .before .before .before .before .before in let l = c .before .before .before .before .loop in (parts.top-bytes (s .args .goals) (l .work) (same-bytes (s .args .goals) (s .args .work .now) (s .pre .0) (l .work) (l .inv .same-length)) (s .args .own) (s .pre .1) (c .top2 .result .now) (c .top2 .ensures), loops.turn-below (l .left) (c .before .before .lowest .result) (c .before .before .before .loop-test .taken) (l .inv .small) (c .before .before .lowest .ensures) (s .args .goals) (l .inv .below))
 
 add-at-requires : tie.Need-add-at-requires Inv-loop μ-loop
-add-at-requires c κs = let s = c .before .before .before .before .before .before .before .before .before .before .before in let l = c .before .before .before .before .before .before .loop in (parts.same-bytes (s .args .goals) (s .args .work .now) (s .pre .0) (l .work) (l .inv .same-length), (s .pre .1, loops.turn-below (l .left) (c .before .before .before .before .lowest .result) (c .before .before .before .before .before .loop-test .taken) (l .inv .small) (c .before .before .before .before .lowest .ensures) (s .args .goals) (l .inv .below)))
+add-at-requires c κs = let s = c .before .before .before .before .before .before .before .before .before .before .before in let l = c .before .before .before .before .before .before .loop in (same-bytes (s .args .goals) (s .args .work .now) (s .pre .0) (l .work) (l .inv .same-length), (s .pre .1, loops.turn-below (l .left) (c .before .before .before .before .lowest .result) (c .before .before .before .before .before .loop-test .taken) (l .inv .small) (c .before .before .before .before .lowest .ensures) (s .args .goals) (l .inv .below)))
 
 without-lowest-requires : tie.Need-without-lowest-requires Inv-loop μ-loop
 without-lowest-requires c κs = c .before .before .before .before .before .before .before .before .loop-test .taken

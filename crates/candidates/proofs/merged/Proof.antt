@@ -19,7 +19,7 @@ part-result-start : tie.Need-part-result-start
 part-result-start c = search needs
 
 part-result-end : tie.Need-part-result-end
-part-result-end c = let s = c .before .before .before in parts.merged-room (s .args .goals) (s .args .work .now) (s .pre .0) (s .args .own) (s .pre .1) (c .before .merged-start .result) (c .block-size .result) (c .before .merged-start .ensures .0) (c .block-size .ensures)
+part-result-end c = let s = c .before .before .before in parts.block-room (s .args .goals) (s .args .work .now) (s .pre .0) (s .args .own) (s .pre .1) (c .before .merged-start .result) (c .block-size .result) (c .before .merged-start .ensures .0) (c .block-size .ensures)
 
 returns : tie.Need-returns
 returns c = let s = c .before .before .before .before in parts.merged-part (s .args .goals) (s .args .work .now) (s .pre .0) (s .args .own) (s .pre .1) (c .before .before .merged-start .result) (c .before .block-size .result) (c .before .before .merged-start .ensures .0) (c .before .block-size .ensures)

@@ -22,7 +22,7 @@ part-clear-start : tie.Need-part-clear-start
 part-clear-start c = search needs
 
 part-clear-end : tie.Need-part-clear-end
-part-clear-end c = let s = c .before .before .before in parts.merged-room (s .args .goals) (s .args .work .now) (s .pre .0) (s .args .own) (s .pre .1) (c .before .merged-start .result) (c .block-size .result) (c .before .merged-start .ensures .0) (c .block-size .ensures)
+part-clear-end c = let s = c .before .before .before in parts.block-room (s .args .goals) (s .args .work .now) (s .pre .0) (s .args .own) (s .pre .1) (c .before .merged-start .result) (c .block-size .result) (c .before .merged-start .ensures .0) (c .block-size .ensures)
 
 clear-requires : tie.Need-clear-requires
 clear-requires c κs = search needs

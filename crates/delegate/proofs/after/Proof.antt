@@ -1,4 +1,5 @@
-use Rattle.delegate.proofs.Turns.{stepped-stopped, stepped-done, few-done}
+use Rattle.evaluation.proofs.Outcomes.{few-done}
+use Rattle.delegate.proofs.Turns.{stepped-stopped, stepped-done}
 use borrow.Author.Needs.{needs}
 use Rattle.delegate.proofs.after.Statement.{statement}
 use Rattle.delegate.proofs.after.Tie as tie

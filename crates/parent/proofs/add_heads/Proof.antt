@@ -9,13 +9,12 @@ use Rattle.bits.specs.Masks.{flags}
 use Rattle.buffer.specs.Regions.{region}
 use Rattle.buffer.proofs.Regions.{length-region}
 use Rattle.layout.specs.Blocks.{headsSize, headsOf, present}
+use Rattle.layout.proofs.Marks.{keep, Within, start-within}
 use Rattle.stack.specs.Bytes.{frameAt}
 use Rattle.stack.proofs.Parts.{part}
 use Rattle.parent.specs.Head.{addHeadAt}
 use Rattle.parent.specs.Top.{TopWritten}
-use Rattle.parent.proofs.Heads.{keep}
 use Rattle.parent.proofs.Top.{top-frame, top-again, top-same, top-kept}
-use Rattle.parent.proofs.Update.{Within}
 use Rattle.parent.proofs.Update as update
 use borrow.Author.Needs.{needs}
 use Rattle.parent.proofs.add_heads.Statement.{statement}
@@ -58,7 +57,7 @@ mask-requires : tie.Need-mask-requires Inv-loop μ-loop
 mask-requires c κs = let s = c .before .before .before .before in let a = s .args in record { few = s .pre .0 .few; long = ap length (update.block-is (a .goals) (a .start) (c .before .before .heads-size .result) (a .graph .now) (c .before .before .heads-size .ensures)) ∙ length-region (a .start) (headsSize (a .goals)) (a .graph .now) (s .pre .1 .1 .1) }
 
 loop-holds : tie.Need-loop-holds Inv-loop μ-loop
-loop-holds c = let s = c .before .before .before .before .before in let a = s .args in let is = c .mask .ensures ∙ ap (λ (l : List ℕ). present (headsOf (a .goals) l) ++ replicate (64 - a .goals) false) (update.block-is (a .goals) (a .start) (c .before .before .before .heads-size .result) (a .graph .now) (c .before .before .before .heads-size .ensures)) in (refl, small c, update.loop-within (headsOf (a .goals) (region (a .start) (headsSize (a .goals)) (a .graph .now))) (c .mask .result) (64 - a .goals) is, top-kept (a .goals) (a .own) (a .graph .now), update.loop-first (headsOf (a .goals) (region (a .start) (headsSize (a .goals)) (a .graph .now))) (c .mask .result) (64 - a .goals) is (a .step) (a .own) (frameAt (a .goals) (a .own) (a .graph .now)))
+loop-holds c = let s = c .before .before .before .before .before in let a = s .args in let is = c .mask .ensures ∙ ap (λ (l : List ℕ). present (headsOf (a .goals) l) ++ replicate (64 - a .goals) false) (update.block-is (a .goals) (a .start) (c .before .before .before .heads-size .result) (a .graph .now) (c .before .before .before .heads-size .ensures)) in (refl, small c, start-within (headsOf (a .goals) (region (a .start) (headsSize (a .goals)) (a .graph .now))) (c .mask .result) (64 - a .goals) is, top-kept (a .goals) (a .own) (a .graph .now), update.loop-first (headsOf (a .goals) (region (a .start) (headsSize (a .goals)) (a .graph .now))) (c .mask .result) (64 - a .goals) is (a .step) (a .own) (frameAt (a .goals) (a .own) (a .graph .now)))
 
 lowest-requires : tie.Need-lowest-requires Inv-loop μ-loop
 lowest-requires c κs = search needs

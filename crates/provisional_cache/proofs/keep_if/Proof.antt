@@ -1,4 +1,4 @@
-use Rattle.provisional_cache.proofs.Tests.{not-true, not-false}
+use borrow.Author.Tests.{not-true, not-false}
 use Rattle.provisional_cache.proofs.Writes.{keep-not, keep-moved}
 use borrow.Author.Needs.{needs}
 use Rattle.provisional_cache.proofs.keep_if.Statement.{statement}

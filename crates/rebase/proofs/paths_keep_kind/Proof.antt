@@ -1,7 +1,7 @@
 use Prim.Native.Nat.{_-_, _^_, _<_}
 use Rattle.layout.specs.Work.{stackOf}
 use Rattle.stack.specs.Bytes.{frameAt}
-use Rattle.rebase.proofs.Marks.{turn-small}
+use Rattle.layout.proofs.Marks.{turn-small}
 use Rattle.rebase.proofs.Writes.{popped-length}
 use Rattle.rebase.proofs.Loops.{Keeping, keeping-start, keeping-fails, keeping-next, keeping-done}
 use borrow.Author.Needs.{needs}

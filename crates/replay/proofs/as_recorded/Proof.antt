@@ -1,17 +1,17 @@
-use Rattle.replay.proofs.Compared.{never}
+use mathlib.Core.Bool.{false≢true}
 use borrow.Author.Tests.{not-false}
 use borrow.Author.Needs.{needs}
 use Rattle.replay.proofs.as_recorded.Statement.{statement}
 use Rattle.replay.proofs.as_recorded.Tie as tie
 
 returns : tie.Need-returns
-returns c = λ h. never h
+returns c = λ h. absurd (false≢true h)
 
 same-requires : tie.Need-same-requires
 same-requires c κs = search needs
 
 returns-2 : tie.Need-returns-2
-returns-2 c = λ h. never h
+returns-2 c = λ h. absurd (false≢true h)
 
 work-is-left-requires : tie.Need-work-is-left-requires
 work-is-left-requires c κs = search needs

@@ -1,4 +1,4 @@
-use Rattle.replay.proofs.Compared.{never}
+use mathlib.Core.Bool.{false≢true}
 use native.Mathlib.Omega.{arith}
 use lib.ListN.{drop}
 use mathlib.Core.List.{_++_}
@@ -26,7 +26,7 @@ same-length : tie.Need-same-length
 same-length c = search needs
 
 returns : tie.Need-returns
-returns c = λ h. never h
+returns c = λ h. absurd (false≢true h)
 
 sevens-requires : tie.Need-sevens-requires
 sevens-requires c κs = search needs

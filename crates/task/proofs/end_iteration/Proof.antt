@@ -1,5 +1,6 @@
 use native.Mathlib.Omega.{arith}
-use Rattle.task.proofs.Turns.{turn-stopped, turn-done, few-done}
+use Rattle.evaluation.proofs.Outcomes.{few-done}
+use Rattle.task.proofs.Turns.{turn-stopped, turn-done}
 use borrow.Author.Needs.{needs}
 use Rattle.task.proofs.end_iteration.Statement.{statement}
 use Rattle.task.proofs.end_iteration.Tie as tie

@@ -1,6 +1,6 @@
 use borrow.Author.Needs.{needs}
 use lib.ListN.{getD}
-use Rattle.book.proofs.Lines.{part-from}
+use Rattle.definition.proofs.Lists.{part-from}
 use Rattle.book.proofs.part.of_goal.Statement.{statement}
 use Rattle.book.proofs.part.of_goal.Tie as tie
 

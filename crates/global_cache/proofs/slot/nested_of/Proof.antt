@@ -1,7 +1,7 @@
 use mathlib.Core.Path.{sym}
 use native.Mathlib.Omega.{arith}
 use lib.ListN.{drop-of-length-le}
-use Rattle.global_cache.proofs.Slots.{part-from}
+use Rattle.definition.proofs.Lists.{part-from}
 use borrow.Author.Needs.{needs}
 use Rattle.global_cache.proofs.slot.nested_of.Statement.{statement}
 use Rattle.global_cache.proofs.slot.nested_of.Tie as tie

@@ -3,7 +3,7 @@ use Prim.Native.Nat.{ℕ, _-_, _≤_}
 use native.Mathlib.Omega.{arith}
 use lib.ListN.{length, length-set}
 use lib.Seq.{paste, paste-zero}
-use Rattle.global_cache.proofs.Slots.{copied-more, copied-all}
+use Rattle.buffer.proofs.Loops.{pasted-more, pasted-all}
 use Rattle.global_cache.proofs.slot.write_nested.Statement.{statement}
 use Rattle.global_cache.proofs.slot.write_nested.Tie as tie
 
@@ -34,7 +34,7 @@ loop-less c = omega arith
 loop-again : tie.Need-loop-again Inv-loop μ-loop
 loop-again c =
     let l = c .before .before in
-    (omega arith, simp length-set (l .loop .inv .1), copied-more (l .before .args .slot .now) (l .before .args .nested .now) (l .loop .slot) (l .loop .i) (l .loop .inv .2) (l .before .pre) (omega arith))
+    (omega arith, simp length-set (l .loop .inv .1), pasted-more 3 (l .before .args .slot .now) (l .before .args .nested .now) (l .loop .slot) (l .loop .i) (l .loop .inv .2) (l .before .pre) (omega arith))
 
 same-length : tie.Need-same-length Inv-loop μ-loop
 same-length c = c .before .loop .inv .1
@@ -42,7 +42,7 @@ same-length c = c .before .loop .inv .1
 returns : tie.Need-returns Inv-loop μ-loop
 returns c =
     let l = c .before in
-    copied-all (l .before .args .slot .now) (l .before .args .nested .now) (l .loop .slot) (l .loop .i) (l .loop .inv .2) (l .before .pre) (omega arith)
+    pasted-all 3 (l .before .args .slot .now) (l .before .args .nested .now) (l .loop .slot) (l .loop .i) (l .loop .inv .2) (l .before .pre) (omega arith)
 
 pub write-nested-spec : {M : Type 1} → statement M
 write-nested-spec =

@@ -1,4 +1,5 @@
-use Rattle.search_graph.proofs.Lending.{finished, lent-bytes}
+use Rattle.evaluation.proofs.Lent.{lent-bytes}
+use Rattle.search_graph.proofs.Lending.{finished}
 use borrow.Author.Needs.{needs}
 use Rattle.search_graph.proofs.steps.finish.Statement.{statement}
 use Rattle.search_graph.proofs.steps.finish.Tie as tie
@@ -22,7 +23,7 @@ part-finish-end c = search needs
 -- src/steps.rt:133:5
 finish-requires : tie.Need-finish-requires
 finish-requires c κs =
-    let s = c .before .before .before .before .before in record { bytes = lent-bytes (s .args .h .goals) (s .args .work .now) (c .before .before .graph-length .result) (s .pre .bytes) (c .before .before .graph-length .ensures .0); cache-bytes = s .pre .slots; under = s .pre .stack; known = s .pre .known; few = s .pre .few }
+    let s = c .before .before .before .before .before in record { bytes = lent-bytes (s .args .h .goals) (s .args .work .now) (s .pre .bytes) (c .before .before .graph-length .result) (c .before .before .graph-length .ensures .0); cache-bytes = s .pre .slots; under = s .pre .stack; known = s .pre .known; few = s .pre .few }
 
 -- src/steps.rt:119:1
 same-length : tie.Need-same-length

@@ -1,12 +1,21 @@
-use native.Mathlib.Omega.{arith}
-use lib.ListN.{length-set}
-use Rattle.stack.proofs.Fields.{mark-frame, mark-length}
+use Rattle.stack.proofs.Fields.{mark-frame}
+use Rattle.stack.proofs.Records.{mark-returned}
+use Rattle.stack.proofs.Parts.{returned}
 use borrow.Author.Needs.{needs}
 use Rattle.stack.proofs.frame.mark_overflow.Statement.{statement}
 use Rattle.stack.proofs.frame.mark_overflow.Tie as tie
 
-slice-write-frame : tie.Need-slice-write-frame
-slice-write-frame c = search needs
+sub-mark-bytes : tie.Need-sub-mark-bytes
+sub-mark-bytes c = search needs
+
+part-mark-bytes-start : tie.Need-part-mark-bytes-start
+part-mark-bytes-start c = search needs
+
+part-mark-bytes-end : tie.Need-part-mark-bytes-end
+part-mark-bytes-end c = search needs
+
+mark-bytes-requires : tie.Need-mark-bytes-requires
+mark-bytes-requires c κs = search needs
 
 input-requires : tie.Need-input-requires
 input-requires c κs = search needs
@@ -24,22 +33,25 @@ part-insert-paths-start : tie.Need-part-insert-paths-start
 part-insert-paths-start c = search needs
 
 part-insert-paths-end : tie.Need-part-insert-paths-end
-part-insert-paths-end c = simp length-set (omega arith)
+part-insert-paths-end c = search needs
 
 insert-paths-requires : tie.Need-insert-paths-requires
 insert-paths-requires c κs = search needs
 
 same-length : tie.Need-same-length
-same-length c = let s = c .before .before .before .before .before .before .before .before in mark-length (s .args .goals) (s .args .frame .now) (c .before .before .insert-paths .last .0) (c .before .before .before .before .nested-start .result) (s .pre .long) (c .before .before .before .before .nested-start .ensures) (c .before .before .insert-paths .kept .0)
+same-length c = search needs
 
 returns : tie.Need-returns
-returns c = let s = c .before .before .before .before .before .before .before .before in mark-frame (s .args .goals) (s .args .frame .now) (c .before .before .insert-paths .last .0) (c .before .before .before .before .before .input .result) (c .before .before .before .before .nested-start .result) (s .pre .long) (c .before .before .before .before .nested-start .ensures) (c .before .before .before .before .before .input .ensures .0) (c .before .before .insert-paths .kept .0) (c .before .before .insert-paths .ensures)
+returns c = let s = c .before .before .before .before .before .before .before .before .before .before .before .before in let bs = s .args .frame .now in let m = c .before .before .before .before .before .before .before .before .before .mark-bytes in let a = c .before .before .before .before in let p = c .before .before .insert-paths in mark-frame (s .args .goals) bs (returned bs 0 8 (m .last .0)) (p .last .0) (a .nested-start .result) (s .pre .long) (mark-returned bs (m .last .0) (m .ensures)) (a .nested-start .ensures) (p .kept .0) (a .before .input .result) (a .before .input .ensures .0) (p .ensures)
 
 pub mark-overflow-spec : {M : Type 1} → statement M
 mark-overflow-spec =
     tie.close
     (tie.spec
-    slice-write-frame
+    sub-mark-bytes
+    part-mark-bytes-start
+    part-mark-bytes-end
+    mark-bytes-requires
     input-requires
     nested-start-requires
     add-e
