@@ -28,7 +28,13 @@ impl Class {
 
 fn list(book: &Book, queries: Vec<(usize, usize)>, warm: bool) -> List {
     let header = &book.header;
-    List { book: book.to_bytes(), goals: header.goals, cache_len: header.cache_len(), queries, warm }
+    List {
+        book: book.to_bytes(),
+        goals: header.goals,
+        cache_len: header.cache_len(),
+        queries,
+        warm,
+    }
 }
 
 /// Goal runs of the first query, none where it is refused or takes too long.
@@ -82,7 +88,8 @@ fn generated(name: &str, count: usize, least: u64) -> Vec<List> {
         let case = class.case(7, number);
         let Ok(book) = Book::read(&case.book) else { continue };
         let queries = case.queries.iter().map(|q| (q.goal, q.depth));
-        let queries: Vec<_> = queries.filter(|q| q.0 < book.header.goals && q.1 <= book.header.top_depth).collect();
+        let queries: Vec<_> =
+            queries.filter(|q| q.0 < book.header.goals && q.1 <= book.header.top_depth).collect();
         if queries.is_empty() {
             continue;
         }
@@ -115,10 +122,10 @@ const fn class(name: &'static str, what: &'static str, make: fn() -> Vec<List>) 
 pub const CLASSES: &[Class] = &[
     class("rings-4", "rings of 4 goals", || rings(4, true, 20, 20)),
     class("rings-16", "rings of 16 goals", || rings(16, true, 20, 100)),
-    class("rings-64", "rings of 64 goals", || rings(64, true, 10, 300)),
+    class("rings-64", "rings of 64 goals", || rings(64, true, 10, 64)),
     class("rings-4-off", "the same, provisional cache off", || rings(4, false, 20, 20)),
     class("rings-16-off", "the same, provisional cache off", || rings(16, false, 20, 100)),
-    class("rings-64-off", "the same, provisional cache off", || rings(64, false, 5, 300)),
+    class("rings-64-off", "the same, provisional cache off", || rings(64, false, 10, 64)),
     class("picks", "picks of calls", || generated("picks", 20, 30)),
     class("tangled", "cycles that cross each other", || generated("tangled", 20, 50)),
     class("nested", "parts nested up to 8 deep", || generated("nested", 20, 30)),
@@ -127,5 +134,7 @@ pub const CLASSES: &[Class] = &[
     class("cached-4", "4 goals, all in the cache", || cached(rings(4, true, 20, 1))),
     class("cached-16", "16 goals, all in the cache", || cached(rings(16, true, 20, 1))),
     class("cached-64", "64 goals, all in the cache", || cached(rings(64, true, 5, 1))),
-    class("cached-long", "up to 1,000 lines, all in the cache", || cached(generated("long", 20, 30))),
+    class("cached-long", "up to 1,000 lines, all in the cache", || {
+        cached(generated("long", 20, 30))
+    }),
 ];

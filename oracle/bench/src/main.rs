@@ -65,7 +65,9 @@ fn median(mut values: Vec<f64>) -> f64 {
 
 /// Engines in turn, each round; the median of each.
 fn table(rounds: usize) {
-    println!("| class | lists | queries | library, µs a query | original, µs a query | original / library | library / floor |");
+    println!(
+        "| class | lists | queries | library, µs a query | original, µs a query | original / library | library / floor |"
+    );
     println!("|---|---|---|---|---|---|---|");
     for class in lists::CLASSES {
         let lists = class.lists();
@@ -80,7 +82,13 @@ fn table(rounds: usize) {
         let each = |total: f64| total / 1000.0 / queries as f64;
         println!(
             "| {} ({}) | {} | {queries} | {:.1} | {:.1} | {:.2} | {:.1} |",
-            class.name, class.what, lists.len(), each(ours), each(theirs), theirs / ours, ours / floors
+            class.name,
+            class.what,
+            lists.len(),
+            each(ours),
+            each(theirs),
+            theirs / ours,
+            ours / floors
         );
     }
 }
@@ -104,7 +112,10 @@ fn main() {
     let words: Vec<&str> = words.iter().map(String::as_str).collect();
     let done = match words[..] {
         [] => Ok(table(7)),
-        ["count", name, engine, times] => times.parse().map_err(|_| "no number".into()).and_then(|times| count(name, engine, times)),
+        ["count", name, engine, times] => times
+            .parse()
+            .map_err(|_| "no number".into())
+            .and_then(|times| count(name, engine, times)),
         [rounds] => rounds.parse().map(table).map_err(|_| "no number".into()),
         _ => Err(String::new()),
     };
