@@ -2,8 +2,7 @@
 use mathlib.Core.Path.{_≡_, refl, ap, _∙_}
 use mathlib.Core.Bool.{Bool, true}
 use mathlib.Core.List.{List}
-use Prim.Native.Nat.{ℕ, _<_}
-use native.Mathlib.Omega.{arith}
+use Prim.Native.Nat.{ℕ}
 use Rattle.definition.specs.declared.answers.Answer.{Answer}
 use Rattle.definition.specs.declared.usages.HeadUsages.{HeadUsages}
 use Rattle.definition.specs.Part.{Part, Parts, Then}
@@ -13,7 +12,6 @@ use Rattle.delegate.specs.declared.Op.{Op}
 use Rattle.delegate.specs.declared.Op.the-variants.{All, Any, Pick}
 use Rattle.delegate.specs.declared.Group.{Group}
 use Rattle.delegate.specs.Groups.{isPick, entered, restOf, nextOf, rest, next}
-use Rattle.delegate.specs.Steps.{Kept, MergedKept}
 
 module _ (evaluate : Evaluator) (goals : ℕ) where
   then-of : (op : Op) (met : Bool) (combined : Answer) (p : Part) (ps : Parts) (others : List HeadUsages) (g : Graph)
@@ -40,10 +38,3 @@ module _ (evaluate : Evaluator) (goals : ℕ) where
   rest-turn group p ps us vs g h =
       rest-then group p ps us g
       ∙ ap (andThen (evalPart evaluate goals p (entered goals (group .op) g))) (others-of (group .op) (group .met) (group .combined) ps us vs h)
-
--- ---- what is kept
-pub kept-all : (op : Op) (goals own : ℕ) (a b : List ℕ) → own < goals → MergedKept goals a b → Kept op goals own a b
-kept-all op goals own a b lt h = record { below = λ i below. h i (omega (arith, below, lt)); here = λ e. h own lt }
-
-pub kept-then : (op : Op) (goals own : ℕ) (a b c : List ℕ) → Kept op goals own a b → Kept op goals own b c → Kept op goals own a c
-kept-then op goals own a b c x y = record { below = λ i lt. y .below i lt ∙ x .below i lt; here = λ e. y .here e ∙ x .here e }

@@ -32,7 +32,7 @@ use Rattle.task.specs.declared.Iteration.the-variants.{End, Again}
 use Rattle.task.specs.Turns.{turn, turned, FewTurned}
 use Rattle.task.proofs.Turns.{turn-is}
 use Rattle.search_graph.specs.Calls.{Running, evaluator, Comes, TaskComes}
-use Rattle.search_graph.specs.Steps.{Looking, LookedUp, Pushed, IterationEnded, Finished}
+use Rattle.search_graph.specs.Steps.{LookedUp, Pushed, IterationEnded, Finished}
 
 -- ---- the measure: goals off the stack, then iterations left, then bytes left
 abbrev pub rank : ℕ → ℕ → ℕ → ℕ
@@ -62,19 +62,6 @@ running-next newCache newWork newHeight m r ec ew le few =
       bytes = work-next newWork (r .bytes) ew;
       stack = le;
       entries = few;
-      shallow = r .shallow;
-    }
-
-pub looking : {book starts cache work : List ℕ} {h : Header} {root height n goal : ℕ}
-    → Running book starts cache work h root height n → goal < h .goals → Looking h root height n goal work cache
-looking r known =
-    record {
-      bytes = r .bytes;
-      slots = r .slots;
-      stack = r .stack;
-      entries = r .entries;
-      known = known;
-      divides = r .read .in-range .divides;
       shallow = r .shallow;
     }
 
