@@ -16,7 +16,7 @@ use Rattle.book.specs.Grammar.{afterParts}
 use Rattle.book.specs.Parts.{partsBelow, partRead, partIn, restIn, Reads, StartsPart}
 use Rattle.book.proofs.Lines.{lines-length}
 use Rattle.book.proofs.Views.{never, of-some, First, uncons, cons, Looser, part-within, parts-within, part-shrinks, parts-room, parts-add, below-of, count-is, none-low, none-high}
-use Rattle.book.proofs.Walk.{has-line, viewed}
+use Rattle.book.proofs.Walk.{reads, has-line, viewed}
 
 -- n parts are pending, and after them come the lines r
 abbrev pub Pending : ℕ → ℕ → List ℕ → List Line → Type 0
@@ -74,6 +74,9 @@ module _ (goals n : ℕ) (bytes : List ℕ) (r : List Line) (h : Pending goals n
     pub pending-line : 16 ≤ length bytes
     pending-line = has-line goals false bytes (split .one) first-read
 
+    pub pending-part : StartsPart bytes
+    pending-part = record { goals = goals; inPick = false; reads = reads goals false bytes (split .one) first-read }
+
     pub next-pending : Pending goals (n - 1 + partsBelow (lineIn bytes)) (drop 16 bytes) r
     next-pending =
         let b = below-of (readPart goals 7) (lineIn bytes) (linesIn (drop 16 bytes)) (split .one) goals false (viewed goals false bytes (split .one) first-read) in
@@ -119,6 +122,9 @@ module _ (part : List ℕ) (n : ℕ) (bytes : List ℕ) (h : PendingAfter part n
   module _ (pos : 0 < n) where
     pub skip-line : 16 ≤ length bytes
     skip-line = pending-line (s .goals) n bytes _ here pos
+
+    pub skip-part : StartsPart bytes
+    skip-part = pending-part (s .goals) n bytes _ here pos
 
     pub skip-turn : (count : ℕ) → count ≡ partsBelow (lineIn bytes) → PendingAfter part (n - 1 + count) (take (length bytes - 16) (drop 16 bytes))
     unfolding PendingAfter

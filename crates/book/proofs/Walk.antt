@@ -10,14 +10,14 @@ use native.Mathlib.Numerals.{sub-one}
 use native.Mathlib.Decide.{decLt}
 use lib.ListN.{length, getD, take, drop}
 use lib.Dec.{eqb, leb, ltb}
-use borrow.Author.Tests.{ltb-true}
+use borrow.Author.Tests.{leb-true, ltb-true}
 use Rattle.definition.specs.declared.format.Line.{Line}
 use Rattle.definition.specs.Paths.{kindOf}
 use Rattle.definition.specs.Part.{Op, All, Any, Pick, Part, Parts, Call, Node, UndecidedLine, Then, End}
 use Rattle.definition.specs.Reader.{TakenPart, TakenParts, readParts, readByCode, readFirst, readPart}
 use Rattle.book.specs.Lines.{lineIn, linesIn}
 use Rattle.book.specs.Grammar.{callFits}
-use Rattle.book.specs.Parts.{partRead, takenOr, partIn, restIn, Reads, partsRead, takenPartsOr, partsIn, restAfter, ReadsParts}
+use Rattle.book.specs.Parts.{partRead, takenOr, partIn, restIn, Reads, StartsPart, partsRead, takenPartsOr, partsIn, restAfter, ReadsParts}
 use Rattle.book.proofs.Lines.{lines-cons, lines-none}
 use Rattle.book.proofs.Views.{never, of-some, First, uncons, View, call, all, any, pick, undecided, callTaken, view, Noded, as-call, as-all, as-any, as-pick, as-undecided, a-code, Looser, looser-refl, Within, part-within, parts-within}
 
@@ -82,13 +82,25 @@ module _ (goals : ℕ) (p : Bool) (bytes : List ℕ) (l : Line) (is : l ≡ line
   pub known-code : (2 ≤ l .code) × (l .code ≤ 6)
   known-code = a-code seen
 
+  fits : l .code ≡ 2 → (l .first < goals) × ((l .second ≤ 3) × (l .third ≤ 1))
+  fits k = let t = tests (ltb (l .first) goals) (leb (l .second) 3) (leb (l .third) 1) (eqb (l .fourth) 0) (as-call seen k .0) in (ltb-true _ _ (t .0), (leb-true _ _ (t .1 .0), leb-true _ _ (t .1 .1)))
+    where
+      off : {A : Type 0} → _≡_ {A = Bool} false true → A
+      off e = let z : _≡_ {A = ℕ} 0 1 = ap (λ (b : Bool). elim b [ true ↦ 1 | false ↦ 0 ]) e in absurd (omega arith)
+
+      tests : (a b c d : Bool) → a && b && c && d ≡ true → (a ≡ true) × ((b ≡ true) × (c ≡ true))
+      tests true true true d e = (refl, (refl, refl))
+      tests true true false d e = off e
+      tests true false c d e = off e
+      tests false b c d e = off e
+
   pub is-call : l .code ≡ 2 → (partIn goals p bytes ≡ Call (l .first) (kindOf (l .second)) (eqb (l .third) 1)) × (l .first < goals)
   unfolding whole
-  is-call k = let v = as-call seen k in (ap (λ (t : TakenPart). t .part) (sym (v .1)), ltb-true _ _ (first-test _ _ _ _ (v .0)))
-    where
-      first-test : (a b c d : Bool) → a && b && c && d ≡ true → a ≡ true
-      first-test true b c d e = refl
-      first-test false b c d e = e
+  is-call k = let v = as-call seen k in (ap (λ (t : TakenPart). t .part) (sym (v .1)), fits k .0)
+
+  -- the kind and the mark of a call have one digit
+  pub has-digits : l .code ≡ 2 → (l .second ≤ 3) × (l .third ≤ 1)
+  has-digits k = fits k .1
 
   pub is-all : l .code ≡ 3 → (partIn goals p bytes ≡ Node All (partsIn goals p (l .first) (drop 16 bytes))) × ReadsParts goals p (l .first) (drop 16 bytes)
   is-all k = node All p (as-all seen k)
@@ -102,6 +114,17 @@ module _ (goals : ℕ) (p : Bool) (bytes : List ℕ) (l : Line) (is : l ≡ line
   pub is-undecided : l .code ≡ 6 → partIn goals p bytes ≡ UndecidedLine
   unfolding whole
   is-undecided k = ap (λ (t : TakenPart). t .part) (sym (as-undecided seen k))
+
+-- ---- the line of a part of some book
+module _ (bytes : List ℕ) (s : StartsPart bytes) where
+  pub part-line : 16 ≤ length bytes
+  part-line = a-line (s .goals) (s .inPick) bytes (lineIn bytes) refl (s .reads)
+
+  pub code-digit : lineIn bytes .code ≤ 6
+  code-digit = known-code (s .goals) (s .inPick) bytes (lineIn bytes) refl (s .reads) .1
+
+  pub call-digits : lineIn bytes .code ≡ 2 → (lineIn bytes .second ≤ 3) × (lineIn bytes .third ≤ 1)
+  call-digits = has-digits (s .goals) (s .inPick) bytes (lineIn bytes) refl (s .reads)
 
 -- ---- the parts below it, one by one
 module _ (goals : ℕ) (p : Bool) (n : ℕ) (bytes : List ℕ) (h : ReadsParts goals p n bytes) where
@@ -131,6 +154,25 @@ module _ (goals : ℕ) (p : Bool) (n : ℕ) (bytes : List ℕ) (h : ReadsParts g
     pub first-and : partsIn goals p n bytes ≡ Then (partIn goals p bytes) others-of
     unfolding others-of
     first-and = ap (λ (t : TakenParts). t .parts) (sym (split .all-are)) ∙ ap (λ (x : Part). Then x (split .others .parts)) (sym (part-is goals p bytes (split .one) first-read))
+
+    -- it was the last
+    module _ (z : n - 1 ≤ 0) (rest : List ℕ) where
+      last : n - 1 ≡ 0
+      last = omega arith
+
+      nothing : partsRead goals p (n - 1) rest ≡ some (record { parts = End; rest = linesIn rest })
+      unfolding partsRead
+      nothing = ap (λ (m : ℕ). readParts (readPart goals 7 p) m (linesIn rest)) last
+
+      pub none-read : ReadsParts goals p (n - 1) rest
+      none-read = reads-parts goals p (n - 1) rest _ nothing
+
+      pub none-then : partsIn goals p n bytes ≡ Then (partIn goals p bytes) (partsIn goals p (n - 1) rest)
+      unfolding others-of
+      none-then =
+          first-and
+          ∙ ap (λ (t : TakenParts). Then (partIn goals p bytes) (t .parts)) (of-some (sym (split .others-are) ∙ ap (λ (m : ℕ). readParts (readPart goals 7 p) m (split .one .rest)) last))
+          ∙ ap (Then (partIn goals p bytes)) (sym (parts-are goals p (n - 1) rest _ nothing))
 
     module _ (rest : List ℕ) (r : linesIn rest ≡ restIn goals p bytes) where
       others : partsRead goals p (n - 1) rest ≡ some (split .others)

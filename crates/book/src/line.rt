@@ -70,6 +70,14 @@ pub fn field_at(s: &[u8], i: usize) -> u16
     field(s[i], s[i + 1], s[i + 2])
 }
 
+// The same where it has one digit: the columns before the last say nothing.
+pub fn digit_at(s: &[u8], i: usize) -> u16
+    requires { ⌜ (i + 2 < length (now s)) × (fieldIn (now s) i ≤ 9) ⌝ }
+    ensures { λ r. ⌜ r ≡ fieldIn (now (s .entry)) i ⌝ }
+{
+    digit(s[i + 2])
+}
+
 // The numbers of the first line.
 pub fn first(s: &[u8]) -> Line
     requires { ⌜ 16 ≤ length (now s) ⌝ }

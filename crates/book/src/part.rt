@@ -1,6 +1,5 @@
 // The parts of a book that was read.
 use crate::line;
-use definition::format::Line;
 use definition::paths::PathKind;
 ghost use mathlib.Core.Path.{_≡_};
 ghost use mathlib.Core.Bool.{Bool};
@@ -27,20 +26,36 @@ pub fn of_goal<'a>(book: &'a [u8], starts: &[u16], goal: usize) -> &'a [u8]
     &book[at..]
 }
 
+// The code of the first line.
+pub fn code(part: &[u8]) -> u16
+    requires { ⌜ StartsPart (now part) ⌝ }
+    ensures { λ r. ⌜ r ≡ lineIn (now (part .entry)) .code ⌝ }
+{
+    line::digit_at(part, 0)
+}
+
+// How many parts stand below the first line of a group.
+pub fn count(part: &[u8]) -> usize
+    requires { ⌜ StartsPart (now part) ⌝ }
+    ensures { λ r. ⌜ (r ≡ lineIn (now (part .entry)) .first) × (r < 65536) ⌝ }
+{
+    line::field_at(part, 3) as usize
+}
+
 // How many parts stand below the first line.
 fn below(part: &[u8]) -> usize
-    requires { ⌜ 16 ≤ length (now part) ⌝ }
+    requires { ⌜ StartsPart (now part) ⌝ }
     ensures { λ r. ⌜ (r ≡ partsBelow (lineIn (now (part .entry)))) × (r < 65536) ⌝ }
 {
-    let code = line::field_at(part, 0);
-    match code {
-        3..=5 => line::field_at(part, 3) as usize,
+    let number = code(part);
+    match number {
+        3..=5 => count(part),
         0..=2 | 6..=65535 => 0,
     }
 }
 
 // Passes over the part that the bytes start with, and hands back the rest.
-pub fn skip(part: &[u8]) -> &[u8]
+fn skip(part: &[u8]) -> &[u8]
     requires { ⌜ StartsPart (now part) ⌝ }
     ensures { λ r. ⌜ ((goals : ℕ) (inPick : Bool) → Reads goals inPick (now (part .entry)) → linesIn (now r) ≡ restIn goals inPick (now (part .entry))) × (length (now r) < length (now (part .entry))) ⌝ }
 {
@@ -51,6 +66,17 @@ pub fn skip(part: &[u8]) -> &[u8]
         t = &t[16..];
     }
     t
+}
+
+// Passes over the part that the bytes start with, where others are left.
+pub fn next(part: &[u8], left: usize) -> &[u8]
+    requires { ⌜ StartsPart (now part) ⌝ }
+    ensures { λ r. ⌜ (0 < left → (goals : ℕ) (inPick : Bool) → Reads goals inPick (now (part .entry)) → linesIn (now r) ≡ restIn goals inPick (now (part .entry))) × (length (now r) ≤ length (now (part .entry))) ⌝ }
+{
+    if left == 0 {
+        return part;
+    }
+    skip(part)
 }
 
 // The kind of a step, by its number.
@@ -66,14 +92,16 @@ fn kind(number: u16) -> PathKind
 }
 
 impl Call {
-    pub fn of_line(l: Line) -> Call
-        ensures { λ r. ⌜ r ≡ callOf l ⌝ }
+    // The call of the first line.
+    pub fn first(part: &[u8]) -> Call
+        requires { ⌜ StartsPart (now part) × (lineIn (now part) .code ≡ 2) ⌝ }
+        ensures { λ r. ⌜ r ≡ callOf (lineIn (now (part .entry))) ⌝ }
     {
-        let step = kind(l.second);
+        let step = kind(line::digit_at(part, 6));
         Call {
-            goal: l.first as usize,
+            goal: line::field_at(part, 3) as usize,
             step,
-            lower: l.third == 1,
+            lower: line::digit_at(part, 9) == 1,
         }
     }
 }

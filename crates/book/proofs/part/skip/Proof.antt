@@ -3,7 +3,7 @@ use Prim.Native.Nat.{_+_, _≤_, _<_}
 use native.Mathlib.Omega.{arith}
 use lib.ListN.{length}
 use Rattle.book.proofs.Lines.{shorter}
-use Rattle.book.proofs.Skips.{PendingAfter, skip-starts, skip-ends, skip-room, skip-line, skip-turn}
+use Rattle.book.proofs.Skips.{PendingAfter, skip-starts, skip-ends, skip-room, skip-line, skip-part, skip-turn}
 use Rattle.book.proofs.part.skip.Statement.{statement}
 use Rattle.book.proofs.part.skip.Tie as tie
 
@@ -21,7 +21,7 @@ sub-pending : tie.Need-sub-pending Inv-loop μ-loop
 sub-pending c = search needs
 
 below-requires : tie.Need-below-requires Inv-loop μ-loop
-below-requires c κs = let l = c .before .loop in skip-line (c .before .before .before .args .part .now) (l .pending) (l .t .now) (l .inv .1 .1) (c .before .before .before .pre) (c .loop-test .taken)
+below-requires c κs = let l = c .before .loop in skip-part (c .before .before .before .args .part .now) (l .pending) (l .t .now) (l .inv .1 .1) (c .before .before .before .pre) (c .loop-test .taken)
 
 add-pending : tie.Need-add-pending Inv-loop μ-loop
 add-pending c = let l = c .before .before .loop in
