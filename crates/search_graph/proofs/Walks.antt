@@ -7,7 +7,6 @@ use native.Mathlib.Omega.{arith}
 use native.Mathlib.Decide.{decLt}
 use lib.ListN.{length, take, drop, length-drop}
 use Rattle.definition.specs.declared.answers.Answer.the-variants as answers
-use Rattle.definition.specs.declared.format.Line.{Line}
 use Rattle.definition.specs.Part.{Part, Parts, Node, Then}
 use Rattle.definition.specs.Part as part
 use Rattle.definition.specs.Graph.{Graph, andThen}
@@ -18,7 +17,7 @@ use Rattle.book.specs.Lines.{lineIn, linesIn}
 use Rattle.book.specs.Calls.{callOf}
 use Rattle.book.specs.Parts.{Reads, partIn, restIn, ReadsParts, partsIn}
 use Rattle.definition.proofs.Lists.{part-from}
-use Rattle.book.proofs.Walk.{known-code, is-call, is-all, is-any, is-pick, is-undecided, no-parts, first-reads, others-of, first-and, others-read, first-then}
+use Rattle.book.proofs.Walk.{known-code, is-call, is-all, is-any, is-pick, is-undecided, no-parts, first-reads, others-of, first-and, none-read, none-then, others-read, first-then}
 use Rattle.evaluation.specs.declared.Outcome.{Outcome}
 use Rattle.evaluation.specs.declared.Outcome.the-variants.{Done}
 use Rattle.evaluation.specs.Workspace.{graphIn}
@@ -38,46 +37,45 @@ use Rattle.search_graph.specs.Calls.{Comes, keptBelow}
 use Rattle.search_graph.proofs.Codes.{opNumber, number, code-is}
 
 -- ---- by the first line
-module _ (goals : ℕ) (inPick : Bool) (p : List ℕ) (l : Line) (is : l ≡ lineIn p) (reads : Reads goals inPick p) (s : Shape) (shaped : s ≡ shapeOf (l .code)) where
-  coded : (k : Shape) → s ≡ k → l .code ≡ number k
-  coded k e = let c = known-code goals inPick p l is reads in code-is (l .code) (c .0) (c .1) k (sym e ∙ shaped)
-
-  -- the group's operation, and its parts
-  pub grouped : (op : Op) → s ≡ shapes.Group op
-      → (op ≡ Pick → inPick ≡ false) × ((partIn goals inPick p ≡ Node (opOf op) (partsIn goals (insideOf op inPick) (l .first) (drop 16 p))) × ReadsParts goals (insideOf op inPick) (l .first) (drop 16 p))
-  grouped op e = go op (coded (shapes.Group op) e)
-    where
-      go : (x : Op) → l .code ≡ opNumber x
-          → (x ≡ Pick → inPick ≡ false) × ((partIn goals inPick p ≡ Node (opOf x) (partsIn goals (insideOf x inPick) (l .first) (drop 16 p))) × ReadsParts goals (insideOf x inPick) (l .first) (drop 16 p))
-      go All k = (λ d. absurd (other d), is-all goals inPick p l is reads k)
-        where
-          other : All ≡ Pick → ⊥
-          other d = let z : _≡_ {A = ℕ} 3 5 = ap opNumber d in omega arith
-      go Any k = (λ d. absurd (other d), is-any goals inPick p l is reads k)
-        where
-          other : Any ≡ Pick → ⊥
-          other d = let z : _≡_ {A = ℕ} 4 5 = ap opNumber d in omega arith
-      go Pick k = let v = is-pick goals inPick p l is reads k in (λ d. v .0, v .1)
-
+module _ (goals : ℕ) (inPick : Bool) (p : List ℕ) (reads : Reads goals inPick p) where
   -- a call
-  pub called : s ≡ shapes.Call → (callOf l .goal < goals) × ((ev : Evaluator) (g : Graph) → evalPart ev goals (partIn goals inPick p) g ≡ ev g (callOf l .goal) (callOf l .step) (callOf l .lower))
-  called e = let v = is-call goals inPick p l is reads (coded shapes.Call e) in (v .1, λ ev g. ap (λ (x : Part). evalPart ev goals x g) (v .0))
+  pub called : lineIn p .code ≡ 2
+      → (callOf (lineIn p) .goal < goals) × ((ev : Evaluator) (g : Graph) → evalPart ev goals (partIn goals inPick p) g ≡ ev g (callOf (lineIn p) .goal) (callOf (lineIn p) .step) (callOf (lineIn p) .lower))
+  called e = let v = is-call goals inPick p (lineIn p) refl reads e in (v .1, λ ev g. ap (λ (x : Part). evalPart ev goals x g) (v .0))
 
-  -- an undecided line
-  pub undecided : s ≡ shapes.Undecided → (ev : Evaluator) (g : Graph) → evalPart ev goals (partIn goals inPick p) g ≡ graph.Done g answers.Undecided
-  undecided e ev g = ap (λ (x : Part). evalPart ev goals x g) (is-undecided goals inPick p l is reads (coded shapes.Undecided e))
+  -- a group: what is asked of the parts below it
+  abbrev pub Grouped : Op → ℕ → List ℕ → Type 0
+  Grouped op n t =
+      (op ≡ Pick → inPick ≡ false) × ((partIn goals inPick p ≡ Node (opOf op) (partsIn goals (insideOf op inPick) n t)) × ReadsParts goals (insideOf op inPick) n t)
 
--- ---- the bytes after the first line, as the code takes them
+  grouped : (op : Op) → lineIn p .code ≡ opNumber op → Grouped op (lineIn p .first) (drop 16 p)
+  grouped All k = (λ d. absurd (other d), is-all goals inPick p (lineIn p) refl reads k)
+    where
+      other : All ≡ Pick → ⊥
+      other d = let z : _≡_ {A = ℕ} 3 5 = ap opNumber d in omega arith
+  grouped Any k = (λ d. absurd (other d), is-any goals inPick p (lineIn p) refl reads k)
+    where
+      other : Any ≡ Pick → ⊥
+      other d = let z : _≡_ {A = ℕ} 4 5 = ap opNumber d in omega arith
+  grouped Pick k = let v = is-pick goals inPick p (lineIn p) refl reads k in (λ d. v .0, v .1)
+
+  module _ (code : ℕ) (is : code ≡ lineIn p .code) (s : Shape) (shaped : s ≡ shapeOf code) where
+    coded : (k : Shape) → s ≡ k → lineIn p .code ≡ number k
+    coded k e = let c = known-code goals inPick p (lineIn p) refl reads in code-is (lineIn p .code) (c .0) (c .1) k (sym e ∙ shaped ∙ ap shapeOf is)
+
+    pub call-code : s ≡ shapes.Call → lineIn p .code ≡ 2
+    call-code e = coded shapes.Call e
+
+    -- an undecided line
+    pub undecided : s ≡ shapes.Undecided → (ev : Evaluator) (g : Graph) → evalPart ev goals (partIn goals inPick p) g ≡ graph.Done g answers.Undecided
+    undecided e ev g = ap (λ (x : Part). evalPart ev goals x g) (is-undecided goals inPick p (lineIn p) refl reads (coded shapes.Undecided e))
+
+    -- a group, with the bytes after the first line as the code takes them
+    pub in-part : (op : Op) → s ≡ shapes.Group op → (n : ℕ) → n ≡ lineIn p .first → Grouped op n (take (length p - 16) (drop 16 p))
+    in-part op e n count = rw (count, part-from) (grouped op (coded (shapes.Group op) e))
+
 pub part-shorter : (n : ℕ) (bs : List ℕ) → 0 < n → n ≤ length bs → length (take (length bs - n) (drop n bs)) < length bs
 part-shorter n bs pos h = let e : length (take (length bs - n) (drop n bs)) ≡ length bs - n = ap length (part-from n bs) ∙ length-drop n bs in omega arith
-
-pub in-part : (goals : ℕ) (inPick : Bool) (p : List ℕ) (l : Line) (is : l ≡ lineIn p) (reads : Reads goals inPick p) (s : Shape) (shaped : s ≡ shapeOf (l .code)) (op : Op) → s ≡ shapes.Group op
-    → (op ≡ Pick → inPick ≡ false) × ((partIn goals inPick p ≡ Node (opOf op) (partsIn goals (insideOf op inPick) (l .first) (take (length p - 16) (drop 16 p)))) × ReadsParts goals (insideOf op inPick) (l .first) (take (length p - 16) (drop 16 p)))
-in-part goals inPick p l is reads s shaped op e =
-    subst
-    (λ (t : List ℕ). (op ≡ Pick → inPick ≡ false) × ((partIn goals inPick p ≡ Node (opOf op) (partsIn goals (insideOf op inPick) (l .first) t)) × ReadsParts goals (insideOf op inPick) (l .first) t))
-    (sym (part-from 16 p))
-    (grouped goals inPick p l is reads s shaped op e)
 
 -- ---- which merged usages are kept
 kept-by : (op : Op) (inPick : Bool) (goals height : ℕ) (old new : List ℕ) → (op ≡ Pick → inPick ≡ false) → Kept op goals (height - 1) old new
@@ -164,6 +162,15 @@ module _ (ev : Evaluator) (goals root height : ℕ) (inPick inside : Bool) (op :
           ∙ enter .kept i (under-goals inPick height goals i few-frames lt)
           ∙ walk .merged i lt
 
+      -- the parts after the first
+      parts-left : (u : List ℕ) → (0 < k - 1 → linesIn u ≡ restIn goals inside t)
+          → ReadsParts goals inside (k - 1) u × (partsIn goals inside k t ≡ Then (partIn goals inside t) (partsIn goals inside (k - 1) u))
+      parts-left u after-t =
+          elim (decLt 0 (k - 1)) [
+            | yes h ↦ (others-read goals inside k t (walk .parts) pos u (after-t h), first-then goals inside k t (walk .parts) pos u (after-t h))
+            | no h ↦ (none-read goals inside k t (walk .parts) pos (omega arith) u, none-then goals inside k t (walk .parts) pos (omega arith) u)
+          ]
+
       pub walk-stops : (x : Outcome) → r ≡ End x → Comes goals root height (keptBelow inPick height) whole first work3 cache2 x
       unfolding stepOf
       walk-stops x e =
@@ -174,20 +181,21 @@ module _ (ev : Evaluator) (goals root height : ℕ) (inPick inside : Bool) (op :
             merged = merged-on;
           }
 
-      pub walk-next : (x : Group) → r ≡ More x → (u : List ℕ) → linesIn u ≡ restIn goals inside t → length u < length t
+      pub walk-next : (x : Group) → r ≡ More x → (u : List ℕ) → (0 < k - 1 → linesIn u ≡ restIn goals inside t) → length u ≤ length t
           → Walk ev goals root height inPick inside op whole room first work3 cache2 x u (k - 1)
       unfolding stepOf
       walk-next x e u after-t lt =
           let s = walk .shorter in
+          let left = parts-left u after-t in
           let ps = partsIn goals inside (k - 1) u in
           record {
             alone = walk .alone;
             within = walk .within;
             same = after .kind x e ∙ walk .same;
             few = after .count x e;
-            parts = others-read goals inside k t (walk .parts) pos u after-t;
+            parts = left .0;
             shorter = omega arith;
-            value = sym (ap (stepOf ev goals height ps root work3 cache2) e) ∙ steps-on ps (first-then goals inside k t (walk .parts) pos u after-t);
+            value = sym (ap (stepOf ev goals height ps root work3 cache2) e) ∙ steps-on ps (left .1);
             merged = merged-on;
           }
 

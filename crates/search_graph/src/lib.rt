@@ -1,8 +1,7 @@
-// evaluate_goal, evaluate_goal_in_task and the delegate's compute_goal: three functions
-// that call each other in a cycle. What stands between their calls is in other functions.
+// evaluate_goal, evaluate_goal_in_task and the delegate's compute_goal, which call each
+// other in a cycle. What stands between their calls is in other functions.
 pub mod steps;
 
-use book::line;
 use book::part;
 use book::part::Call;
 use definition::answers::Answer;
@@ -138,12 +137,12 @@ fn read_part(
     requires { ⌜ (1 ≤ height) × Reads (h .goals) in_pick (now p) ⌝ }
     ensures { λ r. ⌜ Comes (h .goals) root height (keptBelow in_pick height) (evalPart (evaluator (now (book .entry)) h height) (h .goals) (partIn (h .goals) in_pick (now (p .entry))) (graphOf (h .goals) root height entries (graphIn (h .goals) (now (work .entry))) (now (cache .entry)))) (now (work .entry)) (now (work .exit)) (now (cache .exit)) r ⌝ }
 {
-    let l = line::first(p);
-    let shape = steps::shape_of(l.code);
+    let code = part::code(p);
+    let shape = steps::shape_of(code);
     match shape {
         Shape::Undecided => Outcome::Done(Answer::Undecided, entries),
         Shape::Call => {
-            let call = Call::of_line(l);
+            let call = Call::first(p);
             let step = call.step;
             evaluate(
                 book,
@@ -163,10 +162,10 @@ fn read_part(
             let inside = steps::inside(op, in_pick);
             let mut group = delegate::begin(op, work, h.goals, height, entries);
             let mut t = &p[16..];
-            let mut k = l.first as usize;
+            let mut k = part::count(p);
             while 0 < k {
                 delegate::before(group, work, h.goals, height);
-                let o = read_part(
+                let o = read_below(
                     book,
                     starts,
                     t,
@@ -187,11 +186,60 @@ fn read_part(
                         group = g;
                     }
                 }
-                let u = part::skip(t);
-                t = u;
                 k = k - 1;
+                let u = part::next(t, k);
+                t = u;
             }
             delegate::end(group, work, h.goals, height)
         }
     }
+}
+
+// The same of a part below another. A call, the commonest, is evaluated at once.
+fn read_below(
+    book: &[u8],
+    starts: &[u16],
+    p: &[u8],
+    cache: &mut [u8],
+    work: &mut [u8],
+    h: Header,
+    root: usize,
+    height: usize,
+    entries: usize,
+    in_pick: bool,
+) -> Outcome
+    requires { ⌜ Running (now book) (now starts) (now cache) (now work) h root height entries ⌝ }
+    requires { ⌜ (1 ≤ height) × Reads (h .goals) in_pick (now p) ⌝ }
+    ensures { λ r. ⌜ Comes (h .goals) root height (keptBelow in_pick height) (evalPart (evaluator (now (book .entry)) h height) (h .goals) (partIn (h .goals) in_pick (now (p .entry))) (graphOf (h .goals) root height entries (graphIn (h .goals) (now (work .entry))) (now (cache .entry)))) (now (work .entry)) (now (work .exit)) (now (cache .exit)) r ⌝ }
+{
+    let code = part::code(p);
+    if code != 2 {
+        return read_part(
+            book,
+            starts,
+            p,
+            cache,
+            work,
+            h,
+            root,
+            height,
+            entries,
+            in_pick,
+        );
+    }
+    let call = Call::first(p);
+    let step = call.step;
+    evaluate(
+        book,
+        starts,
+        cache,
+        work,
+        h,
+        root,
+        height,
+        entries,
+        call.goal,
+        step,
+        call.lower,
+    )
 }
