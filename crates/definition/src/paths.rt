@@ -62,7 +62,7 @@ impl PathKind {
     }
 
     // The kind's flag in a set of paths.
-    fn flag(self) -> u8
+    pub fn flag(self) -> u8
         ensures { λ r. ⌜ r ≡ flagOf self ⌝ }
     {
         match self {
@@ -74,7 +74,7 @@ impl PathKind {
     }
 
     // The flags below the kind's own.
-    fn weaker_flags(self) -> u8
+    pub fn weaker_flags(self) -> u8
         ensures { λ r. ⌜ r ≡ weakerFlags self ⌝ }
     {
         match self {
@@ -84,6 +84,16 @@ impl PathKind {
             PathKind::ForcedAmbiguity => 15,
         }
     }
+}
+
+// The set with a kind's flag for those below it, given both.
+pub fn replace_weaker(bits: u8, weaker: u8, flag: u8) -> u8
+    ensures { λ r. ⌜ ((kind : PathKind) → weaker ≡ weakerFlags kind → flag ≡ flagOf kind → r ≡ extendWith bits kind) ⌝ }
+{
+    if bits & weaker == 0 {
+        return bits;
+    }
+    (bits & !weaker) | flag
 }
 
 impl PathsToNested {
@@ -127,11 +137,9 @@ impl PathsToNested {
         ensures { λ r. ⌜ r .bits ≡ extendWith (self .bits) kind ⌝ }
     {
         let weaker = kind.weaker_flags();
-        if self.bits & weaker == 0 {
-            return self;
-        }
+        let flag = kind.flag();
         PathsToNested {
-            bits: (self.bits & !weaker) | kind.flag(),
+            bits: replace_weaker(self.bits, weaker, flag),
         }
     }
 

@@ -1,11 +1,12 @@
 -- The loop of `extend_nested`.
 use mathlib.Core.Path.{_≡_, refl, sym, ap, ap₂, _∙_}
 use mathlib.Core.List.{List, [], _∷_, _++_, append-nil}
-use Prim.Native.Nat.{ℕ, zero, suc, _+_, _≤_, _<_}
+use Prim.Native.Nat.{ℕ, zero, suc, _+_, _≤_, _<_, min}
 use native.Mathlib.Numerals.{add-one}
 use native.Mathlib.Omega.{arith}
+use native.Mathlib.Decide.{decLt}
 use lib.Bits.{bitOr, or-zero-r}
-use lib.ListN.{length, getD, set, take, drop, drop-of-length-le}
+use lib.ListN.{length, getD, set, take, drop, drop-of-length-le, take-append-drop}
 use lib.Seq.{take-all}
 use Rattle.definition.specs.declared.paths.PathKind.{PathKind}
 use Rattle.definition.specs.declared.paths.PathKind.the-variants.{Inductive, Unknown, Coinductive, ForcedAmbiguity}
@@ -47,6 +48,14 @@ extend-more ns k cs whole i v b rest h eb ev =
     ap₂ (λ (n x : ℕ). extendedFrom n (set ns i x) k cs) (add-one i) (ev ∙ ap (λ (x : ℕ). bitOr (getD ns i 0) (extendWith x k)) eb)
     ∙ extend-step ns k cs i h ∙ rest
 
-pub extend-all : (ns : NestedGoals) (k : PathKind) (cs whole : NestedGoals) (i : ℕ) → extendedFrom i ns k cs ≡ whole → length ns ≤ i → ns ≡ whole
-extend-all ns k cs whole i rest h =
-    sym (ap₂ (λ (l m : NestedGoals). l ++ extendFromChild m k (drop i cs)) (take-all i ns h) (drop-of-length-le ns {i = i} h) ∙ append-nil ns) ∙ rest
+-- the loop ends where one of the two ends
+pub extend-all : (ns : NestedGoals) (k : PathKind) (cs whole : NestedGoals) (n i : ℕ) → extendedFrom i ns k cs ≡ whole → n ≡ min (length ns) (length cs) → n ≤ i → ns ≡ whole
+extend-all ns k cs whole n i rest least h =
+    elim (decLt i (length ns)) [
+      | yes lt ↦
+          let short : length cs ≤ i = omega arith in
+          sym (ap (λ (l : NestedGoals). take i ns ++ extendFromChild (drop i ns) k l) (drop-of-length-le cs {i = i} short) ∙ ap (λ (l : NestedGoals). take i ns ++ l) (extend-none (drop i ns) k) ∙ take-append-drop i ns) ∙ rest
+      | no ge ↦
+          let all : length ns ≤ i = omega arith in
+          sym (ap₂ (λ (l m : NestedGoals). l ++ extendFromChild m k (drop i cs)) (take-all i ns all) (drop-of-length-le ns {i = i} all) ∙ append-nil ns) ∙ rest
+    ]

@@ -1,5 +1,6 @@
 // The parent's frame, after a nested goal.
 use definition::heads::CycleHead;
+use definition::paths;
 use definition::paths::PathKind;
 use definition::paths::PathsToNested;
 use definition::usages::HeadUsages;
@@ -140,22 +141,27 @@ fn insert_itself(f: &mut [u8], goals: usize)
     insert_nested(f, goals, goal, 1);
 }
 
-// The paths to a nested goal, with those by way of a child.
-fn with_child(paths: u8, child: u8, step: PathKind) -> u8
-    ensures { λ r. ⌜ r ≡ bitOr paths (extendWith child step) ⌝ }
+fn least(a: usize, b: usize) -> usize
+    ensures { λ r. ⌜ r ≡ min a b ⌝ }
 {
-    let through = PathsToNested { bits: child };
-    let extended = through.extend_with(step);
-    paths | extended.bits
+    if a < b {
+        return a;
+    }
+    b
 }
 
-// extend_from_child, on the bytes of the nested goals.
+// extend_from_child, on the bytes of the nested goals. What the step replaces is worked out
+// before the loop.
 fn extend_nested(nested: &mut [u8], step: PathKind, child: &[u8])
     ensures { λ _. ⌜ now (nested .exit) ≡ extendFromChild (now (nested .entry)) step (now (child .entry)) ⌝ }
 {
+    let weaker = step.weaker_flags();
+    let flag = step.flag();
+    let n = least(nested.len(), child.len());
     let mut i: usize = 0;
-    while i < nested.len() {
-        nested[i] = with_child(nested[i], buffer::get(child, i), step);
+    while i < n {
+        let through = paths::replace_weaker(child[i], weaker, flag);
+        nested[i] = nested[i] | through;
         i = i + 1;
     }
 }
