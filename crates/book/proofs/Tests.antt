@@ -6,7 +6,7 @@ use native.Mathlib.Omega.{arith}
 use native.Mathlib.Decide.{ℕ-discrete, decLe}
 use lib.Dec.{eqb, leb}
 use borrow.Author.Tests.{le-leb, lt-leb, eq-eqb, ne-eqb, eqb-true, not-true, not-false}
-use Rattle.definition.specs.Line.{isDigit, isSpace, isLeadingDigit, isField, fieldValue}
+use Rattle.definition.specs.Line.{isDigit, isSpace, isLeadingDigit, isField, digitValue, fieldValue}
 
 pub stop : (a b : Bool) → a ≡ false → false ≡ a && b
 stop a b e = rw e
@@ -71,6 +71,9 @@ module _ (x y : ℕ) where
 
 -- ---- a field
 module _ (x y z : ℕ) where
+  pub last-only : isSpace x && isSpace y ≡ true → digitValue z ≡ fieldValue x y z
+  last-only e = let s = spaces x y e in omega arith
+
   zero-not : (fieldValue x y z ≡ 0 → ⊥) → false ≡ eqb (fieldValue x y z) 0
   zero-not ne = sym (ne-eqb (fieldValue x y z) 0 ne)
 

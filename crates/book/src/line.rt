@@ -74,6 +74,9 @@ fn digit(c: u8) -> u16
 pub fn field(x: u8, y: u8, z: u8) -> u16
     ensures { λ r. ⌜ r ≡ fieldValue x y z ⌝ }
 {
+    if both_spaces(x, y) {
+        return digit(z);
+    }
     digit(x) * 100 + digit(y) * 10 + digit(z)
 }
 
