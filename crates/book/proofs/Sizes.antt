@@ -29,44 +29,46 @@ after-some (suc r) s h = refl
 
 -- ---- the tests on a line
 module _ (l : Line) where
-  pub second-used : (l .second ≡ 0 → ⊥) → false ≡ usesFirst l
-  second-used h = rw (ne-eqb (l .second) 0 h)
+  pub second-used : eqb (l .second) 0 ≡ false → false ≡ usesFirst l
+  second-used h = rw h
 
-  pub third-used : l .second ≡ 0 → (l .third ≡ 0 → ⊥) → false ≡ usesFirst l
-  third-used a h = rw (eq-eqb (l .second) 0 a, ne-eqb (l .third) 0 h)
+  pub third-used : eqb (l .second) 0 ≡ true → eqb (l .third) 0 ≡ false → false ≡ usesFirst l
+  third-used a h = rw (a, h)
 
-  pub fourth-left : l .second ≡ 0 → l .third ≡ 0 → eqb (l .fourth) 0 ≡ usesFirst l
-  fourth-left a b = rw (eq-eqb (l .second) 0 a, eq-eqb (l .third) 0 b)
+  pub fourth-left : eqb (l .second) 0 ≡ true → eqb (l .third) 0 ≡ true → eqb (l .fourth) 0 ≡ usesFirst l
+  fourth-left a b = rw (a, b)
 
-  pub first-used : (l .first ≡ 0 → ⊥) → false ≡ undecidedFits l
-  first-used h = rw (ne-eqb (l .first) 0 h)
+  pub first-used : eqb (l .first) 0 ≡ false → false ≡ undecidedFits l
+  first-used h = rw h
 
-  pub others-left : l .first ≡ 0 → usesFirst l ≡ undecidedFits l
-  others-left a = rw (eq-eqb (l .first) 0 a)
+  pub others-left : eqb (l .first) 0 ≡ true → usesFirst l ≡ undecidedFits l
+  others-left a = rw a
 
-  pub no-goal-code : (g : ℕ) → (l .code ≡ 1 → ⊥) → false ≡ isGoalLine g l
-  no-goal-code g h = rw (ne-eqb (l .code) 1 h)
+  module _ (g code : ℕ) (is-code : code ≡ l .code) where
+    pub no-goal-code : (code ≡ 1 → ⊥) → false ≡ isGoalLine g l
+    no-goal-code h = rw (← is-code, ne-eqb code 1 h)
 
-  pub other-goal : (g : ℕ) → l .code ≡ 1 → (l .first ≡ g → ⊥) → false ≡ isGoalLine g l
-  other-goal g a h = rw (eq-eqb (l .code) 1 a, ne-eqb (l .first) g h)
+    module _ (a : code ≡ 1) (first : ℕ) (is-first : first ≡ l .first) where
+      pub other-goal : (first ≡ g → ⊥) → false ≡ isGoalLine g l
+      other-goal h = rw (← is-code, ← is-first, eq-eqb code 1 a, ne-eqb first g h)
 
-  pub this-goal : (g : ℕ) → l .code ≡ 1 → l .first ≡ g → usesFirst l ≡ isGoalLine g l
-  this-goal g a b = rw (eq-eqb (l .code) 1 a, eq-eqb (l .first) g b)
+      pub this-goal : first ≡ g → usesFirst l ≡ isGoalLine g l
+      this-goal h = rw (← is-code, ← is-first, eq-eqb code 1 a, eq-eqb first g h)
 
-  module _ (goals : ℕ) where
-    pub no-goal : goals ≤ l .first → false ≡ callFits goals l
-    no-goal h = rw (le-ltb (l .first) goals h)
+  module _ (goals first : ℕ) (is-first : first ≡ l .first) where
+    pub no-goal : goals ≤ first → false ≡ callFits goals l
+    no-goal h = rw (← is-first, le-ltb first goals h)
 
-    module _ (a : l .first < goals) where
-      pub no-kind : 3 < l .second → false ≡ callFits goals l
-      no-kind h = rw (lt-ltb (l .first) goals a, lt-leb (l .second) 3 h)
+    module _ (a : first < goals) (second : ℕ) (is-second : second ≡ l .second) where
+      pub no-kind : 3 < second → false ≡ callFits goals l
+      no-kind h = rw (← is-first, ← is-second, lt-ltb first goals a, lt-leb second 3 h)
 
-      module _ (b : l .second ≤ 3) where
-        pub no-lower : 1 < l .third → false ≡ callFits goals l
-        no-lower h = rw (lt-ltb (l .first) goals a, le-leb (l .second) 3 b, lt-leb (l .third) 1 h)
+      module _ (b : second ≤ 3) (third : ℕ) (is-third : third ≡ l .third) where
+        pub no-lower : 1 < third → false ≡ callFits goals l
+        no-lower h = rw (← is-first, ← is-second, ← is-third, lt-ltb first goals a, le-leb second 3 b, lt-leb third 1 h)
 
-        pub rest-left : l .third ≤ 1 → eqb (l .fourth) 0 ≡ callFits goals l
-        rest-left h = rw (lt-ltb (l .first) goals a, le-leb (l .second) 3 b, le-leb (l .third) 1 h)
+        pub rest-left : third ≤ 1 → eqb (l .fourth) 0 ≡ callFits goals l
+        rest-left h = rw (← is-first, ← is-second, ← is-third, lt-ltb first goals a, le-leb second 3 b, le-leb third 1 h)
 
 pub opens : (b : Bool) (n : ℕ) (p : Bool) → b ≡ true → Parts n p ≡ openedIf b n p
 opens b n p e = rw e
@@ -94,41 +96,12 @@ module _ (goals : ℕ) (p : Bool) (inner : Bool → List Line → Option TakenPa
   node op q true n = after-node op (readParts (inner q) n ls)
   node op q false n = refl
 
-  at-code : (r : Opened) (k : ℕ) → l .code ≡ k → afterOpened r inner ls ≡ by k → afterOpened r inner ls ≡ by (l .code)
-  at-code r k e h = h ∙ ap by (sym e)
-
-  module _ (r : Opened) (b : Bool) where
-    pub call-line : r ≡ openedIf b 0 p → b ≡ callFits goals l → l .code ≡ 2 → afterOpened r inner ls ≡ by (l .code)
-    call-line e f k = at-code r 2 k (rw (e, f) (leaf (callFits goals l) _))
-
-    pub undecided-line : r ≡ openedIf b 0 p → b ≡ undecidedFits l → l .code ≡ 6 → afterOpened r inner ls ≡ by (l .code)
-    undecided-line e f k = at-code r 6 k (rw (e, f) (leaf (undecidedFits l) _))
-
-    all-line : r ≡ openedIf b (l .first) p → b ≡ usesFirst l → l .code ≡ 3 → afterOpened r inner ls ≡ by (l .code)
-    all-line e f k = at-code r 3 k (rw (e, f) (node All p (usesFirst l) (l .first)))
-
-    any-line : r ≡ openedIf b (l .first) p → b ≡ usesFirst l → l .code ≡ 4 → afterOpened r inner ls ≡ by (l .code)
-    any-line e f k = at-code r 4 k (rw (e, f) (node Any p (usesFirst l) (l .first)))
-
-    pub group-line : r ≡ openedIf b (l .first) p → b ≡ usesFirst l → (l .code ≡ 2 → ⊥) → 2 ≤ l .code → l .code < 5 → afterOpened r inner ls ≡ by (l .code)
-    group-line e f ne lo hi = elim (ℕ-discrete (l .code) 3) [ yes k ↦ all-line e f k | no k ↦ any-line e f (four (l .code) ne lo hi k) ]
-      where
-        four : (k : ℕ) → (k ≡ 2 → ⊥) → 2 ≤ k → k < 5 → (k ≡ 3 → ⊥) → k ≡ 4
-        four k a lo hi b = omega arith
-
-    pub pick-line : r ≡ openedIf b (l .first) true → b ≡ pickFits p l → l .code ≡ 5 → afterOpened r inner ls ≡ by (l .code)
-    pick-line e f k = at-code r 5 k (rw (e, f) (inside p (usesFirst l)))
-      where
-        inside : (p b : Bool) → afterOpened (openedIf (not p && b) (l .first) true) inner ls ≡ afterPart (elim p [ true ↦ none | false ↦ elim b [ true ↦ nodeOf Pick (readParts (inner true) (l .first) ls) | false ↦ none ] ])
-        inside true b = refl
-        inside false b = node Pick true b (l .first)
-
-  pub low-code : (k : ℕ) → k < 2 → none ≡ by k
+  low-code : (k : ℕ) → k < 2 → none ≡ by k
   low-code zero h = refl
   low-code (suc zero) h = refl
   low-code (suc (suc k)) h = absurd (omega arith)
 
-  pub high-code : (k : ℕ) → 5 ≤ k → (k ≡ 5 → ⊥) → (k ≡ 6 → ⊥) → none ≡ by k
+  high-code : (k : ℕ) → 5 ≤ k → (k ≡ 5 → ⊥) → (k ≡ 6 → ⊥) → none ≡ by k
   high-code zero h a b = absurd (omega arith)
   high-code (suc zero) h a b = absurd (omega arith)
   high-code (suc (suc zero)) h a b = absurd (omega arith)
@@ -137,6 +110,43 @@ module _ (goals : ℕ) (p : Bool) (inner : Bool → List Line → Option TakenPa
   high-code (suc (suc (suc (suc (suc zero))))) h a b = absurd (a refl)
   high-code (suc (suc (suc (suc (suc (suc zero)))))) h a b = absurd (b refl)
   high-code (suc (suc (suc (suc (suc (suc (suc k))))))) h a b = refl
+
+  module _ (code : ℕ) (is : code ≡ l .code) where
+    at-code : (r : Opened) (k : ℕ) → code ≡ k → afterOpened r inner ls ≡ by k → afterOpened r inner ls ≡ by (l .code)
+    at-code r k e h = h ∙ ap by (sym e ∙ is)
+
+    module _ (r : Opened) (b : Bool) where
+      pub call-line : r ≡ openedIf b 0 p → b ≡ callFits goals l → code ≡ 2 → afterOpened r inner ls ≡ by (l .code)
+      call-line e f k = at-code r 2 k (rw (e, f) (leaf (callFits goals l) _))
+
+      pub undecided-line : r ≡ openedIf b 0 p → b ≡ undecidedFits l → code ≡ 6 → afterOpened r inner ls ≡ by (l .code)
+      undecided-line e f k = at-code r 6 k (rw (e, f) (leaf (undecidedFits l) _))
+
+      module _ (n : ℕ) (first : n ≡ l .first) where
+        all-line : r ≡ openedIf b n p → b ≡ usesFirst l → code ≡ 3 → afterOpened r inner ls ≡ by (l .code)
+        all-line e f k = at-code r 3 k (rw (e, f, first) (node All p (usesFirst l) (l .first)))
+
+        any-line : r ≡ openedIf b n p → b ≡ usesFirst l → code ≡ 4 → afterOpened r inner ls ≡ by (l .code)
+        any-line e f k = at-code r 4 k (rw (e, f, first) (node Any p (usesFirst l) (l .first)))
+
+        pub group-line : r ≡ openedIf b n p → b ≡ usesFirst l → (code ≡ 2 → ⊥) → 2 ≤ code → code < 5 → afterOpened r inner ls ≡ by (l .code)
+        group-line e f ne lo hi = elim (ℕ-discrete code 3) [ yes k ↦ all-line e f k | no k ↦ any-line e f (four code ne lo hi k) ]
+          where
+            four : (k : ℕ) → (k ≡ 2 → ⊥) → 2 ≤ k → k < 5 → (k ≡ 3 → ⊥) → k ≡ 4
+            four k a lo hi b = omega arith
+
+        pub pick-line : r ≡ openedIf b n true → b ≡ pickFits p l → code ≡ 5 → afterOpened r inner ls ≡ by (l .code)
+        pick-line e f k = at-code r 5 k (rw (e, f, first) (inside p (usesFirst l)))
+          where
+            inside : (p b : Bool) → afterOpened (openedIf (not p && b) (l .first) true) inner ls ≡ afterPart (elim p [ true ↦ none | false ↦ elim b [ true ↦ nodeOf Pick (readParts (inner true) (l .first) ls) | false ↦ none ] ])
+            inside true b = refl
+            inside false b = node Pick true b (l .first)
+
+    pub low-line : code < 2 → none ≡ by (l .code)
+    low-line h = low-code code h ∙ ap by is
+
+    pub high-line : 5 ≤ code → (code ≡ 5 → ⊥) → (code ≡ 6 → ⊥) → none ≡ by (l .code)
+    high-line h a b = high-code code h a b ∙ ap by is
 
 -- ---- a part, nested at most n deep
 module _ (goals n : ℕ) (p : Bool) where
@@ -150,11 +160,10 @@ module _ (goals n : ℕ) (p : Bool) where
     pub too-short : length s < 16 → none ≡ afterPart (readPart goals n p (linesIn s))
     too-short h = sym (ap afterPart (open-up (linesIn s) ∙ ap (readFirst goals p (readPart goals (n - 1))) (lines-none s h)))
 
-    module _ (room : 16 ≤ length s) (l : Line) (is : l ≡ lineIn s) (r : Opened) (said : (inner : Bool → List Line → Option TakenPart) (ls : List Line) → afterOpened r inner ls ≡ afterPart (readByCode goals (l .code) p inner l ls)) where
+    module _ (room : 16 ≤ length s) (r : Opened) (said : (inner : Bool → List Line → Option TakenPart) (ls : List Line) → afterOpened r inner ls ≡ afterPart (readByCode goals (lineIn s .code) p inner (lineIn s) ls)) where
       by-line : afterOpened r (readPart goals (n - 1)) (linesIn (drop 16 s)) ≡ afterPart (readPart goals n p (linesIn s))
       by-line =
           said (readPart goals (n - 1)) (linesIn (drop 16 s))
-          ∙ ap (λ (x : Line). afterPart (readFirst goals p (readPart goals (n - 1)) (x ∷ linesIn (drop 16 s)))) is
           ∙ sym (ap afterPart (open-up (linesIn s) ∙ ap (readFirst goals p (readPart goals (n - 1))) (lines-cons s room)))
 
       pub opened-none : r ≡ Nothing → none ≡ afterPart (readPart goals n p (linesIn s))
@@ -223,14 +232,14 @@ module _ (goals g : ℕ) (s : List ℕ) where
     goal-line : readGoal goals g (linesIn s) ≡ ifGoal (isGoalLine g (lineIn s))
     goal-line = ap (readGoal goals g) (lines-cons s room)
 
-    pub goal-wrong : (l : Line) (b : Bool) → l ≡ lineIn s → b ≡ isGoalLine g l → not b ≡ true → none ≡ afterPart (readGoal goals g (linesIn s))
-    goal-wrong l b is e h = ap (λ (x : Bool). afterPart (ifGoal x)) (sym (refused e h) ∙ ap (isGoalLine g) is) ∙ ap afterPart (sym goal-line)
+    pub goal-wrong : (b : Bool) → b ≡ isGoalLine g (lineIn s) → not b ≡ true → none ≡ afterPart (readGoal goals g (linesIn s))
+    goal-wrong b e h = ap (λ (x : Bool). afterPart (ifGoal x)) (sym (refused e h)) ∙ ap afterPart (sym goal-line)
 
-    module _ (l : Line) (b : Bool) (is : l ≡ lineIn s) (e : b ≡ isGoalLine g l) (h : not b ≡ false) (r : ℕ) (said : afterBytes r (take (length s - 16) (drop 16 s)) ≡ afterPart (readPart goals 8 false (linesIn (take (length s - 16) (drop 16 s))))) where
+    module _ (b : Bool) (e : b ≡ isGoalLine g (lineIn s)) (h : not b ≡ false) (r : ℕ) (said : afterBytes r (take (length s - 16) (drop 16 s)) ≡ afterPart (readPart goals 8 false (linesIn (take (length s - 16) (drop 16 s))))) where
       goal-right : afterBytes r (drop 16 s) ≡ afterPart (readGoal goals g (linesIn s))
       goal-right =
           rw part-from at said
-          ∙ ap (λ (x : Bool). afterPart (ifGoal x)) (sym (held e h) ∙ ap (isGoalLine g) is)
+          ∙ ap (λ (x : Bool). afterPart (ifGoal x)) (sym (held e h))
           ∙ ap afterPart (sym goal-line)
 
       pub goal-none : r ≡ 0 → none ≡ afterPart (readGoal goals g (linesIn s))

@@ -1,12 +1,12 @@
 -- Tests in a row, and the tests on a column of a line.
 use mathlib.Core.Path.{_≡_, refl, sym, ap, _∙_}
 use mathlib.Core.Bool.{Bool, true, false, _&&_, _||_, not}
-use Prim.Native.Nat.{ℕ, _≤_, _<_}
+use Prim.Native.Nat.{ℕ, _+_, _*_, _≤_, _<_}
 use native.Mathlib.Omega.{arith}
-use native.Mathlib.Decide.{ℕ-discrete}
+use native.Mathlib.Decide.{ℕ-discrete, decLe}
 use lib.Dec.{eqb, leb}
-use borrow.Author.Tests.{le-leb, lt-leb, eq-eqb, ne-eqb, not-true, not-false}
-use Rattle.definition.specs.Line.{isDigit, isSpace, isLeadingDigit, isField}
+use borrow.Author.Tests.{le-leb, lt-leb, eq-eqb, ne-eqb, eqb-true, not-true, not-false}
+use Rattle.definition.specs.Line.{isDigit, isSpace, isLeadingDigit, isField, digitValue, fieldValue}
 
 pub stop : (a b : Bool) → a ≡ false → false ≡ a && b
 stop a b e = rw e
@@ -45,8 +45,57 @@ from-leading c h =
     last true a b e f = rw (← e, f)
     last false a b e f = rw (← e)
 
+-- ---- two columns at once
+pub one-number : (x y v w : ℕ) → v ≡ x → v ≤ 255 → w ≡ y → eqb (v + 256 * w) 8224 ≡ isSpace x && isSpace y
+one-number x y v w e h f =
+    elim (ℕ-discrete x 32) [
+      | no ne ↦ let n : v + 256 * w ≡ 8224 → ⊥ = λ k. omega arith in rw (ne-eqb (v + 256 * w) 8224 n, ne-eqb x 32 ne)
+      | yes a ↦ rw (eq-eqb x 32 a) (elim (ℕ-discrete y 32) [
+        | no ne ↦ let n : v + 256 * w ≡ 8224 → ⊥ = λ k. omega arith in rw (ne-eqb (v + 256 * w) 8224 n, ne-eqb y 32 ne)
+        | yes b ↦ let n : v + 256 * w ≡ 8224 = omega arith in rw (eq-eqb (v + 256 * w) 8224 n, eq-eqb y 32 b)
+      ])
+    ]
+
+module _ (x y : ℕ) where
+  pub spaces : isSpace x && isSpace y ≡ true → (x ≡ 32) × (y ≡ 32)
+  spaces e = let (a, b) = both (isSpace x) (isSpace y) e in (eqb-true x 32 a, eqb-true y 32 b)
+    where
+      both : (a b : Bool) → a && b ≡ true → (a ≡ true) × (b ≡ true)
+      both true b e = (refl, e)
+      both false b e = absurd (let z : _≡_ {A = ℕ} 0 1 = cc in omega arith)
+
+  pub no-spaces : isSpace x && isSpace y ≡ false → x ≡ 32 → y ≡ 32 → ⊥
+  no-spaces e f g =
+      let t : isSpace x && isSpace y ≡ true = rw (eq-eqb x 32 f, eq-eqb y 32 g) in
+      let z : _≡_ {A = ℕ} 0 1 = cc in omega arith
+
 -- ---- a field
 module _ (x y z : ℕ) where
+  pub last-only : isSpace x && isSpace y ≡ true → digitValue z ≡ fieldValue x y z
+  last-only e = let s = spaces x y e in omega arith
+
+  zero-not : (fieldValue x y z ≡ 0 → ⊥) → false ≡ eqb (fieldValue x y z) 0
+  zero-not ne = sym (ne-eqb (fieldValue x y z) 0 ne)
+
+  pub no-zero-last : 48 < z → false ≡ eqb (fieldValue x y z) 0
+  no-zero-last h = zero-not (λ e. omega arith)
+
+  pub no-zero-first : 48 < x → false ≡ eqb (fieldValue x y z) 0
+  no-zero-first h = zero-not (λ e. omega arith)
+
+  module _ (last : z ≤ 48) where
+    pub zero-spaced : isSpace x && isSpace y ≡ true → true ≡ eqb (fieldValue x y z) 0
+    zero-spaced e =
+        let s = spaces x y e in
+        let n : fieldValue x y z ≡ 0 = omega arith in sym (eq-eqb (fieldValue x y z) 0 n)
+
+    pub zero-left : x ≤ 48 → leb y 48 ≡ eqb (fieldValue x y z) 0
+    zero-left h =
+        elim (decLe y 48) [
+          | yes le ↦ let n : fieldValue x y z ≡ 0 = omega arith in le-leb y 48 le ∙ sym (eq-eqb (fieldValue x y z) 0 n)
+          | no gt ↦ let l : 48 < y = omega arith in lt-leb y 48 l ∙ zero-not (λ e. omega arith)
+        ]
+
   pub no-last : isDigit z ≡ false → false ≡ isField x y z
   no-last e = stop _ _ e
 
@@ -73,8 +122,8 @@ module _ (x y z : ℕ) where
         go a true c d e f = rw e
         go a false c d e f = rw (e, f)
 
-    pub one-column : x ≡ 32 → y ≡ 32 → true ≡ isField x y z
-    one-column e f = ap (λ (n : ℕ). isSpace n || isLeadingDigit n) (sym f) ∙ spaced e
+    pub one-column : isSpace x && isSpace y ≡ true → true ≡ isField x y z
+    one-column e = let (f, g) = spaces x y e in ap (λ (n : ℕ). isSpace n || isLeadingDigit n) (sym g) ∙ spaced f
 
     pub two-columns : x ≡ 32 → (y ≡ 32 → ⊥) → isLeadingDigit y ≡ isField x y z
     two-columns e f = go (isSpace y) (isLeadingDigit y) (ne-eqb y 32 f) ∙ spaced e

@@ -1,14 +1,14 @@
 // The grammar of a book's body.
 use crate::line;
-use definition::format::Line;
 ghost use mathlib.Core.Path.{_≡_};
 ghost use mathlib.Core.Bool.{Bool};
 ghost use mathlib.Core.Option.{Option};
 ghost use mathlib.Core.List.{List};
 ghost use Prim.Native.Nat.{_≤_};
 ghost use lib.ListN.{length};
+ghost use Rattle.definition.specs.declared.format.Line.{Line};
 ghost use Rattle.definition.specs.Reader.{TakenPart, usesFirst, readByCode, readPart, isGoalLine, readGoal};
-ghost use Rattle.book.specs.Lines.{linesIn};
+ghost use Rattle.book.specs.Lines.{lineIn, linesIn};
 ghost use Rattle.book.specs.Grammar.{afterPart, afterBytes, afterOpened, openedIf, callFits, undecidedFits, pickFits};
 
 // What the first line of a part opens: so many parts that follow it, with whether they
@@ -21,51 +21,55 @@ pub enum Opened {
 // ---- one line
 
 // Whether only the code and the first number are used.
-fn uses_first(l: Line) -> bool
-    ensures { λ r. ⌜ r ≡ usesFirst l ⌝ }
+fn uses_first(s: &[u8]) -> bool
+    requires { ⌜ 16 ≤ length (now s) ⌝ }
+    ensures { λ r. ⌜ r ≡ usesFirst (lineIn (now (s .entry))) ⌝ }
 {
-    if l.second != 0 {
+    if !line::is_zero_at(s, 6) {
         return false;
     }
-    if l.third != 0 {
+    if !line::is_zero_at(s, 9) {
         return false;
     }
-    l.fourth == 0
+    line::is_zero_at(s, 12)
 }
 
-fn call_fits(l: Line, goals: usize) -> bool
-    ensures { λ r. ⌜ r ≡ callFits goals l ⌝ }
+fn call_fits(s: &[u8], goals: usize) -> bool
+    requires { ⌜ 16 ≤ length (now s) ⌝ }
+    ensures { λ r. ⌜ r ≡ callFits goals (lineIn (now (s .entry))) ⌝ }
 {
-    let goal = l.first as usize;
+    let goal = line::field_at(s, 3) as usize;
     if goals <= goal {
         return false;
     }
-    if 3 < l.second {
+    if 3 < line::field_at(s, 6) {
         return false;
     }
-    if 1 < l.third {
+    if 1 < line::field_at(s, 9) {
         return false;
     }
-    l.fourth == 0
+    line::is_zero_at(s, 12)
 }
 
-fn undecided_fits(l: Line) -> bool
-    ensures { λ r. ⌜ r ≡ undecidedFits l ⌝ }
+fn undecided_fits(s: &[u8]) -> bool
+    requires { ⌜ 16 ≤ length (now s) ⌝ }
+    ensures { λ r. ⌜ r ≡ undecidedFits (lineIn (now (s .entry))) ⌝ }
 {
-    if l.first != 0 {
+    if !line::is_zero_at(s, 3) {
         return false;
     }
-    uses_first(l)
+    uses_first(s)
 }
 
 // A pick never stands inside a pick.
-fn pick_fits(l: Line, in_pick: bool) -> bool
-    ensures { λ r. ⌜ r ≡ pickFits «in_pick» l ⌝ }
+fn pick_fits(s: &[u8], in_pick: bool) -> bool
+    requires { ⌜ 16 ≤ length (now s) ⌝ }
+    ensures { λ r. ⌜ r ≡ pickFits «in_pick» (lineIn (now (s .entry))) ⌝ }
 {
     if in_pick {
         return false;
     }
-    uses_first(l)
+    uses_first(s)
 }
 
 fn opened_if(fits: bool, count: u16, in_pick: bool) -> Opened
@@ -77,15 +81,16 @@ fn opened_if(fits: bool, count: u16, in_pick: bool) -> Opened
     Opened::Nothing
 }
 
-fn opened_by(l: Line, goals: usize, in_pick: bool) -> Opened
-    ensures { λ r. ⌜ ((inner : Bool → List Line → Option TakenPart) (ls : List Line) → afterOpened r inner ls ≡ afterPart (readByCode goals (l .code) «in_pick» inner l ls)) ⌝ }
+fn opened_by(s: &[u8], goals: usize, in_pick: bool) -> Opened
+    requires { ⌜ 16 ≤ length (now s) ⌝ }
+    ensures { λ r. ⌜ ((inner : Bool → List Line → Option TakenPart) (ls : List Line) → afterOpened r inner ls ≡ afterPart (readByCode goals (lineIn (now (s .entry)) .code) «in_pick» inner (lineIn (now (s .entry))) ls)) ⌝ }
 {
-    let code = l.code;
+    let code = line::field_at(s, 0);
     match code {
-        2 => opened_if(call_fits(l, goals), 0, in_pick),
-        3..=4 => opened_if(uses_first(l), l.first, in_pick),
-        5 => opened_if(pick_fits(l, in_pick), l.first, true),
-        6 => opened_if(undecided_fits(l), 0, in_pick),
+        2 => opened_if(call_fits(s, goals), 0, in_pick),
+        3..=4 => opened_if(uses_first(s), line::field_at(s, 3), in_pick),
+        5 => opened_if(pick_fits(s, in_pick), line::field_at(s, 3), true),
+        6 => opened_if(undecided_fits(s), 0, in_pick),
         0..=1 | 7..=65535 => Opened::Nothing,
     }
 }
@@ -103,7 +108,7 @@ fn part_size(s: &[u8], goals: usize, nest: u8, in_pick: bool) -> usize
     if s.len() < 16 {
         return 0;
     }
-    let first = opened_by(line::first(s), goals, in_pick);
+    let first = opened_by(s, goals, in_pick);
     let Opened::Parts(count, inside) = first else {
         return 0;
     };
@@ -120,17 +125,18 @@ fn part_size(s: &[u8], goals: usize, nest: u8, in_pick: bool) -> usize
     at
 }
 
-fn is_goal_line(l: Line, goal: usize) -> bool
-    ensures { λ r. ⌜ r ≡ isGoalLine goal l ⌝ }
+fn is_goal_line(s: &[u8], goal: usize) -> bool
+    requires { ⌜ 16 ≤ length (now s) ⌝ }
+    ensures { λ r. ⌜ r ≡ isGoalLine goal (lineIn (now (s .entry))) ⌝ }
 {
-    if l.code != 1 {
+    if line::field_at(s, 0) != 1 {
         return false;
     }
-    let number = l.first as usize;
+    let number = line::field_at(s, 3) as usize;
     if number != goal {
         return false;
     }
-    uses_first(l)
+    uses_first(s)
 }
 
 // How many bytes a goal's line and its part take that s starts with; 0 where s starts
@@ -141,7 +147,7 @@ pub fn goal_size(s: &[u8], goals: usize, goal: usize) -> usize
     if s.len() < 16 {
         return 0;
     }
-    if !is_goal_line(line::first(s), goal) {
+    if !is_goal_line(s, goal) {
         return 0;
     }
     let n = part_size(&s[16..], goals, 8, false);

@@ -1,9 +1,11 @@
 // A line of a book: 16 bytes, five fields of three columns and a newline.
 use definition::format::Line;
 ghost use mathlib.Core.Path.{_≡_};
+ghost use mathlib.Core.Bool.{_&&_};
 ghost use Prim.Native.Nat.{_+_, _≤_, _<_};
+ghost use lib.Dec.{eqb};
 ghost use lib.ListN.{length};
-ghost use Rattle.definition.specs.Line.{isDigit, isLeadingDigit, isField, digitValue, fieldValue};
+ghost use Rattle.definition.specs.Line.{isDigit, isSpace, isLeadingDigit, isField, digitValue, fieldValue};
 ghost use Rattle.definition.specs.Reader.{linesOf};
 ghost use Rattle.book.specs.Lines.{fieldIn, lineIn, fieldFits, lineFits, linesIf};
 
@@ -26,6 +28,19 @@ fn is_leading_digit(c: u8) -> bool
     c <= 57
 }
 
+fn wide(c: u8) -> u32
+    ensures { λ r. ⌜ (r ≡ c) × (r ≤ 255) ⌝ }
+{
+    c as u32
+}
+
+// Whether two columns are spaces, by one comparison.
+fn both_spaces(x: u8, y: u8) -> bool
+    ensures { λ r. ⌜ r ≡ isSpace x && isSpace y ⌝ }
+{
+    wide(x) + 256 * wide(y) == 8224
+}
+
 // Whether three columns are a field: right-justified after spaces, no leading zero.
 pub fn is_field(x: u8, y: u8, z: u8) -> bool
     ensures { λ r. ⌜ r ≡ isField x y z ⌝ }
@@ -33,14 +48,14 @@ pub fn is_field(x: u8, y: u8, z: u8) -> bool
     if !is_digit(z) {
         return false;
     }
+    if both_spaces(x, y) {
+        return true;
+    }
     if x != 32 {
         if is_leading_digit(x) {
             return is_digit(y);
         }
         return false;
-    }
-    if y == 32 {
-        return true;
     }
     is_leading_digit(y)
 }
@@ -59,7 +74,26 @@ fn digit(c: u8) -> u16
 pub fn field(x: u8, y: u8, z: u8) -> u16
     ensures { λ r. ⌜ r ≡ fieldValue x y z ⌝ }
 {
+    if both_spaces(x, y) {
+        return digit(z);
+    }
     digit(x) * 100 + digit(y) * 10 + digit(z)
+}
+
+// Whether a field says 0: no column is above '0'.
+fn is_zero(x: u8, y: u8, z: u8) -> bool
+    ensures { λ r. ⌜ r ≡ eqb (fieldValue x y z) 0 ⌝ }
+{
+    if 48 < z {
+        return false;
+    }
+    if both_spaces(x, y) {
+        return true;
+    }
+    if 48 < x {
+        return false;
+    }
+    y <= 48
 }
 
 // The number of the field whose first column is at place i.
@@ -76,6 +110,14 @@ pub fn digit_at(s: &[u8], i: usize) -> u16
     ensures { λ r. ⌜ r ≡ fieldIn (now (s .entry)) i ⌝ }
 {
     digit(s[i + 2])
+}
+
+// Whether the field whose first column is at place i says 0.
+pub fn is_zero_at(s: &[u8], i: usize) -> bool
+    requires { ⌜ i + 2 < length (now s) ⌝ }
+    ensures { λ r. ⌜ r ≡ eqb (fieldIn (now (s .entry)) i) 0 ⌝ }
+{
+    is_zero(s[i], s[i + 1], s[i + 2])
 }
 
 // The numbers of the first line.

@@ -7,15 +7,12 @@ use Rattle.book.proofs.grammar.goal_size.Tie as tie
 returns : tie.Need-returns
 returns c = let a = c .before .before .args in (goal-short (a .goals) (a .goal) (a .s .now) (c .if1 .taken), omega arith)
 
-first-requires : tie.Need-first-requires
-first-requires c κs = search needs
-
 is-goal-line-requires : tie.Need-is-goal-line-requires
 is-goal-line-requires c κs = search needs
 
 returns-2 : tie.Need-returns-2
-returns-2 c = let a = c .before .before .before .before .before .args in
-    (goal-wrong (a .goals) (a .goal) (a .s .now) (c .before .before .before .if1 .left) (c .before .before .first .result) (c .before .is-goal-line .result) (c .before .before .first .ensures) (c .before .is-goal-line .ensures) (c .if2 .taken), omega arith)
+returns-2 c = let a = c .before .before .before .before .args in
+    (goal-wrong (a .goals) (a .goal) (a .s .now) (c .before .before .if1 .left) (c .before .is-goal-line .result) (c .before .is-goal-line .ensures) (c .if2 .taken), omega arith)
 
 sub-part-size : tie.Need-sub-part-size
 sub-part-size c = search needs
@@ -30,22 +27,21 @@ part-size-requires : tie.Need-part-size-requires
 part-size-requires c κs = search needs
 
 returns-3 : tie.Need-returns-3
-returns-3 c = let a = c .before .before .before .before .before .before .before .before .args in
-    (goal-none (a .goals) (a .goal) (a .s .now) (c .before .before .before .before .before .before .if1 .left) (c .before .before .before .before .before .first .result) (c .before .before .before .before .is-goal-line .result) (c .before .before .before .before .before .first .ensures) (c .before .before .before .before .is-goal-line .ensures) (c .before .before .before .if2 .left) (c .before .part-size .result) (c .before .part-size .ensures .0) (c .if3 .taken), omega arith)
+returns-3 c = let a = c .before .before .before .before .before .before .before .args in
+    (goal-none (a .goals) (a .goal) (a .s .now) (c .before .before .before .before .before .if1 .left) (c .before .before .before .before .is-goal-line .result) (c .before .before .before .before .is-goal-line .ensures) (c .before .before .before .if2 .left) (c .before .part-size .result) (c .before .part-size .ensures .0) (c .if3 .taken), omega arith)
 
 add-result : tie.Need-add-result
 add-result c = search needs
 
 returns-4 : tie.Need-returns-4
-returns-4 c = let a = c .before .before .before .before .before .before .before .before .args in
-    (goal-some (a .goals) (a .goal) (a .s .now) (c .before .before .before .before .before .before .if1 .left) (c .before .before .before .before .before .first .result) (c .before .before .before .before .is-goal-line .result) (c .before .before .before .before .before .first .ensures) (c .before .before .before .before .is-goal-line .ensures) (c .before .before .before .if2 .left) (c .before .part-size .result) (c .before .part-size .ensures .0) (c .if3 .left), further 16 (a .s .now) (c .before .part-size .result) (c .before .before .before .before .before .before .if1 .left) (c .before .part-size .ensures .1))
+returns-4 c = let a = c .before .before .before .before .before .before .before .args in
+    (goal-some (a .goals) (a .goal) (a .s .now) (c .before .before .before .before .before .if1 .left) (c .before .before .before .before .is-goal-line .result) (c .before .before .before .before .is-goal-line .ensures) (c .before .before .before .if2 .left) (c .before .part-size .result) (c .before .part-size .ensures .0) (c .if3 .left), further 16 (a .s .now) (c .before .part-size .result) (c .before .before .before .before .before .if1 .left) (c .before .part-size .ensures .1))
 
 pub goal-size-spec : {M : Type 1} → statement M
 goal-size-spec =
     tie.close
     (tie.spec
     returns
-    first-requires
     is-goal-line-requires
     returns-2
     sub-part-size

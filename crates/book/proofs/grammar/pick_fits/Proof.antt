@@ -10,7 +10,7 @@ uses-first-requires : tie.Need-uses-first-requires
 uses-first-requires c κs = search needs
 
 returns-2 : tie.Need-returns-2
-returns-2 c = outside (c .before .before .args .in-pick) _ _ (c .before .if1 .left) (c .uses-first .ensures)
+returns-2 c = outside (c .before .before .before .args .in-pick) _ _ (c .before .if1 .left) (c .uses-first .ensures)
 
 pub pick-fits-spec : {M : Type 1} → statement M
 pick-fits-spec = tie.close (tie.spec returns uses-first-requires returns-2)
