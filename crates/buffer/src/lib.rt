@@ -1,4 +1,6 @@
 // Bytes in a borrowed buffer.
+pub mod scalars;
+
 ghost use mathlib.Core.Path.{_≡_};
 ghost use Prim.Native.Nat.{_+_, _*_, _%_, _<_, _≤_};
 ghost use lib.ListN.{length, getD, set, replicate};

@@ -1,5 +1,6 @@
 // The delegate's compute_goal between its calls: a group of parts, before its first part,
 // before and after each, and at its end. The top frame has index `height - 1`.
+use buffer::scalars;
 use definition::answers::Answer;
 use definition::replies::Refusal;
 use evaluation::Outcome;
@@ -144,16 +145,6 @@ fn is_first_yes(met: bool, answer: Answer) -> bool
     answer.same(Answer::Yes)
 }
 
-// Whether one of two holds.
-fn either(a: bool, b: bool) -> bool
-    ensures { λ r. ⌜ r ≡ (a || b) ⌝ }
-{
-    if a {
-        return true;
-    }
-    b
-}
-
 // After a candidate of a pick.
 fn after_candidate(
     met: bool,
@@ -171,7 +162,7 @@ fn after_candidate(
     finish(work, goals, own);
     Group {
         op: Op::Pick,
-        met: either(met, answer.same(Answer::Yes)),
+        met: scalars::either(met, answer.same(Answer::Yes)),
         combined: combined.combine(answer),
         entries,
     }

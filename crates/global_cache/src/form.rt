@@ -1,5 +1,6 @@
 // The form of a cache's bytes.
 use crate::slot;
+use buffer::scalars;
 ghost use mathlib.Core.Path.{_≡_};
 ghost use Prim.Native.Nat.{ℕ, _+_, _≤_, _<_};
 ghost use lib.ListN.{length};
@@ -34,7 +35,7 @@ fn slot_fits(s: &[u8], top: usize, slot: usize) -> bool
     if 3 < s[1] {
         return false;
     }
-    if !depth_fits(top, slot, slot::wide(s[2])) {
+    if !depth_fits(top, slot, scalars::wide(s[2])) {
         return false;
     }
     nested <= 31

@@ -1,5 +1,6 @@
 // A slot's bytes: held 0 or 1, result, required depth, then the nested goals, a byte
 // for each goal.
+use buffer::scalars;
 use definition::answers::Answer;
 ghost use mathlib.Core.Path.{_≡_};
 ghost use mathlib.Core.Bool.{not, _&&_};
@@ -10,12 +11,6 @@ ghost use lib.ListN.{length, getD, take};
 ghost use Rattle.definition.specs.GlobalCache.{slotHeld, slotResult, slotDepth, slotNested};
 ghost use Rattle.definition.specs.CacheForm.{allAtMost};
 ghost use Rattle.definition.specs.Nested.{nestedEmpty};
-
-pub fn wide(x: u8) -> usize
-    ensures { λ r. ⌜ (r ≡ x) × (r < 256) ⌝ }
-{
-    x as usize
-}
 
 pub fn is_held(slot: &[u8]) -> bool
     ensures { λ r. ⌜ r ≡ slotHeld (now (slot .entry)) ⌝ }
@@ -32,7 +27,7 @@ pub fn result_of(slot: &[u8]) -> Answer
 pub fn depth_of(slot: &[u8]) -> usize
     ensures { λ r. ⌜ r ≡ slotDepth (now (slot .entry)) ⌝ }
 {
-    wide(buffer::get(slot, 2))
+    scalars::wide(buffer::get(slot, 2))
 }
 
 pub fn nested_of(slot: &[u8]) -> &[u8]

@@ -1,5 +1,6 @@
 // What evaluate_goal of mod.rs tries before it pushes a frame: the allowed depth, the two
 // caches, a cycle on the stack.
+use buffer::scalars;
 use definition::answers::Answer;
 use definition::format::Header;
 use definition::paths::PathKind;
@@ -147,16 +148,6 @@ fn success_applies(
     candidate_is_applicable(graph, goals, height, entries, step, nested)
 }
 
-// The depth that is left where a result needs some, 0 where it needs more.
-fn depth_left(available: usize, required: usize) -> usize
-    ensures { λ r. ⌜ r ≡ available - required ⌝ }
-{
-    if available < required {
-        return 0;
-    }
-    available - required
-}
-
 // The slot answers the goal.
 fn use_slot(
     s: &[u8],
@@ -170,7 +161,7 @@ fn use_slot(
     requires { ⌜ GraphBytes (h .goals) (now graph) × (height ≤ h .goals) ⌝ }
     ensures { λ r. ⌜ ((root n : ℕ) (cache : List ℕ) → some (Done (graphOf (h .goals) root height n (now (graph .exit)) cache) r) ≡ useCacheData h (graphOf (h .goals) root height n (now (graph .entry)) cache) step available (some (cacheData (now (s .entry)) overflow))) ⌝ }
 {
-    let reached = depth_left(available, slot::depth_of(s));
+    let reached = scalars::minus(available, slot::depth_of(s));
     let nested = slot::nested_of(s);
     parent::update_from_slot(graph, h.goals, height, step, overflow, nested, reached);
     slot::result_of(s)

@@ -1,4 +1,5 @@
 // The parent's frame, after a nested goal.
+use buffer::scalars;
 use definition::heads::CycleHead;
 use definition::paths;
 use definition::paths::PathKind;
@@ -97,18 +98,11 @@ fn marked(before: u8, overflow: bool) -> u8
     before
 }
 
-fn low(n: usize) -> u8
-    requires { ⌜ n < 256 ⌝ }
-    ensures { λ r. ⌜ r ≡ n ⌝ }
-{
-    n as u8
-}
-
 fn lesser(a: u8, b: usize) -> u8
     ensures { λ r. ⌜ r ≡ min a b ⌝ }
 {
-    if b < slot::wide(a) {
-        return low(b);
+    if b < scalars::wide(a) {
+        return scalars::low(b);
     }
     a
 }
@@ -141,15 +135,6 @@ fn insert_itself(f: &mut [u8], goals: usize)
     insert_nested(f, goals, goal, 1);
 }
 
-fn least(a: usize, b: usize) -> usize
-    ensures { λ r. ⌜ r ≡ min a b ⌝ }
-{
-    if a < b {
-        return a;
-    }
-    b
-}
-
 // extend_from_child, on the bytes of the nested goals. What the step replaces is worked out
 // before the loop.
 fn extend_nested(nested: &mut [u8], step: PathKind, child: &[u8])
@@ -157,7 +142,7 @@ fn extend_nested(nested: &mut [u8], step: PathKind, child: &[u8])
 {
     let weaker = step.weaker_flags();
     let flag = step.flag();
-    let n = least(nested.len(), child.len());
+    let n = scalars::least(nested.len(), child.len());
     let mut i: usize = 0;
     while i < n {
         let through = paths::replace_weaker(child[i], weaker, flag);

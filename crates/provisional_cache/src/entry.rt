@@ -1,5 +1,6 @@
 // One entry's bytes: 0 input, 1 overflow, 2 path from the highest head, 3 result, and
 // from 8 on the heads.
+use buffer::scalars;
 use definition::answers::Answer;
 use definition::paths::PathKind;
 use layout::offsets;
@@ -12,19 +13,6 @@ ghost use Rattle.layout.specs.Blocks.{headsSize};
 ghost use Rattle.layout.specs.Frame.{truth};
 ghost use Rattle.layout.specs.Entry.{entryHeadsStart, entryOf};
 ghost use Rattle.provisional_cache.specs.Entries.{EntryBytes, withPath, withFields};
-
-fn wide(b: u8) -> usize
-    ensures { λ r. ⌜ (r ≡ b) × (r < 256) ⌝ }
-{
-    b as usize
-}
-
-fn low(n: usize) -> u8
-    requires { ⌜ n < 256 ⌝ }
-    ensures { λ r. ⌜ r ≡ n ⌝ }
-{
-    n as u8
-}
 
 fn flag(b: bool) -> u8
     ensures { λ r. ⌜ truth r ≡ b ⌝ }
@@ -41,7 +29,7 @@ pub fn input(entry: &[u8], goals: usize) -> usize
     requires { ⌜ EntryBytes goals (now entry) ⌝ }
     ensures { λ r. ⌜ (r ≡ (entryOf goals (now (entry .entry))) .input) × (r < 256) ⌝ }
 {
-    wide(entry[0])
+    scalars::wide(entry[0])
 }
 
 pub fn encountered_overflow(entry: &[u8], goals: usize) -> bool
@@ -107,7 +95,7 @@ pub fn start(
     requires { ⌜ EntryBytes goals (now entry) × (goal < 256) ⌝ }
     ensures { λ _. ⌜ entryOf goals (now (entry .exit)) ≡ withFields (entryOf goals (now (entry .entry))) goal overflow path answer ⌝ }
 {
-    entry[0] = low(goal);
+    entry[0] = scalars::low(goal);
     entry[1] = flag(overflow);
     entry[2] = path.number();
     entry[3] = answer.number();

@@ -3,6 +3,7 @@
 // present, 7 candidate usages present, 8 usages, then heads, candidate usages and nested
 // goals.
 use crate::small;
+use buffer::scalars;
 use definition::answers::Answer;
 use definition::paths::PathKind;
 use definition::usages::HeadUsages;
@@ -39,26 +40,13 @@ pub enum Depth {
     Overflow,
 }
 
-fn wide(b: u8) -> usize
-    ensures { λ r. ⌜ (r ≡ b) × (r < 256) ⌝ }
-{
-    b as usize
-}
-
-fn low(n: usize) -> u8
-    requires { ⌜ n < 256 ⌝ }
-    ensures { λ r. ⌜ r ≡ n ⌝ }
-{
-    n as u8
-}
-
 // ---- reads
 
 pub fn input(frame: &[u8], goals: usize) -> usize
     requires { ⌜ FrameBytes goals (now frame) ⌝ }
     ensures { λ r. ⌜ (r ≡ (frameOf goals (now (frame .entry))) .input) × (r < 256) ⌝ }
 {
-    wide(frame[0])
+    scalars::wide(frame[0])
 }
 
 pub fn step_kind(frame: &[u8], goals: usize) -> PathKind
@@ -72,7 +60,7 @@ pub fn available(frame: &[u8], goals: usize) -> usize
     requires { ⌜ FrameBytes goals (now frame) ⌝ }
     ensures { λ r. ⌜ (r ≡ (frameOf goals (now (frame .entry))) .availableDepth) × (r < 256) ⌝ }
 {
-    wide(frame[2])
+    scalars::wide(frame[2])
 }
 
 // The least available depth that a nested goal reached.
@@ -80,7 +68,7 @@ pub fn reached(frame: &[u8], goals: usize) -> usize
     requires { ⌜ FrameBytes goals (now frame) ⌝ }
     ensures { λ r. ⌜ (r ≡ (frameOf goals (now (frame .entry))) .minReachedAvailableDepth) × (r < 256) ⌝ }
 {
-    wide(frame[3])
+    scalars::wide(frame[3])
 }
 
 pub fn provisional_result(frame: &[u8], goals: usize) -> Provisional
@@ -166,10 +154,10 @@ fn start_fields(b: &mut [u8], goal: usize, step: PathKind, available: usize)
     requires { ⌜ (length (now b) ≡ 8) × ((goal < 256) × (available < 256)) ⌝ }
     ensures { λ _. ⌜ now (b .exit) ≡ goal ∷ kindNumber step ∷ available ∷ available ∷ 0 ∷ 0 ∷ 0 ∷ 0 ∷ [] ⌝ }
 {
-    b[0] = low(goal);
+    b[0] = scalars::low(goal);
     b[1] = step.number();
-    b[2] = low(available);
-    b[3] = low(available);
+    b[2] = scalars::low(available);
+    b[3] = scalars::low(available);
     b[4] = 0;
     b[5] = 0;
     b[6] = 0;

@@ -1,6 +1,7 @@
 // The parts of evaluate_goal and evaluate_goal_in_task of mod.rs that evaluate no goal:
 // the end of an iteration, and what follows a goal's last one.
 use after::Next;
+use buffer::scalars;
 use definition::answers::Answer;
 use definition::answers::RebaseReason;
 use definition::format::Header;
@@ -31,25 +32,6 @@ mod insert;
 pub enum Iteration {
     End(TaskOutcome),
     Again(bool, usize),
-}
-
-// a - b, or 0 where that is less.
-fn minus(a: usize, b: usize) -> usize
-    ensures { λ r. ⌜ r ≡ a - b ⌝ }
-{
-    if a < b {
-        return 0;
-    }
-    a - b
-}
-
-fn either(a: bool, b: bool) -> bool
-    ensures { λ r. ⌜ r ≡ (a || b) ⌝ }
-{
-    if a {
-        return true;
-    }
-    b
 }
 
 // ---- the end of an iteration; the frame at index `own` was popped
@@ -115,7 +97,7 @@ fn popped(
     ensures { λ r. ⌜ ((root : ℕ) (cache : List ℕ) (next : Bool → Graph → task.TaskOutcome) → task.endIteration (rerunBy left next) (overflow || (frameAt goals own (now (graph .entry))) .encounteredOverflow) (graphOf goals root own entries (now (graph .entry)) cache) (frameAt goals own (now (graph .entry))) answer ≡ turned goals root (own + 1) next (now (graph .exit)) cache r) × FewTurned goals left r ⌝ }
 {
     let f = stack::frame_at(graph, goals, own);
-    let met = either(overflow, frame::overflow(f, goals));
+    let met = scalars::either(overflow, frame::overflow(f, goals));
     let follows = after::next_of(f, goals, answer);
     match follows {
         Next::Finish => Iteration::End(TaskOutcome::Evaluated(answer, met, entries)),
@@ -208,7 +190,7 @@ pub fn finish(
         TaskOutcome::Evaluated(answer, overflow, entries) => {
             let goals = h.goals;
             let required = frame::required_depth(stack::frame_at(graph, goals, height), goals);
-            let reached = minus(available, required);
+            let reached = scalars::minus(available, required);
             update_parent(graph, goals, height, step, overflow, reached);
             insert::result(
                 cache,

@@ -6,8 +6,8 @@ use Rattle.lookup.proofs.use_slot.Tie as tie
 depth-of-requires : tie.Need-depth-of-requires
 depth-of-requires c κs = search needs
 
-depth-left-requires : tie.Need-depth-left-requires
-depth-left-requires c κs = search needs
+minus-requires : tie.Need-minus-requires
+minus-requires c κs = search needs
 
 nested-of-requires : tie.Need-nested-of-requires
 nested-of-requires c κs = search needs
@@ -22,14 +22,14 @@ same-length : tie.Need-same-length
 same-length c = search needs
 
 returns : tie.Need-returns
-returns c = let a = c .before .before .before .before .before .before .before .before .before .before .args in let y = c .before .before .before .update-from-slot in slot-used (a .h) (a .height) (a .graph .now) (y .last .0) (a .step) (a .available) (y .ensures .1) (a .s .now) (c .before .before .before .before .before .nested-of .result .now) (a .overflow) (c .before .before .before .before .before .before .before .depth-of .result) (c .before .before .before .before .before .before .depth-left .result) (c .result-of .result) (c .before .before .before .before .before .before .before .depth-of .ensures) (c .before .before .before .before .before .before .depth-left .ensures) (c .before .before .before .before .before .nested-of .ensures) (c .result-of .ensures) (y .ensures .0)
+returns c = let a = c .before .before .before .before .before .before .before .before .before .before .args in let y = c .before .before .before .update-from-slot in slot-used (a .h) (a .height) (a .graph .now) (y .last .0) (a .step) (a .available) (y .ensures .1) (a .s .now) (c .before .before .before .before .before .nested-of .result .now) (a .overflow) (c .before .before .before .before .before .before .before .depth-of .result) (c .before .before .before .before .before .before .minus .result) (c .result-of .result) (c .before .before .before .before .before .before .before .depth-of .ensures) (c .before .before .before .before .before .before .minus .ensures) (c .before .before .before .before .before .nested-of .ensures) (c .result-of .ensures) (y .ensures .0)
 
 pub use-slot-spec : {M : Type 1} → statement M
 use-slot-spec =
     tie.close
     (tie.spec
     depth-of-requires
-    depth-left-requires
+    minus-requires
     nested-of-requires
     update-from-slot-requires
     result-of-requires
