@@ -1,4 +1,5 @@
 pub mod Laws
+pub mod Plain
 pub mod Tracking
 pub mod Starts
 pub mod Turns

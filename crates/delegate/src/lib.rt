@@ -6,9 +6,10 @@ use definition::replies::Refusal;
 use evaluation::Outcome;
 use layout::offsets;
 ghost use mathlib.Core.Path.{_≡_};
-ghost use mathlib.Core.Bool.{not, _&&_, _||_};
+ghost use mathlib.Core.Bool.{false, not, _&&_, _||_};
+ghost use mathlib.Core.List.{List};
 ghost use mathlib.Core.Option.{none, some};
-ghost use Prim.Native.Nat.{_+_, _*_, _-_, _≤_, _<_};
+ghost use Prim.Native.Nat.{ℕ, _+_, _*_, _-_, _≤_, _<_};
 ghost use Rattle.definition.specs.declared.answers.Answer.the-variants.{Yes};
 ghost use Rattle.definition.specs.Answers.{sameAnswer};
 ghost use Rattle.definition.specs.Candidates.{noCandidateUsages, candidateUsagesOf};
@@ -18,6 +19,7 @@ ghost use Rattle.evaluation.specs.Workspace.{WorkBytes, graphIn};
 ghost use Rattle.evaluation.specs.Outcomes.{FewEntries};
 ghost use Rattle.evaluation.specs.declared.Outcome.the-variants.{Done};
 ghost use Rattle.candidates.specs.Written.{MergedWritten};
+ghost use Rattle.delegate.specs.Groups.{isPick};
 ghost use Rattle.delegate.specs.Steps.{Begun, Entered, Stepped, Ended, Tracked, Finished, PickEnded, unlessDecided};
 
 // How the answers of a group's parts are put together.
@@ -246,4 +248,63 @@ pub fn end(g: Group, work: &mut [u8], goals: usize, height: usize) -> Outcome
         Op::Any => Outcome::Done(combined, entries),
         Op::Pick => end_pick(met, combined, entries, work, goals, height - 1),
     }
+}
+
+// ---- a group that is no pick needs no workspace
+
+// Before its first part.
+pub fn start(op: Op, entries: usize) -> Group
+    ensures { λ r. ⌜ ((goals height : ℕ) (work : List ℕ) → isPick op ≡ false → Begun goals height entries op work work r) ⌝ }
+{
+    match op {
+        Op::All => Group {
+            op: Op::All,
+            met: false,
+            combined: Answer::Yes,
+            entries,
+        },
+        Op::Any => Group {
+            op: Op::Any,
+            met: false,
+            combined: Answer::No,
+            entries,
+        },
+        Op::Pick => Group {
+            op: Op::Pick,
+            met: false,
+            combined: Answer::No,
+            entries,
+        },
+    }
+}
+
+// After a part that came to an answer.
+fn weigh_answer(answer: Answer, entries: usize, g: Group) -> Step
+    ensures { λ r. ⌜ ((goals height : ℕ) (work : List ℕ) → isPick (g .op) ≡ false → entries ≤ 2 * goals → Stepped goals height (Done answer entries) g work work r) ⌝ }
+{
+    let op = g.op;
+    let combined = g.combined;
+    match op {
+        Op::All => unless(Op::All, combined, Answer::No, answer, entries),
+        Op::Any => unless(Op::Any, combined, Answer::Yes, answer, entries),
+        Op::Pick => unless(Op::Pick, combined, Answer::Yes, answer, entries),
+    }
+}
+
+// After each part.
+pub fn weigh(o: Outcome, g: Group) -> Step
+    ensures { λ r. ⌜ ((goals height : ℕ) (work : List ℕ) → isPick (g .op) ≡ false → FewEntries goals o → Stepped goals height o g work work r) ⌝ }
+{
+    match o {
+        Outcome::Stopped(r) => Step::End(Outcome::Stopped(r)),
+        Outcome::Done(answer, entries) => weigh_answer(answer, entries, g),
+    }
+}
+
+// After all parts.
+pub fn close(g: Group) -> Outcome
+    ensures { λ r. ⌜ ((goals height : ℕ) (work : List ℕ) → isPick (g .op) ≡ false → g .entries ≤ 2 * goals → Ended goals height g work work r) ⌝ }
+{
+    let combined = g.combined;
+    Outcome::Done(combined, g.entries)
 }

@@ -1,4 +1,4 @@
--- The definition's equations where the functions call each other, with nothing of the code in them.
+-- The definition's equations where the three functions call each other, with nothing of the code in them.
 use mathlib.Core.Path.{_≡_, refl, sym, ap, _∙_, subst}
 use mathlib.Core.Bool.{Bool, false}
 use mathlib.Core.Option.{none, some}
@@ -34,18 +34,15 @@ use Rattle.task.proofs.Turns.{turn-is}
 use Rattle.search_graph.specs.Calls.{Running, evaluator, Comes, TaskComes}
 use Rattle.search_graph.specs.Steps.{LookedUp, Pushed, IterationEnded, Finished}
 
--- ---- the measure: goals off the stack, then iterations left, then bytes left, then whether a part below another is to be read
-abbrev pub rank : ℕ → ℕ → ℕ → ℕ → ℕ
-rank off left bytes below = ((off * 128 + left) * 2 ^ 64 + bytes) * 2 + below
+-- ---- the measure: goals off the stack, then iterations left, then bytes left
+abbrev pub rank : ℕ → ℕ → ℕ → ℕ
+rank off left bytes = (off * 128 + left) * 2 ^ 64 + bytes
 
-pub lower : (a a1 b b1 c c1 t : ℕ) → (a * 2 ^ 64 + b) * 2 + c ≡ t → a1 < a → b1 < 2 ^ 64 → c1 ≤ 1 → (a1 * 2 ^ 64 + b1) * 2 + c1 < t
-lower a a1 b b1 c c1 t e h l k = omega arith
+pub lower : (a a1 b b1 t : ℕ) → a * 2 ^ 64 + b ≡ t → a1 < a → b1 < 2 ^ 64 → a1 * 2 ^ 64 + b1 < t
+lower a a1 b b1 t e h l = omega arith
 
-pub fewer : (a b b1 c c1 t : ℕ) → (a * 2 ^ 64 + b) * 2 + c ≡ t → b1 < b → c1 ≤ 1 → (a * 2 ^ 64 + b1) * 2 + c1 < t
-fewer a b b1 c c1 t e l k = omega arith
-
-pub sooner : (a b t : ℕ) → (a * 2 ^ 64 + b) * 2 + 1 ≡ t → (a * 2 ^ 64 + b) * 2 + 0 < t
-sooner a b t e = omega arith
+pub fewer : (a b b1 t : ℕ) → a * 2 ^ 64 + b ≡ t → b1 < b → a * 2 ^ 64 + b1 < t
+fewer a b b1 t e l = omega arith
 
 -- ---- the buffers after a call
 pub work-next : {goals : ℕ} {work : List ℕ} (new : List ℕ) → WorkBytes goals work → length new ≡ length work → WorkBytes goals new

@@ -21,7 +21,7 @@ use Rattle.book.proofs.Walk.{known-code, is-call, is-all, is-any, is-pick, is-u
 use Rattle.evaluation.specs.declared.Outcome.{Outcome}
 use Rattle.evaluation.specs.declared.Outcome.the-variants.{Done}
 use Rattle.evaluation.specs.Workspace.{graphIn}
-use Rattle.evaluation.specs.Outcomes.{outcomeOf}
+use Rattle.evaluation.specs.Outcomes.{outcomeOf, FewEntries}
 use Rattle.delegate.specs.declared.Op.{Op}
 use Rattle.delegate.specs.declared.Op.the-variants.{All, Any, Pick}
 use Rattle.delegate.specs.declared.Group.{Group}
@@ -29,12 +29,13 @@ use Rattle.delegate.specs.declared.Step.{Step}
 use Rattle.delegate.specs.declared.Step.the-variants.{End, More}
 use Rattle.delegate.specs.Groups.{opOf, isPick, rest, next}
 use Rattle.delegate.proofs.Laws.{rest-turn}
+use Rattle.delegate.proofs.Plain.{no-pick}
 use Rattle.delegate.specs.Steps.{Kept, Begun, Entered, Stepped, Ended, stepOf}
 use Rattle.search_graph.specs.declared.steps.Shape.{Shape}
 use Rattle.search_graph.specs.declared.steps.Shape.the-variants as shapes
 use Rattle.search_graph.specs.Shapes.{shapeOf, insideOf}
 use Rattle.search_graph.specs.Calls.{Comes, keptBelow}
-use Rattle.search_graph.proofs.Codes.{opNumber, number, code-is}
+use Rattle.search_graph.proofs.Codes.{opNumber, number, code-is, plain-group}
 
 -- ---- by the first line
 module _ (goals : ℕ) (inPick : Bool) (p : List ℕ) (reads : Reads goals inPick p) where
@@ -73,6 +74,18 @@ module _ (goals : ℕ) (inPick : Bool) (p : List ℕ) (reads : Reads goals inPic
     -- a group, with the bytes after the first line as the code takes them
     pub in-part : (op : Op) → s ≡ shapes.Group op → (n : ℕ) → n ≡ lineIn p .first → Grouped op n (take (length p - 16) (drop 16 p))
     in-part op e n count = rw (count, part-from) (grouped op (coded (shapes.Group op) e))
+
+    -- a group that is read as one is no pick
+    pub plain : (op : Op) → s ≡ shapes.Group op → isPick op ≡ false
+    plain op e = let c = known-code goals inPick p (lineIn p) refl reads in plain-group (lineIn p .code) (c .0) (c .1) op (sym e ∙ shaped ∙ ap shapeOf is)
+
+    pub pick-part : s ≡ shapes.Pick → (n : ℕ) → n ≡ lineIn p .first → Grouped Pick n (take (length p - 16) (drop 16 p))
+    pick-part e n count = rw (count, part-from) (grouped Pick (coded shapes.Pick e))
+
+pub inside-plain : (op : Op) (inPick : Bool) → isPick op ≡ false → inPick ≡ insideOf op inPick
+inside-plain All inPick h = refl
+inside-plain Any inPick h = refl
+inside-plain Pick inPick h = no-pick Pick refl h
 
 pub part-shorter : (n : ℕ) (bs : List ℕ) → 0 < n → n ≤ length bs → length (take (length bs - n) (drop n bs)) < length bs
 part-shorter n bs pos h = let e : length (take (length bs - n) (drop n bs)) ≡ length bs - n = ap length (part-from n bs) ∙ length-drop n bs in omega arith
@@ -231,6 +244,16 @@ module _ (ev : Evaluator) (goals root height n : ℕ) (inPick : Bool) (p : List 
         few = c .few;
         merged = λ i lt. c .merged i lt ∙ kept-by op inPick goals height work work1 (group .0) (begun .kept) i lt;
       }
+
+-- ---- an outcome by other names
+pub comes-as : {goals root height low : ℕ} {whole : graph.Outcome} {old new new1 cache cache1 : List ℕ} {r r1 : Outcome}
+    → new1 ≡ new → cache1 ≡ cache → r1 ≡ r → Comes goals root height low whole old new cache r → Comes goals root height low whole old new1 cache1 r1
+comes-as {goals} {root} {height} ew ec er c =
+    record {
+      is = (λ i. outcomeOf goals root height (graphIn goals (ew i)) (ec i) (er i)) ∙ c .is;
+      few = subst (FewEntries goals) (sym er) (c .few);
+      merged = λ i lt. ap (mergedOf goals i) ew ∙ c .merged i lt;
+    }
 
 -- ---- a call, or an undecided line
 below-height : (inPick : Bool) (height i : ℕ) → i < keptBelow inPick height → i < height

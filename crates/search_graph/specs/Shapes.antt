@@ -5,16 +5,16 @@ use lib.Dec.{eqb}
 use Rattle.delegate.specs.declared.Op.{Op}
 use Rattle.delegate.specs.declared.Op.the-variants.{All, Any, Pick}
 use Rattle.search_graph.specs.declared.steps.Shape.{Shape}
-use Rattle.search_graph.specs.declared.steps.Shape.the-variants.{Call, Group, Undecided}
+use Rattle.search_graph.specs.declared.steps.Shape.the-variants as shapes
 
 abbrev pub shapeOf : ℕ → Shape
 shapeOf code =
     elim (eqb code 2) [
-      | true ↦ Call
+      | true ↦ shapes.Call
       | false ↦
           elim (eqb code 3) [
-            | true ↦ Group All
-            | false ↦ elim (eqb code 4) [ true ↦ Group Any | false ↦ elim (eqb code 5) [ true ↦ Group Pick | false ↦ Undecided ] ]
+            | true ↦ shapes.Group All
+            | false ↦ elim (eqb code 4) [ true ↦ shapes.Group Any | false ↦ elim (eqb code 5) [ true ↦ shapes.Pick | false ↦ shapes.Undecided ] ]
           ]
     ]
 

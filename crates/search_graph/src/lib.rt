@@ -1,5 +1,5 @@
-// evaluate_goal, evaluate_goal_in_task and the delegate's compute_goal, which call each
-// other in a cycle. What stands between their calls is in other functions.
+// evaluate_goal, evaluate_goal_in_task and the delegate's compute_goal: three functions
+// that call each other in a cycle. What stands between their calls is in other functions.
 pub mod steps;
 
 use book::part;
@@ -8,6 +8,7 @@ use definition::answers::Answer;
 use definition::format::Header;
 use definition::paths::PathKind;
 use definition::replies::Refusal;
+use delegate::Op;
 use delegate::Step;
 use evaluation::Outcome;
 use evaluation::TaskOutcome;
@@ -159,13 +160,65 @@ fn read_part(
             )
         }
         Shape::Group(op) => {
-            let inside = steps::inside(op, in_pick);
+            let mut group = delegate::start(op, entries);
+            let mut t = &p[16..];
+            let mut k = part::count(p);
+            while 0 < k {
+                let below = part::code(t);
+                // a call, the commonest, is evaluated at once
+                let o = if below == 2 {
+                    let call = Call::first(t);
+                    let step = call.step;
+                    evaluate(
+                        book,
+                        starts,
+                        cache,
+                        work,
+                        h,
+                        root,
+                        height,
+                        group.entries,
+                        call.goal,
+                        step,
+                        call.lower,
+                    )
+                } else {
+                    read_part(
+                        book,
+                        starts,
+                        t,
+                        cache,
+                        work,
+                        h,
+                        root,
+                        height,
+                        group.entries,
+                        in_pick,
+                    )
+                };
+                let next = delegate::weigh(o, group);
+                match next {
+                    Step::End(outcome) => {
+                        return outcome;
+                    }
+                    Step::More(g) => {
+                        group = g;
+                    }
+                }
+                k = k - 1;
+                let u = part::next(t, k);
+                t = u;
+            }
+            delegate::close(group)
+        }
+        Shape::Pick => {
+            let op = Op::Pick;
             let mut group = delegate::begin(op, work, h.goals, height, entries);
             let mut t = &p[16..];
             let mut k = part::count(p);
             while 0 < k {
                 delegate::before(group, work, h.goals, height);
-                let o = read_below(
+                let o = read_part(
                     book,
                     starts,
                     t,
@@ -175,7 +228,7 @@ fn read_part(
                     root,
                     height,
                     group.entries,
-                    inside,
+                    true,
                 );
                 let next = delegate::after(o, group, work, h.goals, height);
                 match next {
@@ -193,53 +246,4 @@ fn read_part(
             delegate::end(group, work, h.goals, height)
         }
     }
-}
-
-// The same of a part below another. A call, the commonest, is evaluated at once.
-fn read_below(
-    book: &[u8],
-    starts: &[u16],
-    p: &[u8],
-    cache: &mut [u8],
-    work: &mut [u8],
-    h: Header,
-    root: usize,
-    height: usize,
-    entries: usize,
-    in_pick: bool,
-) -> Outcome
-    requires { ⌜ Running (now book) (now starts) (now cache) (now work) h root height entries ⌝ }
-    requires { ⌜ (1 ≤ height) × Reads (h .goals) in_pick (now p) ⌝ }
-    ensures { λ r. ⌜ Comes (h .goals) root height (keptBelow in_pick height) (evalPart (evaluator (now (book .entry)) h height) (h .goals) (partIn (h .goals) in_pick (now (p .entry))) (graphOf (h .goals) root height entries (graphIn (h .goals) (now (work .entry))) (now (cache .entry)))) (now (work .entry)) (now (work .exit)) (now (cache .exit)) r ⌝ }
-{
-    let code = part::code(p);
-    if code != 2 {
-        return read_part(
-            book,
-            starts,
-            p,
-            cache,
-            work,
-            h,
-            root,
-            height,
-            entries,
-            in_pick,
-        );
-    }
-    let call = Call::first(p);
-    let step = call.step;
-    evaluate(
-        book,
-        starts,
-        cache,
-        work,
-        h,
-        root,
-        height,
-        entries,
-        call.goal,
-        step,
-        call.lower,
-    )
 }

@@ -12,13 +12,15 @@ ghost use mathlib.Core.Path.{_≡_};
 ghost use Prim.Native.Nat.{_≤_, _<_, pred};
 ghost use Rattle.evaluation.specs.Workspace.{WorkBytes};
 ghost use Rattle.evaluation.specs.Outcomes.{FewEntries};
-ghost use Rattle.search_graph.specs.Shapes.{shapeOf, insideOf};
+ghost use Rattle.search_graph.specs.Shapes.{shapeOf};
 ghost use Rattle.search_graph.specs.Steps.{Looking, LookedUp, Pushed, IterationEnded, Finishing, Finished};
 
 // What a part is.
 pub enum Shape {
     Call,
+    // all or any
     Group(Op),
+    Pick,
     Undecided,
 }
 
@@ -31,20 +33,9 @@ pub fn shape_of(code: u16) -> Shape
         2 => Shape::Call,
         3 => Shape::Group(Op::All),
         4 => Shape::Group(Op::Any),
-        5 => Shape::Group(Op::Pick),
+        5 => Shape::Pick,
         6 => Shape::Undecided,
         0 | 7..=65535 => Shape::Undecided,
-    }
-}
-
-// Whether the parts of a group stand inside a pick.
-pub fn inside(op: Op, in_pick: bool) -> bool
-    ensures { λ r. ⌜ r ≡ insideOf op in_pick ⌝ }
-{
-    match op {
-        Op::Pick => true,
-        Op::All => in_pick,
-        Op::Any => in_pick,
     }
 }
 
