@@ -44,6 +44,82 @@ pub enum Step {
     More(Group),
 }
 
+// ---- a group that is no pick needs no workspace
+
+// Before its first part.
+pub fn start(op: Op, entries: usize) -> Group
+    ensures { λ r. ⌜ ((goals height : ℕ) (work : List ℕ) → isPick op ≡ false → Begun goals height entries op work work r) ⌝ }
+{
+    match op {
+        Op::All => Group {
+            op: Op::All,
+            met: false,
+            combined: Answer::Yes,
+            entries,
+        },
+        Op::Any => Group {
+            op: Op::Any,
+            met: false,
+            combined: Answer::No,
+            entries,
+        },
+        Op::Pick => Group {
+            op: Op::Pick,
+            met: false,
+            combined: Answer::No,
+            entries,
+        },
+    }
+}
+
+// The group goes on, unless the answer decides it.
+fn unless(op: Op, combined: Answer, deciding: Answer, answer: Answer, entries: usize) -> Step
+    ensures { λ r. ⌜ r ≡ unlessDecided (sameAnswer answer deciding) op combined deciding answer entries ⌝ }
+{
+    if answer.same(deciding) {
+        return Step::End(Outcome::Done(deciding, entries));
+    }
+    Step::More(Group {
+        op,
+        met: false,
+        combined: combined.combine(answer),
+        entries,
+    })
+}
+
+// After a part that came to an answer.
+fn weigh_answer(answer: Answer, entries: usize, g: Group) -> Step
+    ensures { λ r. ⌜ ((goals height : ℕ) (work : List ℕ) → isPick (g .op) ≡ false → entries ≤ 2 * goals → Stepped goals height (Done answer entries) g work work r) ⌝ }
+{
+    let op = g.op;
+    let combined = g.combined;
+    match op {
+        Op::All => unless(Op::All, combined, Answer::No, answer, entries),
+        Op::Any => unless(Op::Any, combined, Answer::Yes, answer, entries),
+        Op::Pick => unless(Op::Pick, combined, Answer::Yes, answer, entries),
+    }
+}
+
+// After each part.
+pub fn weigh(o: Outcome, g: Group) -> Step
+    ensures { λ r. ⌜ ((goals height : ℕ) (work : List ℕ) → isPick (g .op) ≡ false → FewEntries goals o → Stepped goals height o g work work r) ⌝ }
+{
+    match o {
+        Outcome::Stopped(r) => Step::End(Outcome::Stopped(r)),
+        Outcome::Done(answer, entries) => weigh_answer(answer, entries, g),
+    }
+}
+
+// After all parts.
+pub fn close(g: Group) -> Outcome
+    ensures { λ r. ⌜ ((goals height : ℕ) (work : List ℕ) → isPick (g .op) ≡ false → g .entries ≤ 2 * goals → Ended goals height g work work r) ⌝ }
+{
+    let combined = g.combined;
+    Outcome::Done(combined, g.entries)
+}
+
+// ---- any group
+
 // A pick before its first candidate: nothing is merged.
 fn begin_pick(work: &mut [u8], goals: usize, height: usize, entries: usize) -> Group
     requires { ⌜ WorkBytes goals (now work) × ((1 ≤ height) × (height ≤ goals)) ⌝ }
@@ -64,18 +140,8 @@ pub fn begin(op: Op, work: &mut [u8], goals: usize, height: usize, entries: usiz
     ensures { λ r. ⌜ Begun goals height entries op (now (work .entry)) (now (work .exit)) r ⌝ }
 {
     match op {
-        Op::All => Group {
-            op: Op::All,
-            met: false,
-            combined: Answer::Yes,
-            entries,
-        },
-        Op::Any => Group {
-            op: Op::Any,
-            met: false,
-            combined: Answer::No,
-            entries,
-        },
+        Op::All => start(op, entries),
+        Op::Any => start(op, entries),
         Op::Pick => begin_pick(work, goals, height, entries),
     }
 }
@@ -109,21 +175,6 @@ pub fn before(g: Group, work: &mut [u8], goals: usize, height: usize)
         Op::Any => {}
         Op::Pick => enter(work, goals, height - 1),
     }
-}
-
-// The group goes on, unless the answer decides it.
-fn unless(op: Op, combined: Answer, deciding: Answer, answer: Answer, entries: usize) -> Step
-    ensures { λ r. ⌜ r ≡ unlessDecided (sameAnswer answer deciding) op combined deciding answer entries ⌝ }
-{
-    if answer.same(deciding) {
-        return Step::End(Outcome::Done(deciding, entries));
-    }
-    Step::More(Group {
-        op,
-        met: false,
-        combined: combined.combine(answer),
-        entries,
-    })
 }
 
 // The usages of a candidate are merged, unless it is the first Yes.
@@ -186,8 +237,8 @@ fn after_part(
     let met = g.met;
     let combined = g.combined;
     match op {
-        Op::All => unless(Op::All, combined, Answer::No, answer, entries),
-        Op::Any => unless(Op::Any, combined, Answer::Yes, answer, entries),
+        Op::All => weigh_answer(answer, entries, g),
+        Op::Any => weigh_answer(answer, entries, g),
         Op::Pick => Step::More(after_candidate(
             met,
             combined,
@@ -244,67 +295,8 @@ pub fn end(g: Group, work: &mut [u8], goals: usize, height: usize) -> Outcome
     let combined = g.combined;
     let entries = g.entries;
     match op {
-        Op::All => Outcome::Done(combined, entries),
-        Op::Any => Outcome::Done(combined, entries),
+        Op::All => close(g),
+        Op::Any => close(g),
         Op::Pick => end_pick(met, combined, entries, work, goals, height - 1),
     }
-}
-
-// ---- a group that is no pick needs no workspace
-
-// Before its first part.
-pub fn start(op: Op, entries: usize) -> Group
-    ensures { λ r. ⌜ ((goals height : ℕ) (work : List ℕ) → isPick op ≡ false → Begun goals height entries op work work r) ⌝ }
-{
-    match op {
-        Op::All => Group {
-            op: Op::All,
-            met: false,
-            combined: Answer::Yes,
-            entries,
-        },
-        Op::Any => Group {
-            op: Op::Any,
-            met: false,
-            combined: Answer::No,
-            entries,
-        },
-        Op::Pick => Group {
-            op: Op::Pick,
-            met: false,
-            combined: Answer::No,
-            entries,
-        },
-    }
-}
-
-// After a part that came to an answer.
-fn weigh_answer(answer: Answer, entries: usize, g: Group) -> Step
-    ensures { λ r. ⌜ ((goals height : ℕ) (work : List ℕ) → isPick (g .op) ≡ false → entries ≤ 2 * goals → Stepped goals height (Done answer entries) g work work r) ⌝ }
-{
-    let op = g.op;
-    let combined = g.combined;
-    match op {
-        Op::All => unless(Op::All, combined, Answer::No, answer, entries),
-        Op::Any => unless(Op::Any, combined, Answer::Yes, answer, entries),
-        Op::Pick => unless(Op::Pick, combined, Answer::Yes, answer, entries),
-    }
-}
-
-// After each part.
-pub fn weigh(o: Outcome, g: Group) -> Step
-    ensures { λ r. ⌜ ((goals height : ℕ) (work : List ℕ) → isPick (g .op) ≡ false → FewEntries goals o → Stepped goals height o g work work r) ⌝ }
-{
-    match o {
-        Outcome::Stopped(r) => Step::End(Outcome::Stopped(r)),
-        Outcome::Done(answer, entries) => weigh_answer(answer, entries, g),
-    }
-}
-
-// After all parts.
-pub fn close(g: Group) -> Outcome
-    ensures { λ r. ⌜ ((goals height : ℕ) (work : List ℕ) → isPick (g .op) ≡ false → g .entries ≤ 2 * goals → Ended goals height g work work r) ⌝ }
-{
-    let combined = g.combined;
-    Outcome::Done(combined, g.entries)
 }

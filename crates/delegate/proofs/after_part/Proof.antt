@@ -1,4 +1,6 @@
-use Rattle.delegate.proofs.Turns.{stepped-all, stepped-any, stepped-pick}
+use mathlib.Core.Path.{ap}
+use Rattle.delegate.specs.Groups.{isPick}
+use Rattle.delegate.proofs.Turns.{stepped-pick}
 use borrow.Author.Needs.{needs}
 use Rattle.delegate.proofs.after_part.Statement.{statement}
 use Rattle.delegate.proofs.after_part.Tie as tie
@@ -6,14 +8,14 @@ use Rattle.delegate.proofs.after_part.Tie as tie
 enum-told : tie.Need-enum-told
 enum-told c = search needs
 
-unless-requires : tie.Need-unless-requires
-unless-requires c κs = search needs
+weigh-answer-requires : tie.Need-weigh-answer-requires
+weigh-answer-requires c κs = search needs
 
 enum-told-2 : tie.Need-enum-told-2
 enum-told-2 c = search needs
 
-unless-requires-2 : tie.Need-unless-requires-2
-unless-requires-2 c κs = search needs
+weigh-answer-requires-2 : tie.Need-weigh-answer-requires-2
+weigh-answer-requires-2 c κs = search needs
 
 enum-told-3 : tie.Need-enum-told-3
 enum-told-3 c = search needs
@@ -25,10 +27,10 @@ after-candidate-requires : tie.Need-after-candidate-requires
 after-candidate-requires c κs = search needs
 
 returns : tie.Need-returns
-returns c = let a = c .before .before .before .before .args in stepped-all (a .goals) (a .height) (a .entries) (a .answer) (a .work .now) (c .before .before .before .before .pre .1 .1 .1) (a .g) (c .unless .result) (c .before .enum-told .given .1) (c .unless .ensures)
+returns c = let s = c .before .before .before .before in let a = s .args in c .weigh-answer .ensures (a .goals) (a .height) (a .work .now) (ap isPick (c .before .enum-told .given .1)) (s .pre .1 .1 .1)
 
 returns-2 : tie.Need-returns-2
-returns-2 c = let a = c .before .before .before .before .args in stepped-any (a .goals) (a .height) (a .entries) (a .answer) (a .work .now) (c .before .before .before .before .pre .1 .1 .1) (a .g) (c .unless2 .result) (c .before .enum-told2 .given .1) (c .unless2 .ensures)
+returns-2 c = let s = c .before .before .before .before in let a = s .args in c .weigh-answer2 .ensures (a .goals) (a .height) (a .work .now) (ap isPick (c .before .enum-told2 .given .1)) (s .pre .1 .1 .1)
 
 same-length : tie.Need-same-length
 same-length c = search needs
@@ -41,9 +43,9 @@ after-part-spec =
     tie.close
     (tie.spec
     enum-told
-    unless-requires
+    weigh-answer-requires
     enum-told-2
-    unless-requires-2
+    weigh-answer-requires-2
     enum-told-3
     sub-after-candidate
     after-candidate-requires

@@ -1,4 +1,6 @@
-use Rattle.delegate.proofs.Starts.{begun-all, begun-any, begun-pick}
+use mathlib.Core.Path.{ap}
+use Rattle.delegate.specs.Groups.{isPick}
+use Rattle.delegate.proofs.Starts.{begun-pick}
 use borrow.Author.Needs.{needs}
 use Rattle.delegate.proofs.begin.Statement.{statement}
 use Rattle.delegate.proofs.begin.Tie as tie
@@ -6,8 +8,14 @@ use Rattle.delegate.proofs.begin.Tie as tie
 enum-told : tie.Need-enum-told
 enum-told c = search needs
 
+start-requires : tie.Need-start-requires
+start-requires c κs = search needs
+
 enum-told-2 : tie.Need-enum-told-2
 enum-told-2 c = search needs
+
+start-requires-2 : tie.Need-start-requires-2
+start-requires-2 c κs = search needs
 
 enum-told-3 : tie.Need-enum-told-3
 enum-told-3 c = search needs
@@ -16,10 +24,10 @@ begin-pick-requires : tie.Need-begin-pick-requires
 begin-pick-requires c κs = search needs
 
 returns : tie.Need-returns
-returns c = let a = c .before .before .before .args in begun-all (a .goals) (a .height) (a .entries) (a .op) (a .work .now) (c .enum-told .given .1)
+returns c = let a = c .before .before .before .before .args in c .start .ensures (a .goals) (a .height) (a .work .now) (ap isPick (c .before .enum-told .given .1))
 
 returns-2 : tie.Need-returns-2
-returns-2 c = let a = c .before .before .before .args in begun-any (a .goals) (a .height) (a .entries) (a .op) (a .work .now) (c .enum-told2 .given .1)
+returns-2 c = let a = c .before .before .before .before .args in c .start2 .ensures (a .goals) (a .height) (a .work .now) (ap isPick (c .before .enum-told2 .given .1))
 
 same-length : tie.Need-same-length
 same-length c = search needs
@@ -32,7 +40,9 @@ begin-spec =
     tie.close
     (tie.spec
     enum-told
+    start-requires
     enum-told-2
+    start-requires-2
     enum-told-3
     begin-pick-requires
     returns

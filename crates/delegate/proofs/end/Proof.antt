@@ -1,4 +1,6 @@
-use Rattle.delegate.proofs.Ends.{ended-all, ended-any, ended-pick}
+use mathlib.Core.Path.{ap}
+use Rattle.delegate.specs.Groups.{isPick}
+use Rattle.delegate.proofs.Ends.{ended-pick}
 use borrow.Author.Needs.{needs}
 use Rattle.delegate.proofs.end.Statement.{statement}
 use Rattle.delegate.proofs.end.Tie as tie
@@ -6,8 +8,14 @@ use Rattle.delegate.proofs.end.Tie as tie
 enum-told : tie.Need-enum-told
 enum-told c = search needs
 
+close-requires : tie.Need-close-requires
+close-requires c κs = search needs
+
 enum-told-2 : tie.Need-enum-told-2
 enum-told-2 c = search needs
+
+close-requires-2 : tie.Need-close-requires-2
+close-requires-2 c κs = search needs
 
 enum-told-3 : tie.Need-enum-told-3
 enum-told-3 c = search needs
@@ -19,10 +27,10 @@ end-pick-requires : tie.Need-end-pick-requires
 end-pick-requires c κs = search needs
 
 returns : tie.Need-returns
-returns c = let a = c .before .before .before .args in ended-all (a .goals) (a .height) (a .g) (c .before .before .before .pre .1 .1 .1) (a .work .now) (c .enum-told .given .1)
+returns c = let s = c .before .before .before .before in let a = s .args in c .close .ensures (a .goals) (a .height) (a .work .now) (ap isPick (c .before .enum-told .given .1)) (s .pre .1 .1 .1)
 
 returns-2 : tie.Need-returns-2
-returns-2 c = let a = c .before .before .before .args in ended-any (a .goals) (a .height) (a .g) (c .before .before .before .pre .1 .1 .1) (a .work .now) (c .enum-told2 .given .1)
+returns-2 c = let s = c .before .before .before .before in let a = s .args in c .close2 .ensures (a .goals) (a .height) (a .work .now) (ap isPick (c .before .enum-told2 .given .1)) (s .pre .1 .1 .1)
 
 same-length : tie.Need-same-length
 same-length c = search needs
@@ -35,7 +43,9 @@ end-spec =
     tie.close
     (tie.spec
     enum-told
+    close-requires
     enum-told-2
+    close-requires-2
     enum-told-3
     sub-end-pick
     end-pick-requires
