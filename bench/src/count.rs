@@ -1,0 +1,96 @@
+//! Instructions, counted by valgrind's callgrind: a figure without noise.
+//!
+//! Each class and engine is run in a process of its own, which reads the class's lists from a file. Only what the function
+//! `ask_all` does is counted, and of two runs, the second one twice as long, the difference: so nothing of the set-up is.
+
+use std::fs;
+use std::path::Path;
+use std::process::Command;
+
+use oracle_core::case::read_cases;
+
+use crate::engines::{BYTE_FLOOR, ENGINES, FLOOR, FROM_BYTES, LIBRARY, ORIGINAL};
+use crate::lists::{Class, List};
+
+/// The table, class by class.
+pub fn table(made: &[(&Class, Vec<List>)]) -> Result<(), String> {
+    println!("Instructions a query, in thousands, by callgrind.\n");
+    println!(
+        "| class | library | original | original / library | original from bytes | from bytes / library | floor | byte floor | library / byte floor |"
+    );
+    println!("|---|---|---|---|---|---|---|---|---|");
+    for (class, lists) in made {
+        eprintln!("counting {}", class.name);
+        let counts = counted(lists)?;
+        let over = |engine: usize, other: usize| counts[engine] / counts[other];
+        let thousands = |engine: usize| counts[engine] / 1000.0;
+        println!(
+            "| {} | {:.1} | {:.1} | {:.2} | {:.1} | {:.2} | {:.1} | {:.1} | {:.1} |",
+            class.name,
+            thousands(LIBRARY),
+            thousands(ORIGINAL),
+            over(ORIGINAL, LIBRARY),
+            thousands(FROM_BYTES),
+            over(FROM_BYTES, LIBRARY),
+            thousands(FLOOR),
+            thousands(BYTE_FLOOR),
+            over(LIBRARY, BYTE_FLOOR)
+        );
+    }
+    Ok(())
+}
+
+/// Instructions a query of each engine.
+fn counted(lists: &[List]) -> Result<[f64; ENGINES.len()], String> {
+    let text: String = lists.iter().map(List::text).collect();
+    let queries: usize = lists.iter().map(|list| list.case.queries.len()).sum();
+    let file = std::env::temp_dir().join(format!("bench-lists-{}.txt", std::process::id()));
+    fs::write(&file, text).map_err(|e| format!("{}: {e}", file.display()))?;
+    let mut counts = [0.0; ENGINES.len()];
+    let each = (0..ENGINES.len()).try_for_each(|engine| {
+        let more = collected(&file, engine, 2)? - collected(&file, engine, 1)?;
+        counts[engine] = more as f64 / queries as f64;
+        Ok(())
+    });
+    fs::remove_file(&file).ok();
+    each.map(|()| counts)
+}
+
+/// What callgrind collects while an engine runs the lists of a file so many times.
+fn collected(file: &Path, engine: usize, times: usize) -> Result<u64, String> {
+    let this = std::env::current_exe().map_err(|e| e.to_string())?;
+    let output = Command::new("valgrind")
+        .args(["--tool=callgrind", "--callgrind-out-file=/dev/null"])
+        .arg("--toggle-collect=bench::engines::ask_all*")
+        // without it glibc clears by a string instruction, which is counted once a byte
+        .env(
+            "GLIBC_TUNABLES",
+            "glibc.cpu.x86_rep_stosb_threshold=100000000",
+        )
+        .arg(this)
+        .args(["run", ENGINES[engine].name, &times.to_string()])
+        .arg(file)
+        .output()
+        .map_err(|e| format!("valgrind: {e}"))?;
+    let told = String::from_utf8_lossy(&output.stderr);
+    let collected = told
+        .lines()
+        .find_map(|line| line.split("Collected :").nth(1));
+    collected
+        .and_then(|number| number.trim().parse().ok())
+        .filter(|_| output.status.success())
+        .ok_or(format!("callgrind said:\n{told}"))
+}
+
+/// What such a process does.
+pub fn run(engine: &str, times: usize, file: &Path) -> Result<(), String> {
+    let engine = ENGINES
+        .iter()
+        .find(|e| e.name == engine)
+        .ok_or("no such engine")?;
+    let text = fs::read_to_string(file).map_err(|e| format!("{}: {e}", file.display()))?;
+    for case in read_cases(&text)? {
+        (engine.run)(&List { case, runs: 1 }, times);
+    }
+    Ok(())
+}
