@@ -7,6 +7,7 @@ use std::fs;
 use std::path::Path;
 use std::process::Command;
 
+use oracle_core::arguments::Arguments;
 use oracle_core::case::read_cases;
 
 use crate::engines::{BYTE_FLOOR, ENGINES, FLOOR, FROM_BYTES, LIBRARY, ORIGINAL};
@@ -53,7 +54,17 @@ fn counted(lists: &[List]) -> Result<[f64; ENGINES.len()], String> {
         Ok(())
     });
     fs::remove_file(&file).ok();
-    each.map(|()| counts)
+    each.and_then(|()| one_by_one(lists, counts[BYTE_FLOOR] * queries as f64)).map(|()| counts)
+}
+
+/// The byte floor is what its name says: more instructions than bytes that are read.
+fn one_by_one(lists: &[List], instructions: f64) -> Result<(), String> {
+    let bytes =
+        |list: &List| (list.case.book.len() + list.case.cache.len()) * list.case.queries.len();
+    match (lists.iter().map(bytes).sum::<usize>() as f64) < instructions {
+        true => Ok(()),
+        false => Err("the byte floor reads several bytes at once".into()),
+    }
 }
 
 /// What callgrind collects while an engine runs the lists of a file so many times.
@@ -63,34 +74,39 @@ fn collected(file: &Path, engine: usize, times: usize) -> Result<u64, String> {
         .args(["--tool=callgrind", "--callgrind-out-file=/dev/null"])
         .arg("--toggle-collect=bench::engines::ask_all*")
         // without it glibc clears by a string instruction, which is counted once a byte
-        .env(
-            "GLIBC_TUNABLES",
-            "glibc.cpu.x86_rep_stosb_threshold=100000000",
-        )
+        .env("GLIBC_TUNABLES", "glibc.cpu.x86_rep_stosb_threshold=100000000")
         .arg(this)
         .args(["run", ENGINES[engine].name, &times.to_string()])
         .arg(file)
         .output()
         .map_err(|e| format!("valgrind: {e}"))?;
     let told = String::from_utf8_lossy(&output.stderr);
-    let collected = told
-        .lines()
-        .find_map(|line| line.split("Collected :").nth(1));
+    let collected = told.lines().find_map(|line| line.split("Collected :").nth(1));
     collected
         .and_then(|number| number.trim().parse().ok())
         .filter(|_| output.status.success())
         .ok_or(format!("callgrind said:\n{told}"))
 }
 
-/// What such a process does.
-pub fn run(engine: &str, times: usize, file: &Path) -> Result<(), String> {
-    let engine = ENGINES
-        .iter()
-        .find(|e| e.name == engine)
-        .ok_or("no such engine")?;
-    let text = fs::read_to_string(file).map_err(|e| format!("{}: {e}", file.display()))?;
-    for case in read_cases(&text)? {
-        (engine.run)(&List { case, runs: 1 }, times);
+/// What such a process does: `run ENGINE TIMES FILE`.
+pub struct Run {
+    engine: String,
+    times: usize,
+    file: String,
+}
+
+impl Run {
+    pub fn read(words: &mut Arguments) -> Result<Run, String> {
+        let engine = words.need("ENGINE")?;
+        Ok(Run { engine, times: words.need_number("TIMES")? as usize, file: words.need("FILE")? })
     }
-    Ok(())
+
+    pub fn run(&self) -> Result<(), String> {
+        let engine = ENGINES.iter().find(|e| e.name == self.engine).ok_or("no such engine")?;
+        let text = fs::read_to_string(&self.file).map_err(|e| format!("{}: {e}", self.file))?;
+        for case in read_cases(&text)? {
+            (engine.run)(&List { case, runs: 1 }, self.times);
+        }
+        Ok(())
+    }
 }

@@ -22,26 +22,11 @@ pub const FLOOR: usize = 3;
 pub const BYTE_FLOOR: usize = 4;
 
 pub const ENGINES: [Engine; 5] = [
-    Engine {
-        name: "library",
-        run: library,
-    },
-    Engine {
-        name: "original",
-        run: original,
-    },
-    Engine {
-        name: "original-from-bytes",
-        run: original_from_bytes,
-    },
-    Engine {
-        name: "floor",
-        run: floor,
-    },
-    Engine {
-        name: "byte-floor",
-        run: byte_floor,
-    },
+    Engine { name: "library", run: library },
+    Engine { name: "original", run: original },
+    Engine { name: "original-from-bytes", run: original_from_bytes },
+    Engine { name: "floor", run: floor },
+    Engine { name: "byte-floor", run: byte_floor },
 ];
 
 /// Whole queries, from bytes to bytes.
@@ -56,13 +41,7 @@ fn library(list: &List, times: usize) -> u64 {
             q.depth,
         ));
     };
-    timed(
-        list,
-        times,
-        &mut lent,
-        |lent| lent.cache.copy_from_slice(&list.case.cache),
-        ask,
-    )
+    timed(list, times, &mut lent, |lent| lent.cache.copy_from_slice(&list.case.cache), ask)
 }
 
 /// Evaluations only: the book was read before, and the cache is kept in the original's own form.
@@ -71,13 +50,7 @@ fn original(list: &List, times: usize) -> u64 {
     let ask = |session: &mut Session, q: &Query| {
         black_box(session.ask(q.goal, q.depth));
     };
-    timed(
-        list,
-        times,
-        &mut session,
-        |session| session.load(&list.case.cache),
-        ask,
-    )
+    timed(list, times, &mut session, |session| session.load(&list.case.cache), ask)
 }
 
 /// The original doing what the library does: the book and the cache read from bytes, the cache written to them.
@@ -85,22 +58,9 @@ fn original_from_bytes(list: &List, times: usize) -> u64 {
     let mut lent = Lent::of(list);
     let ask = |lent: &mut Lent, q: &Query| {
         let Lent { cache, work } = lent;
-        black_box(reply(
-            &list.case.book,
-            cache,
-            work,
-            q.goal,
-            q.depth,
-            u64::MAX,
-        ));
+        black_box(reply(&list.case.book, cache, work, q.goal, q.depth, u64::MAX));
     };
-    timed(
-        list,
-        times,
-        &mut lent,
-        |lent| lent.cache.copy_from_slice(&list.case.cache),
-        ask,
-    )
+    timed(list, times, &mut lent, |lent| lent.cache.copy_from_slice(&list.case.cache), ask)
 }
 
 /// The least that document 01 makes every query do: read the book and the cache, here many bytes at once, and clear the workspace.
@@ -130,10 +90,7 @@ struct Lent {
 
 impl Lent {
     fn of(list: &List) -> Lent {
-        Lent {
-            cache: list.case.cache.clone(),
-            work: vec![0; list.case.queries[0].work_len],
-        }
+        Lent { cache: list.case.cache.clone(), work: vec![0; list.case.queries[0].work_len] }
     }
 }
 
@@ -168,13 +125,8 @@ fn ask_all<S>(queries: &[Query], times: usize, state: &mut S, ask: &impl Fn(&mut
 pub fn agree(list: &List) -> bool {
     let (mut ours, mut theirs) = (Lent::of(list), Lent::of(list));
     list.case.queries.iter().all(|q| {
-        let code = library::query(
-            &list.case.book,
-            &mut ours.cache,
-            &mut ours.work,
-            q.goal,
-            q.depth,
-        );
+        let code =
+            library::query(&list.case.book, &mut ours.cache, &mut ours.work, q.goal, q.depth);
         let Lent { cache, work } = &mut theirs;
         let report = reply(&list.case.book, cache, work, q.goal, q.depth, u64::MAX);
         let answer = u8::try_from(code).ok();

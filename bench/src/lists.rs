@@ -13,6 +13,7 @@ pub const FUEL: u64 = 20_000;
 /// How many lists a class has.
 const LISTS: usize = 20;
 
+#[derive(Clone)]
 pub struct List {
     pub case: Case,
     /// The goal runs of all queries together.
@@ -50,12 +51,8 @@ impl List {
     /// The same book with the cache that asking every goal leaves, and the goals that it answers.
     pub fn cached(&self) -> Option<List> {
         let book = Book::read(&self.case.book).expect("a good book");
-        let mut case = fresh(
-            &book,
-            (0..book.header.goals)
-                .map(|goal| query(&book, goal))
-                .collect(),
-        );
+        let mut case =
+            fresh(&book, (0..book.header.goals).map(|goal| query(&book, goal)).collect());
         (case.queries, case.cache) = kept(&case, FUEL, |_| true);
         (case.queries, _) = kept(&case, 0, |_| true);
         List::tried(case, 0).filter(|list| !list.case.queries.is_empty())
@@ -88,12 +85,7 @@ pub fn query(book: &Book, goal: usize) -> Query {
 
 pub fn fresh(book: &Book, queries: Vec<Query>) -> Case {
     let cache = vec![0; book.header.cache_len()];
-    Case {
-        name: String::new(),
-        book: book.to_bytes(),
-        cache,
-        queries,
-    }
+    Case { name: String::new(), book: book.to_bytes(), cache, queries }
 }
 
 pub struct Class {
@@ -120,64 +112,27 @@ pub const CLASSES: &[Class] = &[
     of("rings-4", "rings of 4 goals", || rings(4, true)),
     of("rings-16", "rings of 16 goals", || rings(16, true)),
     of("rings-64", "rings of 64 goals", || rings(64, true)),
-    of(
-        "rings-4-off",
-        "rings of 4 goals, provisional cache off",
-        || rings(4, false),
-    ),
-    of(
-        "rings-16-off",
-        "rings of 16 goals, provisional cache off",
-        || rings(16, false),
-    ),
-    of(
-        "rings-64-off",
-        "rings of 64 goals, provisional cache off",
-        || rings(64, false),
-    ),
-    of(
-        "picks",
-        "picks of calls, empty parts and undecided lines",
-        || generated("picks", 30),
-    ),
-    of("tangled", "cycles that cross each other", || {
-        generated("tangled", 50)
-    }),
-    of("nested", "parts nested up to 8 deep", || {
-        generated("nested", 30)
-    }),
+    of("rings-4-off", "rings of 4 goals, provisional cache off", || rings(4, false)),
+    of("rings-16-off", "rings of 16 goals, provisional cache off", || rings(16, false)),
+    of("rings-64-off", "rings of 64 goals, provisional cache off", || rings(64, false)),
+    of("picks", "picks of calls, empty parts and undecided lines", || generated("picks", 30)),
+    of("tangled", "cycles that cross each other", || generated("tangled", 50)),
+    of("nested", "parts nested up to 8 deep", || generated("nested", 30)),
     of("large", "17 to 64 goals", || generated("large", 50)),
     of("long", "up to 1,000 lines", || generated("long", 30)),
-    of(
-        "cached-4",
-        "rings of 4 goals, every query in the cache",
-        || cached(rings(4, true)),
-    ),
-    of(
-        "cached-16",
-        "rings of 16 goals, every query in the cache",
-        || cached(rings(16, true)),
-    ),
-    of(
-        "cached-64",
-        "rings of 64 goals, every query in the cache",
-        || cached(rings(64, true)),
-    ),
-    of(
-        "cached-long",
-        "up to 1,000 lines, every query in the cache",
-        || cached(generated("long", 30)),
-    ),
+    of("cached-4", "rings of 4 goals, every query in the cache", || cached(rings(4, true))),
+    of("cached-16", "rings of 16 goals, every query in the cache", || cached(rings(16, true))),
+    of("cached-64", "rings of 64 goals, every query in the cache", || cached(rings(64, true))),
+    of("cached-long", "up to 1,000 lines, every query in the cache", || {
+        cached(generated("long", 30))
+    }),
 ];
 
 /// Rings on which goal 0 takes at least 8 runs a goal.
 fn rings(goals: usize, provisional_cache: bool) -> Vec<List> {
     let book = |seed| shapes::ring(&mut Random::new(seed), goals, provisional_cache);
     let lists = (0..20_000).filter_map(|seed| List::of_book(&book(seed), FUEL));
-    lists
-        .filter(|list| list.runs >= 8 * goals as u64)
-        .take(LISTS)
-        .collect()
+    lists.filter(|list| list.runs >= 8 * goals as u64).take(LISTS).collect()
 }
 
 /// Cases of a generated class, with those queries that evaluate something, that take at least `least` goal runs.
@@ -188,11 +143,7 @@ fn generated(name: &str, least: u64) -> Vec<List> {
         (case.queries, _) = kept(&case, FUEL, |runs| runs > 0);
         List::tried(case, FUEL)
     };
-    (0..20_000)
-        .filter_map(list)
-        .filter(|list| list.runs >= least)
-        .take(LISTS)
-        .collect()
+    (0..20_000).filter_map(list).filter(|list| list.runs >= least).take(LISTS).collect()
 }
 
 fn cached(lists: Vec<List>) -> Vec<List> {

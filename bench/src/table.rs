@@ -1,8 +1,8 @@
 //! The table of times, and whether the goals are met.
 
-use crate::engines::{BYTE_FLOOR, FLOOR, FROM_BYTES, LIBRARY, ORIGINAL, agree};
+use crate::engines::{BYTE_FLOOR, FLOOR, FROM_BYTES, LIBRARY, ORIGINAL};
 use crate::lists::{CLASSES, Class, List};
-use crate::rounds::{Rounds, median};
+use crate::rounds::{Rounds, all_agree, median};
 
 /// What each class is.
 pub fn classes(made: &[(&Class, Vec<List>)]) {
@@ -21,6 +21,10 @@ pub fn classes(made: &[(&Class, Vec<List>)]) {
             bytes / lists.len()
         );
     }
+}
+
+pub fn lists(made: &[(&Class, Vec<List>)]) {
+    made.iter().flat_map(|(_, lists)| lists).for_each(|list| print!("{}", list.text()));
 }
 
 /// A class's times over all rounds.
@@ -64,7 +68,7 @@ impl Row {
 }
 
 /// Times a query in microseconds, class by class.
-pub fn times(made: Vec<(&'static Class, Vec<List>)>, rounds: usize) {
+pub fn times(made: &[(&'static Class, Vec<List>)], rounds: usize) {
     println!(
         "Microseconds a query; the median of {rounds} rounds, in brackets the least and the most.\n"
     );
@@ -72,14 +76,10 @@ pub fn times(made: Vec<(&'static Class, Vec<List>)>, rounds: usize) {
         "| class | library | original | original / library | original from bytes | from bytes / library | floor | library / floor | byte floor | library / byte floor | bound by |"
     );
     println!("|---|---|---|---|---|---|---|---|---|---|---|");
-    let rows = made.into_iter().map(|(class, lists)| {
+    let rows = made.iter().map(|(class, lists)| {
         eprintln!("timing {}", class.name);
         let cached = lists.iter().all(List::is_cached);
-        let row = Row {
-            class: class.name,
-            cached,
-            rounds: Rounds::of(&lists, rounds),
-        };
+        let row = Row { class: class.name, cached, rounds: Rounds::of(lists, rounds) };
         row.print();
         row
     });
@@ -89,15 +89,8 @@ pub fn times(made: Vec<(&'static Class, Vec<List>)>, rounds: usize) {
 fn goals(rows: &[Row]) {
     println!();
     let ratio = |row: &&Row| row.rounds.ratio(ORIGINAL, LIBRARY)[1];
-    let bound: Vec<&Row> = rows
-        .iter()
-        .filter(|row| row.bound_by_evaluation())
-        .collect();
-    if let Some(least) = bound
-        .iter()
-        .copied()
-        .min_by(|a, b| ratio(a).total_cmp(&ratio(b)))
-    {
+    let bound: Vec<&Row> = rows.iter().filter(|row| row.bound_by_evaluation()).collect();
+    if let Some(least) = bound.iter().copied().min_by(|a, b| ratio(a).total_cmp(&ratio(b))) {
         let (lowest, middle) = (ratio(&least), median(bound.iter().map(ratio).collect()));
         println!(
             "- Goal: at least as fast as the original in each of the {} classes bound by evaluation. Lowest {lowest:.2} ({}): {}.",
@@ -105,10 +98,7 @@ fn goals(rows: &[Row]) {
             least.class,
             verdict(lowest >= 1.0)
         );
-        println!(
-            "- Goal: twice as fast in their median. {middle:.2}: {}.",
-            verdict(middle >= 2.0)
-        );
+        println!("- Goal: twice as fast in their median. {middle:.2}: {}.", verdict(middle >= 2.0));
     }
     let cached = rows.iter().filter(|row| row.cached);
     for (engine, name) in [(FLOOR, "floor"), (BYTE_FLOOR, "byte floor")] {
@@ -129,22 +119,13 @@ fn verdict(met: bool) -> &'static str {
     if met { "met" } else { "missed" }
 }
 
-/// The lists of all classes, or of one. Times mean nothing where the two engines do not do the same.
+/// The lists of all classes, or of one.
 pub fn made(only: Option<&'static Class>) -> Result<Vec<(&'static Class, Vec<List>)>, String> {
-    let wanted = CLASSES
-        .iter()
-        .filter(|class| only.is_none_or(|only| only.name == class.name));
+    let wanted = CLASSES.iter().filter(|class| only.is_none_or(|only| only.name == class.name));
     let lists = |class: &'static Class| {
         eprintln!("making the lists of {}", class.name);
         let lists = class.lists();
-        match lists.iter().find(|list| !agree(list)) {
-            Some(list) => Err(format!(
-                "library and original differ on {}:\n{}",
-                class.name,
-                list.text()
-            )),
-            None => Ok((class, lists)),
-        }
+        all_agree(&lists).map(|()| (class, lists))
     };
     wanted.map(lists).collect()
 }
