@@ -49,9 +49,9 @@ fn counted(lists: &[List]) -> Result<[f64; ENGINES.len()], String> {
     fs::write(&file, text).map_err(|e| format!("{}: {e}", file.display()))?;
     let mut counts = [0.0; ENGINES.len()];
     let each = (0..ENGINES.len()).try_for_each(|engine| {
-        let more = collected(&file, engine, 2)? - collected(&file, engine, 1)?;
-        counts[engine] = more as f64 / queries as f64;
-        Ok(())
+        let (once, twice) = (collected(&file, engine, 1)?, collected(&file, engine, 2)?);
+        counts[engine] = twice.saturating_sub(once) as f64 / queries as f64;
+        if once > 0 && twice > once { Ok(()) } else { Err("callgrind counted nothing".to_string()) }
     });
     fs::remove_file(&file).ok();
     each.and_then(|()| one_by_one(lists, counts[BYTE_FLOOR] * queries as f64)).map(|()| counts)

@@ -41,7 +41,8 @@ fn library(list: &List, times: usize) -> u64 {
             q.depth,
         ));
     };
-    timed(list, times, &mut lent, |lent| lent.cache.copy_from_slice(&list.case.cache), ask)
+    let set_anew = |lent: &mut Lent| lent.cache.copy_from_slice(&list.case.cache);
+    timed(list, times, list.is_cached(), &mut lent, set_anew, ask)
 }
 
 /// Evaluations only: the book was read before, and the cache is kept in the original's own form.
@@ -50,7 +51,8 @@ fn original(list: &List, times: usize) -> u64 {
     let ask = |session: &mut Session, q: &Query| {
         black_box(session.ask(q.goal, q.depth));
     };
-    timed(list, times, &mut session, |session| session.load(&list.case.cache), ask)
+    let set_anew = |session: &mut Session| session.load(&list.case.cache);
+    timed(list, times, list.is_cached(), &mut session, set_anew, ask)
 }
 
 /// The original doing what the library does: the book and the cache read from bytes, the cache written to them.
@@ -60,7 +62,8 @@ fn original_from_bytes(list: &List, times: usize) -> u64 {
         let Lent { cache, work } = lent;
         black_box(reply(&list.case.book, cache, work, q.goal, q.depth, u64::MAX));
     };
-    timed(list, times, &mut lent, |lent| lent.cache.copy_from_slice(&list.case.cache), ask)
+    let set_anew = |lent: &mut Lent| lent.cache.copy_from_slice(&list.case.cache);
+    timed(list, times, list.is_cached(), &mut lent, set_anew, ask)
 }
 
 /// The least that document 01 makes every query do: read the book and the cache, here many bytes at once, and clear the workspace.
@@ -79,7 +82,7 @@ fn read_and_clear(list: &List, times: usize, read: impl Fn(&[u8]) -> bool) -> u6
         black_box(read(black_box(&list.case.book)) | read(black_box(&lent.cache)));
         black_box(&mut lent.work).fill(0);
     };
-    timed(list, times, &mut Lent::of(list), |_| (), read_all)
+    timed(list, times, true, &mut Lent::of(list), |_| (), read_all)
 }
 
 /// The two buffers of a query that are written.
@@ -94,17 +97,18 @@ impl Lent {
     }
 }
 
-/// Where the queries change the cache, it is set anew before each run; that is not timed.
+/// Where the queries change the cache, it is set anew before each run, which is not timed; else the clock is read once for all.
 fn timed<S>(
     list: &List,
     times: usize,
+    cache_stays: bool,
     state: &mut S,
     set_anew: impl Fn(&mut S),
     ask: impl Fn(&mut S, &Query),
 ) -> u64 {
-    let at_once = if list.is_cached() { times } else { 1 };
+    let at_once = if cache_stays { times.max(1) } else { 1 };
     let mut spent = 0;
-    for _ in 0..times / at_once.max(1) {
+    for _ in 0..times / at_once {
         set_anew(state);
         let start = Instant::now();
         ask_all(&list.case.queries, at_once, state, &ask);

@@ -1,4 +1,4 @@
-//! Looks for the small book whose query takes the most goal runs: from a random book, small changes that do not make it less.
+//! Looks for the small book whose query takes the most goal runs, by random changes that do not make them fewer.
 
 use std::time::Instant;
 
@@ -26,9 +26,13 @@ pub struct Search {
 impl Search {
     pub fn read(words: &mut Arguments) -> Result<Search, String> {
         let goals = words.option("--goals")?.unwrap_or(3).clamp(1, 64) as usize;
+        let lines = words.option("--lines")?.unwrap_or(16) as usize;
+        if lines <= 2 * goals {
+            return Err(format!("a book of {goals} goals has at least {} lines", 2 * goals + 1));
+        }
         Ok(Search {
             goals,
-            lines: words.option("--lines")?.unwrap_or(16) as usize,
+            lines,
             provisional_cache: !words.switch("--off"),
             limit: words.option("--limit")?.unwrap_or(1_000_000),
             seed: words.option("--seed")?.unwrap_or(1),
@@ -47,8 +51,8 @@ impl Search {
             self.goals, self.lines, found.runs
         );
         println!(
-            "# Made by: bench/run search --goals {} --lines {}{off} --seed {} --tries {tries}",
-            self.goals, self.lines, self.seed
+            "# Made by: bench/run search --goals {} --lines {}{off} --seed {} --limit {} --tries {tries}",
+            self.goals, self.lines, self.seed, self.limit
         );
         print!("{}", found.text());
     }

@@ -83,7 +83,10 @@ pub fn times(made: &[(&'static Class, Vec<List>)], rounds: usize) {
         row.print();
         row
     });
-    goals(&rows.collect::<Vec<_>>());
+    let rows: Vec<Row> = rows.collect();
+    if rows.len() == CLASSES.len() {
+        goals(&rows);
+    }
 }
 
 fn goals(rows: &[Row]) {
