@@ -2,6 +2,7 @@
 
 use std::time::Instant;
 
+use oracle_core::Limits;
 use oracle_core::arguments::Arguments;
 use oracle_core::book::{Book, Header, Part};
 use oracle_core::generate::change;
@@ -30,14 +31,19 @@ impl Search {
         if lines <= 2 * goals {
             return Err(format!("a book of {goals} goals has at least {} lines", 2 * goals + 1));
         }
+        let tries = words.option("--tries")?;
         Ok(Search {
             goals,
             lines,
             provisional_cache: !words.switch("--off"),
             limit: words.option("--limit")?.unwrap_or(1_000_000),
             seed: words.option("--seed")?.unwrap_or(1),
-            seconds: words.option("--seconds")?.unwrap_or(60),
-            tries: words.option("--tries")?.unwrap_or(u64::MAX),
+            seconds: words.option("--seconds")?.unwrap_or(if tries.is_some() {
+                u64::MAX
+            } else {
+                60
+            }),
+            tries: tries.unwrap_or(u64::MAX),
         })
     }
 
@@ -45,6 +51,7 @@ impl Search {
     pub fn print(&self) {
         let (mut found, tries) = self.found();
         found.case.name = format!("{}-goals", self.goals);
+        found.case = found.case.answered(Limits::default());
         let off = if self.provisional_cache { "" } else { " --off" };
         println!(
             "# The book of {} goals and at most {} lines that took the most goal runs: {}.",

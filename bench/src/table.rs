@@ -85,12 +85,23 @@ pub fn times(made: &[(&'static Class, Vec<List>)], rounds: usize) {
     });
     let rows: Vec<Row> = rows.collect();
     if rows.len() == CLASSES.len() {
+        noise(&rows);
         goals(&rows);
     }
 }
 
+fn noise(rows: &[Row]) {
+    let spread = |row: &Row| {
+        let [least, _, most] = row.rounds.ratio(ORIGINAL, LIBRARY);
+        most / least
+    };
+    println!(
+        "\nThe machine's noise: in the median class the highest main ratio of a round was {:.2} times the lowest.\n",
+        median(rows.iter().map(spread).collect())
+    );
+}
+
 fn goals(rows: &[Row]) {
-    println!();
     let ratio = |row: &&Row| row.rounds.ratio(ORIGINAL, LIBRARY)[1];
     let bound: Vec<&Row> = rows.iter().filter(|row| row.bound_by_evaluation()).collect();
     if let Some(least) = bound.iter().copied().min_by(|a, b| ratio(a).total_cmp(&ratio(b))) {
