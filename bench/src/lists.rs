@@ -12,6 +12,8 @@ use crate::shapes;
 pub const FUEL: u64 = 20_000;
 /// How many lists a class has.
 const LISTS: usize = 20;
+/// The most queries of a list in which all is cached.
+const CACHED: usize = 8;
 
 #[derive(Clone)]
 pub struct List {
@@ -48,13 +50,14 @@ impl List {
         self.runs == 0
     }
 
-    /// The same book with the cache that asking every goal leaves, and the goals that it answers.
+    /// The same book with the cache that asking every goal leaves, and the first goals that it answers.
     pub fn cached(&self) -> Option<List> {
         let book = Book::read(&self.case.book).expect("a good book");
         let mut case =
             fresh(&book, (0..book.header.goals).map(|goal| query(&book, goal)).collect());
         (case.queries, case.cache) = kept(&case, FUEL, |_| true);
         (case.queries, _) = kept(&case, 0, |_| true);
+        case.queries.truncate(CACHED);
         List::tried(case, 0).filter(|list| !list.case.queries.is_empty())
     }
 }
