@@ -117,7 +117,8 @@ pub fn to_hex(bytes: &[u8]) -> String {
 }
 
 pub fn from_hex(text: &str) -> Result<Vec<u8>, String> {
-    let digit = |c: u8| (c as char).to_digit(16).ok_or(format!("no hexadecimal digit: {c}"));
+    let digit =
+        |c: u8| (c as char).to_digit(16).ok_or_else(|| format!("no hexadecimal digit: {c}"));
     if !text.len().is_multiple_of(2) {
         return Err("an odd number of hexadecimal digits".to_string());
     }

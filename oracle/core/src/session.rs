@@ -6,6 +6,7 @@ use original::hooks;
 use original::search_graph::GlobalCache;
 
 use crate::book::Book;
+use crate::cache;
 use crate::delegate::{self, End, Lent};
 
 pub struct Session {
@@ -14,10 +15,15 @@ pub struct Session {
 }
 
 impl Session {
-    /// None where the book is refused.
+    /// With an empty cache; none where the book is refused.
     pub fn new(book: &[u8]) -> Option<Session> {
         let book = Rc::new(Book::read(book).ok()?);
         Some(Session { book, cache: GlobalCache::new() })
+    }
+
+    /// Takes the cache from bytes, which are well-formed.
+    pub fn load(&mut self, bytes: &[u8]) {
+        self.cache = cache::load(&self.book.header, bytes);
     }
 
     /// The answer; none where the evaluation was refused.

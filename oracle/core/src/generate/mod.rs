@@ -2,8 +2,7 @@
 
 mod books;
 mod caches;
-#[cfg(feature = "wrong_readings")]
-pub(crate) mod change;
+pub mod change;
 mod damage;
 pub mod examples;
 mod shapes;

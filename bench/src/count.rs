@@ -1,0 +1,112 @@
+//! Instructions, counted by valgrind's callgrind: a figure without noise.
+//!
+//! Each class and engine is run in a process of its own, which reads the class's lists from a file. Only what the function
+//! `ask_all` does is counted, and of two runs, the second one twice as long, the difference: so nothing of the set-up is.
+
+use std::fs;
+use std::path::Path;
+use std::process::Command;
+
+use oracle_core::arguments::Arguments;
+use oracle_core::case::read_cases;
+
+use crate::engines::{BYTE_FLOOR, ENGINES, FLOOR, FROM_BYTES, LIBRARY, ORIGINAL};
+use crate::lists::{Class, List};
+
+/// The table, class by class.
+pub fn table(made: &[(&Class, Vec<List>)]) -> Result<(), String> {
+    println!("Instructions a query, in thousands, by callgrind.\n");
+    println!(
+        "| class | library | original | original / library | original from bytes | from bytes / library | floor | byte floor | library / byte floor |"
+    );
+    println!("|---|---|---|---|---|---|---|---|---|");
+    for (class, lists) in made {
+        eprintln!("counting {}", class.name);
+        let counts = counted(lists)?;
+        let over = |engine: usize, other: usize| counts[engine] / counts[other];
+        let thousands = |engine: usize| counts[engine] / 1000.0;
+        println!(
+            "| {} | {:.1} | {:.1} | {:.2} | {:.1} | {:.2} | {:.1} | {:.1} | {:.1} |",
+            class.name,
+            thousands(LIBRARY),
+            thousands(ORIGINAL),
+            over(ORIGINAL, LIBRARY),
+            thousands(FROM_BYTES),
+            over(FROM_BYTES, LIBRARY),
+            thousands(FLOOR),
+            thousands(BYTE_FLOOR),
+            over(LIBRARY, BYTE_FLOOR)
+        );
+    }
+    Ok(())
+}
+
+/// Instructions a query of each engine.
+fn counted(lists: &[List]) -> Result<[f64; ENGINES.len()], String> {
+    let text: String = lists.iter().map(List::text).collect();
+    let queries: usize = lists.iter().map(|list| list.case.queries.len()).sum();
+    let file = std::env::temp_dir().join(format!("bench-lists-{}.txt", std::process::id()));
+    fs::write(&file, text).map_err(|e| format!("{}: {e}", file.display()))?;
+    let mut counts = [0.0; ENGINES.len()];
+    let each = (0..ENGINES.len()).try_for_each(|engine| {
+        let (once, twice) = (collected(&file, engine, 1)?, collected(&file, engine, 2)?);
+        counts[engine] = twice.saturating_sub(once) as f64 / queries as f64;
+        if once > 0 && twice > once { Ok(()) } else { Err("callgrind counted nothing".to_string()) }
+    });
+    fs::remove_file(&file).ok();
+    each.and_then(|()| one_by_one(lists, counts[BYTE_FLOOR] * queries as f64)).map(|()| counts)
+}
+
+/// The byte floor is what its name says: more instructions than bytes that are read.
+fn one_by_one(lists: &[List], instructions: f64) -> Result<(), String> {
+    let bytes =
+        |list: &List| (list.case.book.len() + list.case.cache.len()) * list.case.queries.len();
+    match (lists.iter().map(bytes).sum::<usize>() as f64) < instructions {
+        true => Ok(()),
+        false => Err("the byte floor reads several bytes at once".into()),
+    }
+}
+
+/// What callgrind collects while an engine runs the lists of a file so many times.
+fn collected(file: &Path, engine: usize, times: usize) -> Result<u64, String> {
+    let this = std::env::current_exe().map_err(|e| e.to_string())?;
+    let output = Command::new("valgrind")
+        .args(["--tool=callgrind", "--callgrind-out-file=/dev/null"])
+        .arg("--toggle-collect=bench::engines::ask_all*")
+        // without it glibc clears by a string instruction, which is counted once a byte
+        .env("GLIBC_TUNABLES", "glibc.cpu.x86_rep_stosb_threshold=100000000")
+        .arg(this)
+        .args(["run", ENGINES[engine].name, &times.to_string()])
+        .arg(file)
+        .output()
+        .map_err(|e| format!("valgrind: {e}"))?;
+    let told = String::from_utf8_lossy(&output.stderr);
+    let collected = told.lines().find_map(|line| line.split("Collected :").nth(1));
+    collected
+        .and_then(|number| number.trim().parse().ok())
+        .filter(|_| output.status.success())
+        .ok_or(format!("callgrind said:\n{told}"))
+}
+
+/// What such a process does: `run ENGINE TIMES FILE`.
+pub struct Run {
+    engine: String,
+    times: usize,
+    file: String,
+}
+
+impl Run {
+    pub fn read(words: &mut Arguments) -> Result<Run, String> {
+        let engine = words.need("ENGINE")?;
+        Ok(Run { engine, times: words.need_number("TIMES")? as usize, file: words.need("FILE")? })
+    }
+
+    pub fn run(&self) -> Result<(), String> {
+        let engine = ENGINES.iter().find(|e| e.name == self.engine).ok_or("no such engine")?;
+        let text = fs::read_to_string(&self.file).map_err(|e| format!("{}: {e}", self.file))?;
+        for case in read_cases(&text)? {
+            (engine.run)(&List { case, runs: 1 }, self.times);
+        }
+        Ok(())
+    }
+}
