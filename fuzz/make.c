@@ -9,6 +9,7 @@ struct maker {
     struct input *in;
     struct bytes *book;
     unsigned goals, room; /* lines that may still be added */
+    int beyond;           /* one line and one level too many, and picks inside picks, are put too */
 };
 
 /* ---- right books */
@@ -45,8 +46,8 @@ static void put_part(struct maker *m, int level, int in_pick) {
         put_line(m->book, 6, 0, 0, 0, 0);
         return;
     }
-    unsigned code = choice < 8 ? 3 : choice < 10 || in_pick ? 4 : 5;
-    unsigned count = level == DEEPEST ? 0 : take_count(m);
+    unsigned code = choice < 8 ? 3 : choice < 10 || (in_pick && !m->beyond) ? 4 : 5;
+    unsigned count = level == DEEPEST + m->beyond ? 0 : take_count(m);
     m->room -= count;
     put_line(m->book, code, count, 0, 0, 0);
     while (count-- > 0) put_part(m, level + 1, in_pick || code == 5);
@@ -55,7 +56,7 @@ static void put_part(struct maker *m, int level, int in_pick) {
 /* A number in a range that is mostly near its lower end. */
 static unsigned take_small(struct input *in, unsigned least, unsigned few, unsigned most) {
     unsigned n = take(in);
-    return least + n % ((n < 224 ? few : most) - least + 1);
+    return n < 224 ? least + n % (few - least + 1) : n < 250 ? least + take(in) % (most - least + 1) : most;
 }
 
 static unsigned put_header(struct input *in, struct bytes *book) {
@@ -65,9 +66,9 @@ static unsigned put_header(struct input *in, struct bytes *book) {
     return goals;
 }
 
-static void right_book(struct input *in, struct bytes *book) {
+static void book_by_grammar(struct input *in, struct bytes *book, int beyond) {
     unsigned goals = put_header(in, book);
-    struct maker m = {in, book, goals, MOST_LINES - 1 - 2 * goals};
+    struct maker m = {in, book, goals, MOST_LINES - 1 - 2 * goals + (unsigned)beyond, beyond};
     for (unsigned goal = 0; goal < goals; goal++) {
         put_line(book, 1, goal, 0, 0, 0);
         put_part(&m, 1, 0);
@@ -95,17 +96,26 @@ static void any_bytes(struct input *in, struct bytes *book) {
         for (size_t i = 0; i < book->len; i++) book->at[i] = (uint8_t)take(in);
 }
 
-/* Spoils a book that has lines: a byte, a field, a line dropped or doubled, the length. */
+/* Spoils a field: another number, one at an end of the header's ranges, or zeros in place of blanks. */
+static void spoil_field(uint8_t *field, unsigned way, unsigned value) {
+    static const uint8_t ends[] = {0, 1, 2, 3, 62, 63, 64, 65, 98, 99, 100};
+    if (way == 0) put_field(field, value < 128 ? value % 10 : value < 240 ? value : 4 * value % 1000);
+    if (way == 1) put_field(field, ends[value % sizeof ends]);
+    if (way == 2) field[value % 2] = '0';
+    if (way == 3) memcpy(field, value % 2 == 0 ? "010" : " 01", 3);
+}
+
+/* Spoils a book that has lines: a byte, a field, a field of the header, a line dropped or doubled, the length. */
 static void spoil_book(struct input *in, struct bytes *book) {
     static const char near[] = " 0123456789\n\r\t/:";
     unsigned what = take(in), where = take2(in), value = take(in);
     uint8_t *line = book->at + where % (book->len / LINE) * LINE;
     size_t after = book->len - (size_t)(line - book->at);
     switch (what % 8) {
-    case 0: book->at[where % book->len] = (uint8_t)value; break;
-    case 1: book->at[where % book->len] = (uint8_t)near[value % (sizeof near - 1)]; break;
+    case 0: book->at[where % book->len] = (uint8_t)(value < 128 ? near[value % (sizeof near - 1)] : (int)value); break;
+    case 1: spoil_field(book->at + 3 * (what / 8 % 5), 1, value); break;
     case 2:
-    case 3: put_field(line + 3 * (what / 8 % 5), value < 128 ? value % 10 : value < 240 ? value : 4 * value % 1000); break;
+    case 3: spoil_field(line + 3 * (what / 8 % 5), where / 256 % 4, value); break;
     case 4:
         memmove(line, line + LINE, after - LINE);
         book->len -= LINE;
@@ -129,7 +139,7 @@ void make_book(struct input *in, struct bytes *book) {
     } else if (way == 14) {
         any_lines(in, book);
     } else {
-        right_book(in, book);
+        book_by_grammar(in, book, way == 9);
         for (unsigned times = way < 10 ? 0 : way - 9; times > 0 && book->len >= LINE; times--) spoil_book(in, book);
     }
 }
