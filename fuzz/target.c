@@ -10,7 +10,7 @@
 #include <string.h>
 #include <sys/time.h>
 
-enum { LAST_BOOK_REFUSAL = 4, LAST_UNTOUCHED = 9, REFUSALS = 11, ANSWERS = 4, LIMIT_MS = 300 };
+enum { LAST_UNTOUCHED = 9, REFUSALS = 11, ANSWERS = 4, LIMIT_MS = 300 };
 
 /* ---- what was seen */
 

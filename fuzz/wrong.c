@@ -7,7 +7,8 @@
 
 size_t right_work_len(size_t goals);
 size_t right_cache_len(size_t goals, size_t top_depth);
-uint32_t right_query(const uint8_t *book, size_t book_len, uint8_t *cache, size_t cache_len, uint8_t *work, size_t work_len, size_t goal, size_t depth);
+uint32_t right_query(const uint8_t *book, size_t book_len, uint8_t *cache, size_t cache_len, uint8_t *work, size_t work_len, size_t goal,
+                     size_t depth);
 
 static int wrong(const char *name) {
     static const char *set;
@@ -40,11 +41,14 @@ static void before(const uint8_t *book, size_t book_len, uint8_t *cache, size_t 
     if (wrong("writes-past-work")) write_same(work + work_len);
     if (wrong("writes-before-work")) write_same(work - 1);
     if (wrong("writes-book") && book_len > 0) write_same(book);
+    if (wrong("changes-book") && book_len > 0) *(uint8_t *)(uintptr_t)book ^= 1;
     while (wrong("never-ends")) read_byte(book);
 }
 
 /* Faults in the bytes that a query leaves. */
 static void leave(uint32_t refusal, uint8_t *cache, size_t cache_len, uint8_t *work, size_t work_len) {
+    static unsigned calls;
+    if (wrong("cache-has-a-state") && refusal == 0 && ++calls % 1000 == 0) cache[cache_len - 1] ^= 1;
     if (wrong("accepted-leaves-work") && refusal == 0) work[work_len - 1] = 1;
     if (wrong("accepted-spoils-cache") && refusal == 0) cache[cache_len - 1] = 32;
     if (wrong("seven-writes-cache") && refusal == 7 && cache_len > 0) cache[cache_len - 1] ^= 1;
