@@ -1,0 +1,109 @@
+/* Refusals 1 to 9, decided from what include/search_graph.h and document 01 say, apart from the library. */
+#include "fuzz.h"
+
+enum { LINE = 16, FIELDS = 5, DEEPEST = 8 };
+
+struct lines {
+    unsigned (*line)[FIELDS];
+    size_t count, next;
+    unsigned goals;
+};
+
+size_t work_length(size_t goals) {
+    return goals < 1 || goals > 64 ? 0 : 4 * goals * (41 * goals + 24);
+}
+
+size_t cache_length(size_t goals, size_t top) {
+    return goals < 1 || goals > 64 || top > 63 ? 0 : goals * (top + 2) * (goals + 3);
+}
+
+/* A number of three columns: right-justified, without leading zeros. */
+static int read_field(const uint8_t *at, unsigned *n) {
+    int begun = 0;
+    *n = 0;
+    for (int i = 0; i < 3; i++) {
+        if (at[i] == ' ' && !begun && i < 2) continue;
+        if (at[i] < '0' || at[i] > '9') return 0;
+        if (at[i] == '0' && !begun && i < 2) return 0;
+        begun = 1;
+        *n = 10 * *n + (unsigned)(at[i] - '0');
+    }
+    return 1;
+}
+
+static int read_line(const uint8_t *at, unsigned fields[FIELDS]) {
+    for (int i = 0; i < FIELDS; i++)
+        if (!read_field(at + 3 * i, &fields[i])) return 0;
+    return at[LINE - 1] == '\n';
+}
+
+static int only_first(const unsigned f[FIELDS]) {
+    return f[2] == 0 && f[3] == 0 && f[4] == 0;
+}
+
+/* Passes over a part; 0 where the lines break the grammar. */
+static int pass_part(struct lines *l, int level, int in_pick) {
+    if (level > DEEPEST || l->next == l->count) return 0;
+    const unsigned *f = l->line[l->next++];
+    switch (f[0]) {
+    case 2: return f[1] < l->goals && f[2] <= 3 && f[3] <= 1 && f[4] == 0;
+    case 3:
+    case 4:
+    case 5:
+        if (!only_first(f) || (f[0] == 5 && in_pick)) return 0;
+        for (unsigned i = 0; i < f[1]; i++)
+            if (!pass_part(l, level + 1, in_pick || f[0] == 5)) return 0;
+        return 1;
+    case 6: return f[1] == 0 && only_first(f);
+    default: return 0;
+    }
+}
+
+static int body_is_right(struct lines *l) {
+    for (unsigned goal = 0; goal < l->goals; goal++) {
+        if (l->next == l->count) return 0;
+        const unsigned *f = l->line[l->next++];
+        if (f[0] != 1 || f[1] != goal || !only_first(f) || !pass_part(l, 1, 0)) return 0;
+    }
+    return l->next == l->count;
+}
+
+/* 0 to 4. Goals and top depth are given where the header is in range, and left as they are elsewhere. */
+unsigned book_refusal(const uint8_t *book, size_t len, unsigned *goals, unsigned *top) {
+    static unsigned line[1000][FIELDS];
+    if (len % LINE != 0 || len < 48 || len > 16000) return 1;
+    for (size_t i = 0; i < len / LINE; i++)
+        if (!read_line(book + LINE * i, line[i])) return 2;
+    const unsigned *h = line[0];
+    if (h[0] > 1 || h[1] < 1 || h[1] > 64 || h[2] > 63 || h[3] > 99 || h[4] < 1 || h[4] > 99) return 3;
+    *goals = h[1];
+    *top = h[2];
+    struct lines body = {line, len / LINE, 1, h[1]};
+    return body_is_right(&body) ? 0 : 4;
+}
+
+/* Slot 0 of a goal is for success, slot 1 + d for overflow at required depth d. */
+static int slot_is_well_formed(const uint8_t *slot, unsigned number, unsigned goals, unsigned top) {
+    unsigned highest = 0;
+    for (unsigned i = 0; i < goals; i++)
+        if (slot[3 + i] > highest) highest = slot[3 + i];
+    if (slot[0] == 0) return slot[1] == 0 && slot[2] == 0 && highest == 0;
+    return slot[0] == 1 && slot[1] <= 3 && slot[2] <= top && highest <= 31 && (number == 0 || slot[2] == number - 1);
+}
+
+int cache_is_well_formed(const uint8_t *cache, unsigned goals, unsigned top) {
+    for (unsigned i = 0; i < goals * (top + 2); i++)
+        if (!slot_is_well_formed(cache + (size_t)i * (goals + 3), i % (top + 2), goals, top)) return 0;
+    return 1;
+}
+
+/* 1 to 9, or 0 where the query is evaluated. */
+unsigned expected_refusal(const struct query *q) {
+    unsigned goals = 0, top = 0, refusal = book_refusal(q->book.at, q->book.len, &goals, &top);
+    if (refusal != 0) return refusal;
+    if (q->goal >= goals) return 5;
+    if (q->depth > top) return 6;
+    if (q->cache.len != cache_length(goals, top)) return 7;
+    if (!cache_is_well_formed(q->cache.at, goals, top)) return 8;
+    return q->work.len == work_length(goals) ? 0 : 9;
+}

@@ -1,0 +1,63 @@
+/* What the files of the fuzz harness share. */
+#ifndef FUZZ_H
+#define FUZZ_H
+
+#include <stddef.h>
+#include <stdint.h>
+
+/* Room for any book, cache and workspace that is asked with, those of wrong lengths too. */
+#define ROOM ((size_t)1 << 20)
+
+/* The bytes that a scenario is made of. After the last one come zeros. */
+struct input {
+    const uint8_t *at;
+    size_t left;
+};
+
+static inline unsigned take(struct input *in) {
+    if (in->left == 0) return 0;
+    in->left--;
+    return *in->at++;
+}
+
+static inline unsigned take2(struct input *in) {
+    unsigned low = take(in);
+    return low + 256 * take(in);
+}
+
+struct bytes {
+    uint8_t *at;
+    size_t len;
+};
+
+struct query {
+    struct bytes book, cache, work;
+    size_t goal, depth;
+};
+
+/* ---- make.c: books, caches and lengths, right and wrong, of an input */
+
+void make_book(struct input *in, struct bytes *book);
+void make_cache(struct input *in, unsigned goals, unsigned top, struct bytes *cache);
+void make_noise(unsigned seed, uint8_t *to, size_t len);
+size_t other_length(struct input *in, size_t right);
+
+/* ---- expected.c: refusals 1 to 9, decided apart from the library */
+
+size_t work_length(size_t goals);
+size_t cache_length(size_t goals, size_t top);
+unsigned book_refusal(const uint8_t *book, size_t len, unsigned *goals, unsigned *top);
+int cache_is_well_formed(const uint8_t *cache, unsigned goals, unsigned top);
+unsigned expected_refusal(const struct query *q);
+
+/* ---- place.c: copies of a query's buffers where a step past an end is seen */
+
+enum { PLACES = 3 };
+void place(const struct query *q, int how, struct query *placed);
+void unplace(struct query *placed, int how);
+
+/* ---- target.c */
+
+int LLVMFuzzerTestOneInput(const uint8_t *data, size_t size);
+
+#endif

@@ -1,0 +1,191 @@
+/* The fuzz target: an input's bytes make a book, a cache, workspaces and queries; the library is asked, and every reply is held to
+   include/search_graph.h. A broken promise is told on standard error and ends the process by abort(). */
+#include "../include/search_graph.h"
+#include "fuzz.h"
+
+#include <setjmp.h>
+#include <signal.h>
+#include <stdio.h>
+#include <stdlib.h>
+#include <string.h>
+#include <sys/time.h>
+
+enum { LAST_UNTOUCHED = 9, REFUSALS = 11, ANSWERS = 4, LIMIT_MS = 300 };
+
+/* ---- what was seen */
+
+static unsigned long inputs, queries, too_long, answers[ANSWERS], refusals[REFUSALS + 1];
+
+static void tell(void) {
+    printf("%lu inputs, %lu queries of %d calls each; No %lu, Yes %lu, undecided %lu, overflow %lu; refusals 1 to 11:", inputs, queries, PLACES,
+           answers[0], answers[1], answers[2], answers[3]);
+    for (int i = 1; i <= REFUSALS; i++) printf(" %lu", refusals[i]);
+    printf("; too long %lu; no failure\n", too_long);
+}
+
+static void fail(const struct query *q, uint32_t code, const char *what) {
+    fprintf(stderr, "fuzz: %s (answer %u, refusal %u; lengths of book %zu, cache %zu, work %zu; goal %zu, depth %zu)\n", what, (unsigned)(code % 256),
+            (unsigned)(code / 256), q->book.len, q->cache.len, q->work.len, q->goal, q->depth);
+    abort();
+}
+
+/* ---- a call with a time limit: evaluation is exponential in the worst case */
+
+static sigjmp_buf limit_reached;
+static volatile sig_atomic_t running;
+
+static void at_limit(int signal) {
+    (void)signal;
+    if (running) siglongjmp(limit_reached, 1);
+}
+
+static void set_limit(int ms) {
+    struct itimerval t = {{0, 0}, {0, 1000 * ms}};
+    running = ms != 0;
+    setitimer(ITIMER_VIRTUAL, &t, NULL);
+}
+
+/* The library allocates nothing and has no state, so it may be left in the middle. */
+static int call(struct query *q, uint32_t *code) {
+    if (sigsetjmp(limit_reached, 1) != 0) {
+        set_limit(0);
+        return 0;
+    }
+    set_limit(LIMIT_MS);
+    *code = search_graph_query(q->book.at, q->book.len, q->cache.at, q->cache.len, q->work.at, q->work.len, q->goal, q->depth);
+    set_limit(0);
+    return 1;
+}
+
+/* ---- the header's promises */
+
+static int same(const struct bytes *a, const struct bytes *b) {
+    return a->len == 0 || memcmp(a->at, b->at, a->len) == 0;
+}
+
+static int zeros(const struct bytes *b) {
+    return b->len == 0 || (b->at[0] == 0 && memcmp(b->at, b->at + 1, b->len - 1) == 0);
+}
+
+/* q is what was asked, placed holds what the call left, expected is 1 to 9 where the query must be refused so. */
+static void check(const struct query *q, const struct query *placed, uint32_t code, unsigned expected) {
+    uint32_t answer = code % 256, refusal = code / 256;
+    if (refusal > REFUSALS || answer >= ANSWERS || (refusal != 0 && answer != 0)) fail(q, code, "no such code");
+    if (!same(&q->book, &placed->book)) fail(q, code, "the book was changed");
+    if (expected != 0 ? refusal != expected : 1 <= refusal && refusal <= LAST_UNTOUCHED) {
+        fprintf(stderr, "fuzz: expected refusal %u\n", expected);
+        fail(q, code, "not the first refusal that applies");
+    }
+    if (1 <= refusal && refusal <= LAST_UNTOUCHED) {
+        if (!same(&q->cache, &placed->cache)) fail(q, code, "a refusal changed the cache");
+        if (!same(&q->work, &placed->work)) fail(q, code, "a refusal changed the workspace");
+        return;
+    }
+    if (!zeros(&placed->work)) fail(q, code, "the workspace is not zeros");
+    if (refusal != 0 && !zeros(&placed->cache)) fail(q, code, "the cache is not zeros");
+}
+
+/* What an accepted query leaves is a cache for the next. */
+static void check_form(const struct query *q, uint32_t code) {
+    unsigned goals = 0, top = 0;
+    if (code / 256 != 0) return;
+    book_refusal(q->book.at, q->book.len, &goals, &top);
+    if (!cache_is_well_formed(q->cache.at, goals, top)) fail(q, code, "the cache that is left is ill-formed");
+}
+
+static void count(uint32_t code) {
+    queries++;
+    if (code / 256 == 0)
+        answers[code % 256]++;
+    else
+        refusals[code / 256]++;
+}
+
+/* Asks in every placement, each time with other bytes in the workspace: the code and the cache that is left are always the same.
+   The cache is carried on. 0 where it takes too long. */
+static int ask(struct query *q, unsigned seed) {
+    static uint8_t left[ROOM];
+    unsigned expected = expected_refusal(q);
+    uint32_t first = 0, code = 0;
+    for (int how = 0; how < PLACES; how++) {
+        struct query placed;
+        make_noise(seed + (unsigned)how, q->work.at, q->work.len);
+        place(q, how, &placed);
+        if (!call(&placed, &code)) {
+            unplace(&placed, how);
+            if (++too_long > 20 + queries / 100) fail(q, 0, "too many calls take too long");
+            return 0;
+        }
+        check(q, &placed, code, expected);
+        if (how == 0) {
+            first = code;
+            memcpy(left, placed.cache.at, placed.cache.len);
+        }
+        if (code != first) fail(q, code, "asked again, it gives another code");
+        if (memcmp(left, placed.cache.at, placed.cache.len) != 0) fail(q, code, "asked again, it leaves another cache");
+        unplace(&placed, how);
+    }
+    count(first);
+    memcpy(q->cache.at, left, q->cache.len);
+    check_form(q, first);
+    return 1;
+}
+
+/* A book that is refused is refused the same with any goal, depth, cache and workspace. */
+static void ask_with_little(const struct query *q) {
+    static uint8_t cache, work;
+    unsigned goals, top, refusal = book_refusal(q->book.at, q->book.len, &goals, &top);
+    struct query bare = {q->book, {&cache, q->goal % 2}, {&work, q->depth % 2}, q->depth, q->goal};
+    if (refusal != 0 && ask(&bare, 0) == 0) fail(&bare, 0, "refusing a book takes too long");
+}
+
+/* ---- a scenario */
+
+/* Mostly in range; else just out of it, or the largest number. */
+static size_t any_number(struct input *in, size_t range) {
+    unsigned n = take(in);
+    return n < 240 ? n % range : n < 248 ? range + n % 8 : SIZE_MAX >> (n - 248) * 8;
+}
+
+static void check_lengths(struct input *in) {
+    size_t goals = any_number(in, 64), top = any_number(in, 64);
+    struct query none = {{NULL, 0}, {NULL, 0}, {NULL, 0}, goals, top};
+    if (search_graph_work_len(goals) != work_length(goals)) fail(&none, 0, "search_graph_work_len");
+    if (search_graph_cache_len(goals, top) != cache_length(goals, top)) fail(&none, 0, "search_graph_cache_len");
+}
+
+/* One query; the cache, of the right length, is carried on where this one has it. 0 where it takes too long. */
+static int one_query(struct input *in, struct query *q, unsigned goals, unsigned top) {
+    size_t right = q->cache.len;
+    q->cache.len = other_length(in, right);
+    q->work.len = other_length(in, work_length(goals));
+    q->goal = any_number(in, goals);
+    q->depth = any_number(in, top + 1);
+    int done = ask(q, take(in));
+    q->cache.len = right;
+    return done;
+}
+
+static void begin(void) {
+    struct sigaction action = {.sa_handler = at_limit};
+    sigaction(SIGVTALRM, &action, NULL);
+    atexit(tell);
+}
+
+int LLVMFuzzerTestOneInput(const uint8_t *data, size_t size) {
+    static uint8_t book[ROOM], cache[ROOM], work[ROOM];
+    struct input in = {data, size};
+    struct query q = {{book, 0}, {cache, 0}, {work, 0}, 0, 0};
+    unsigned goals = 3, top = 3;
+    if (inputs++ == 0) begin();
+    check_lengths(&in);
+    make_book(&in, &q.book);
+    book_refusal(book, q.book.len, &goals, &top);
+    make_cache(&in, goals, top, &q.cache);
+    for (unsigned left = 1 + take(&in) % 6; left > 0; left--) {
+        if (take(&in) % 32 == 31) make_cache(&in, goals, top, &q.cache);
+        if (!one_query(&in, &q, goals, top)) break;
+    }
+    ask_with_little(&q);
+    return 0;
+}

@@ -1,0 +1,84 @@
+/* Libraries that are wrong on purpose, for `fuzz/run --self-test`: the proved library, its functions renamed, with the one fault that
+   the environment variable WRONG names; with none where it is not set. */
+#include "../include/search_graph.h"
+
+#include <stdlib.h>
+#include <string.h>
+
+size_t right_work_len(size_t goals);
+size_t right_cache_len(size_t goals, size_t top_depth);
+uint32_t right_query(const uint8_t *book, size_t book_len, uint8_t *cache, size_t cache_len, uint8_t *work, size_t work_len, size_t goal,
+                     size_t depth);
+
+static int wrong(const char *name) {
+    static const char *set;
+    if (set == NULL) set = getenv("WRONG") ? getenv("WRONG") : "";
+    return strcmp(set, name) == 0;
+}
+
+size_t search_graph_work_len(size_t goals) {
+    return wrong("work-length") && goals == 0 ? 260 : right_work_len(goals);
+}
+
+size_t search_graph_cache_len(size_t goals, size_t top_depth) {
+    return wrong("cache-length") && top_depth == 64 ? goals * 66 * (goals + 3) : right_cache_len(goals, top_depth);
+}
+
+static void read_byte(const uint8_t *at) {
+    (void)*(const volatile uint8_t *)at;
+}
+
+static void write_same(const uint8_t *at) {
+    *(volatile uint8_t *)(uintptr_t)at = *at;
+}
+
+/* Faults before the query runs. */
+static void before(const uint8_t *book, size_t book_len, uint8_t *cache, size_t cache_len, uint8_t *work, size_t work_len) {
+    if (wrong("reads-past-book")) read_byte(book + book_len);
+    if (wrong("reads-before-book")) read_byte(book - 1);
+    if (wrong("reads-past-cache")) read_byte(cache + cache_len);
+    if (wrong("reads-before-cache")) read_byte(cache - 1);
+    if (wrong("writes-past-work")) write_same(work + work_len);
+    if (wrong("writes-before-work")) write_same(work - 1);
+    if (wrong("writes-book") && book_len > 0) write_same(book);
+    if (wrong("changes-book") && book_len > 0) *(uint8_t *)(uintptr_t)book ^= 1;
+    while (wrong("never-ends")) read_byte(book);
+}
+
+/* Faults in the bytes that a query leaves. */
+static void leave(uint32_t refusal, uint8_t *cache, size_t cache_len, uint8_t *work, size_t work_len) {
+    static unsigned calls;
+    if (wrong("cache-has-a-state") && refusal == 0 && ++calls % 1000 == 0) cache[cache_len - 1] ^= 1;
+    if (wrong("accepted-leaves-work") && refusal == 0) work[work_len - 1] = 1;
+    if (wrong("accepted-spoils-cache") && refusal == 0) cache[cache_len - 1] = 32;
+    if (wrong("seven-writes-cache") && refusal == 7 && cache_len > 0) cache[cache_len - 1] ^= 1;
+    if (wrong("eight-writes-work") && refusal == 8 && work_len > 0) work[0] ^= 1;
+    if (wrong("ten-leaves-cache") && refusal == 10) cache[cache_len - 1] = 1;
+    if (wrong("eleven-leaves-work") && refusal == 11) work[work_len / 2] = 1;
+}
+
+/* Faults in the code. */
+static uint32_t other_code(uint32_t code, int odd_work, size_t cache_len, size_t depth) {
+    static unsigned calls;
+    uint32_t refusal = code / 256;
+    if (wrong("six-before-five") && refusal == 5 && depth > 63) return 6 * 256;
+    if (wrong("seven-before-four") && refusal == 4 && cache_len == 0) return 7 * 256;
+    if (wrong("four-for-two") && refusal == 2) return 4 * 256;
+    if (wrong("eight-forgotten") && refusal == 8) return 9 * 256;
+    if (wrong("five-for-one") && refusal == 0 && depth == 6) return 5 * 256;
+    if (wrong("answer-four") && code == 3) return 4;
+    if (wrong("refusal-twelve") && refusal == 9) return 12 * 256;
+    if (wrong("refusal-with-answer") && refusal == 5) return code + 1;
+    if (wrong("has-a-state") && ++calls % 1000 == 0 && refusal == 0) return code ^ 1;
+    if (wrong("reads-work") && odd_work && refusal == 0) return code ^ 1;
+    return code;
+}
+
+uint32_t search_graph_query(const uint8_t *book, size_t book_len, uint8_t *cache, size_t cache_len, uint8_t *work, size_t work_len, size_t goal,
+                            size_t depth) {
+    int odd_work = work_len > 0 && work[0] % 2 == 1;
+    before(book, book_len, cache, cache_len, work, work_len);
+    uint32_t code = right_query(book, book_len, cache, cache_len, work, work_len, goal, depth);
+    leave(code / 256, cache, cache_len, work, work_len);
+    return other_code(code, odd_work, cache_len, depth);
+}
