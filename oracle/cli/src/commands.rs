@@ -135,6 +135,7 @@ fn difference(case: &Case, query: &Query, reply: &Option<Expected>) -> String {
 pub fn demand3(mut given: Arguments) -> Done {
     let (lists, seconds) = (given.option("--lists")?, given.option("--seconds")?);
     let seed = given.option("--seed")?.unwrap_or(1);
+    let least = given.option("--least")?.unwrap_or(1);
     given.end()?;
     let seconds = seconds.unwrap_or(if lists.is_some() { 1_000_000 } else { 10 });
     let time = Duration::from_secs(seconds);
@@ -146,7 +147,7 @@ pub fn demand3(mut given: Arguments) -> Done {
         print_case(&violation.case)?;
         return Ok(false);
     }
-    let lacking = counts.lacking();
+    let lacking = counts.lacking(least);
     lacking.iter().try_for_each(|what| say(&format!("FAILED: {what}")))?;
     Ok(lacking.is_empty())
 }

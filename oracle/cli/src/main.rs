@@ -29,10 +29,11 @@ oracle: document 01's queries, answered by the original search graph
       (default 1000000) are left out.
   oracle verify [--fuel N] < cases
       Replays the cases and compares; exit status 1 if something differs. No query is an error.
-  oracle demand3 [--lists N] [--seconds S] [--seed K]
+  oracle demand3 [--lists N] [--seconds S] [--seed K] [--least M]
       Checks demand 3, panics and the state after each frame on random lists (default: 10
       seconds, seed 1); exit status 1 with a small book if something is wrong, and where it saw
-      no list, no Yes, no No, or more than one query in a hundred that is too long.
+      fewer than M lists (default 1), no Yes, no No, or more than one query in a hundred that is
+      too long.
   oracle recorded FILE
       Prints one of the recorded files of tests/vectors, made anew: document, refusals, caches
       or random.

@@ -15,11 +15,11 @@ use oracle_core::generate::{CLASSES, Class, class_named};
 use oracle_core::{Limits, Outcome, reply_within, work_len};
 use tally::Tally;
 
-const USAGE: &str = "usage: compare [--seed S] [--cases N] [--seconds T] [--fuel F] [--class NAME] [--least N]
+const USAGE: &str = "usage: compare [--seed S] [--cases N] [--seconds T] [--fuel F] [--class NAME] [--least M]
   N cases of each class (100,000), for T seconds at the most (60); a query of more than F goal runs (20,000) is not compared.
   Fails where the two differ, where the original panics or has a frame out of order, where more than 1 query in 100 is too
   long, and where a class gives fewer comparisons, answers or refusals than it should. The last is judged from 1,000 cases of
-  each class on, and said where there are fewer; with --least N, fewer than N are a failure.
+  each class on, and said where there are fewer; with --least M, fewer than M are a failure.
   --mutant N: the original with wrong reading N (feature wrong_readings), to see this program find it.";
 
 struct Options {
@@ -208,6 +208,10 @@ fn faults(options: &Options, tallies: &[Tally], cases: u64, all: &Tally) -> Vec<
 }
 
 fn main() -> ExitCode {
+    if std::env::args().nth(1).as_deref() == Some("--help") {
+        println!("{USAGE}");
+        return ExitCode::SUCCESS;
+    }
     let options = match Options::read() {
         Ok(options) => options,
         Err(wrong) => {

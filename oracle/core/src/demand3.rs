@@ -44,11 +44,11 @@ pub struct Counts {
 }
 
 impl Counts {
-    /// What a run lacks, in words: it can find nothing wrong where it saw too little.
-    pub fn lacking(&self) -> Vec<String> {
+    /// What a run of at least so many lists lacks, in words: it finds nothing wrong where it saw too little.
+    pub fn lacking(&self, least: u64) -> Vec<String> {
         let mut found = Vec::new();
-        if self.lists == 0 {
-            found.push("no list was asked".to_string());
+        if self.lists < least {
+            found.push(format!("{} lists, fewer than {least}", self.lists));
         }
         for (answer, name) in [(NO, "No"), (YES, "Yes")] {
             if self.measured_answers[usize::from(answer)] == 0 {
@@ -208,11 +208,11 @@ mod tests {
 
     #[test]
     fn a_run_must_have_seen_both_answers() {
-        assert!(enough().lacking().is_empty());
+        assert!(enough().lacking(2).is_empty());
         let without = |answer: usize| {
             let mut counts = enough();
             counts.measured_answers[answer] = 0;
-            counts.lacking()
+            counts.lacking(2)
         };
         assert_eq!(without(0), ["no No that demand 3 speaks of"]);
         assert_eq!(without(1), ["no Yes that demand 3 speaks of"]);
@@ -220,8 +220,8 @@ mod tests {
 
     #[test]
     fn a_run_must_have_asked() {
-        assert_eq!(Counts { lists: 0, ..enough() }.lacking(), ["no list was asked"]);
-        assert_eq!(Counts { too_long: 3, ..enough() }.lacking().len(), 1);
-        assert_eq!(Counts::default().lacking().len(), 3);
+        assert_eq!(enough().lacking(3), ["2 lists, fewer than 3"]);
+        assert_eq!(Counts { too_long: 3, ..enough() }.lacking(2).len(), 1);
+        assert_eq!(Counts::default().lacking(1).len(), 3);
     }
 }
