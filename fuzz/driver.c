@@ -1,5 +1,7 @@
-/* A driver for compilers without libFuzzer:   driver SECONDS SEED LAST    makes inputs of a seed, and keeps each in the file LAST
-                                               driver FILE                 asks what the file holds, one input */
+/* A driver for compilers without libFuzzer:
+     driver SECONDS SEED LAST LEAST    makes inputs of a seed, and keeps each in the file LAST; fewer queries than LEAST, or too few
+                                       of an answer or refusal, are exit status 3
+     driver FILE                       asks what the file holds, one input */
 #include "fuzz.h"
 
 #include <fcntl.h>
@@ -10,7 +12,7 @@
 #include <time.h>
 #include <unistd.h>
 
-enum { LONGEST = 1024 };
+enum { LONGEST = 1024, TOO_LITTLE = 3 };
 
 static uint64_t random_number(uint64_t *state) {
     uint64_t x = *state += 0x9e3779b97f4a7c15;
@@ -28,7 +30,7 @@ static uint8_t *kept_in(const char *path) {
     return at == MAP_FAILED ? NULL : at;
 }
 
-static int run_seed(unsigned long seconds, uint64_t state, const char *path) {
+static int run_seed(unsigned long seconds, uint64_t state, const char *path, unsigned long least) {
     uint8_t *input = kept_in(path);
     if (input == NULL) {
         perror(path);
@@ -40,7 +42,7 @@ static int run_seed(unsigned long seconds, uint64_t state, const char *path) {
         for (size_t i = 0; i < len; i++) input[i] = (uint8_t)random_number(&state);
         LLVMFuzzerTestOneInput(input, LONGEST);
     }
-    return 0;
+    return enough_seen(least) ? 0 : TOO_LITTLE;
 }
 
 static int run_file(const char *path) {
@@ -56,6 +58,6 @@ static int run_file(const char *path) {
 }
 
 int main(int argc, char **argv) {
-    if (argc == 4) return run_seed(strtoul(argv[1], NULL, 10), strtoull(argv[2], NULL, 10), argv[3]);
+    if (argc == 5) return run_seed(strtoul(argv[1], NULL, 10), strtoull(argv[2], NULL, 10), argv[3], strtoul(argv[4], NULL, 10));
     return argc == 2 ? run_file(argv[1]) : 2;
 }

@@ -60,4 +60,7 @@ void unplace(struct query *placed, int how);
 
 int LLVMFuzzerTestOneInput(const uint8_t *data, size_t size);
 
+/* Whether there were so many queries, and among them enough of every answer and refusal; what there is too little of is told. */
+int enough_seen(unsigned long least);
+
 #endif

@@ -20,7 +20,25 @@ static void tell(void) {
     printf("%lu inputs, %lu queries of %d calls each; No %lu, Yes %lu, undecided %lu, overflow %lu; refusals 1 to 11:", inputs, queries, PLACES,
            answers[0], answers[1], answers[2], answers[3]);
     for (int i = 1; i <= REFUSALS; i++) printf(" %lu", refusals[i]);
-    printf("; too long %lu; no failure\n", too_long);
+    printf("; too long %lu\n", too_long);
+}
+
+/* Of every 10,000 queries at least so many: a third of what random inputs give, and less of what is rare. */
+static const unsigned long least_answers[ANSWERS] = {250, 250, 250, 400};
+static const unsigned long least_refusals[REFUSALS + 1] = {0, 500, 200, 40, 400, 90, 80, 25, 300, 20, 1, 12};
+
+static int has(const char *what, int number, unsigned long seen, unsigned long least) {
+    if (seen < least) fprintf(stderr, "fuzz: %s %d: %lu, fewer than %lu in %lu queries\n", what, number, seen, least, queries);
+    return seen >= least;
+}
+
+int enough_seen(unsigned long least) {
+    unsigned long times = queries / 10000;
+    int enough = queries >= least;
+    if (!enough) fprintf(stderr, "fuzz: %lu queries, fewer than %lu\n", queries, least);
+    for (int i = 0; i < ANSWERS; i++) enough &= has("answer", i, answers[i], times * least_answers[i]);
+    for (int i = 1; i <= REFUSALS; i++) enough &= has("refusal", i, refusals[i], times * least_refusals[i]);
+    return enough;
 }
 
 static void fail(const struct query *q, uint32_t code, const char *what) {

@@ -11,7 +11,7 @@ use crate::shapes;
 /// The most goal runs of a list that is timed.
 pub const FUEL: u64 = 20_000;
 /// How many lists a class has.
-const LISTS: usize = 20;
+pub const LISTS: usize = 20;
 /// The most queries of a list in which all is cached.
 const CACHED: usize = 8;
 

@@ -1,7 +1,7 @@
 //! The table of times, and whether the goals are met.
 
 use crate::engines::{BYTE_FLOOR, FLOOR, FROM_BYTES, LIBRARY, ORIGINAL};
-use crate::lists::{CLASSES, Class, List};
+use crate::lists::{CLASSES, Class, LISTS, List};
 use crate::rounds::{Rounds, all_agree, median};
 
 /// What each class is.
@@ -139,6 +139,9 @@ pub fn made(only: Option<&'static Class>) -> Result<Vec<(&'static Class, Vec<Lis
     let lists = |class: &'static Class| {
         eprintln!("making the lists of {}", class.name);
         let lists = class.lists();
+        if lists.len() < LISTS {
+            return Err(format!("{} has {} lists, fewer than {LISTS}", class.name, lists.len()));
+        }
         all_agree(&lists).map(|()| (class, lists))
     };
     wanted.map(lists).collect()

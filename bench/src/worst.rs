@@ -44,6 +44,9 @@ fn lists() -> Result<Vec<(String, List)>, String> {
     let mut files: Vec<PathBuf> =
         entries.map_err(wrong)?.iter().map(|entry| entry.path()).collect();
     files.retain(|file| file.extension().is_some_and(|e| e == "txt"));
+    if files.is_empty() {
+        return Err(format!("{FOLDER}: no books"));
+    }
     files.sort();
     let list = |file: PathBuf| {
         let name = file.file_name().unwrap_or_default().to_string_lossy().into_owned();

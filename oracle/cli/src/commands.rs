@@ -104,13 +104,17 @@ pub fn verify(given: Arguments) -> Done {
     for case in &cases {
         for (query, reply) in case.queries.iter().zip(case.replies(limits)) {
             queries += 1;
-            if query.expected != reply {
+            // a query without a recorded reply that takes too long is no agreement
+            if reply.is_none() || query.expected != reply {
                 differences += 1;
                 say(&difference(case, query, &reply))?;
             }
         }
     }
     say(&format!("{} cases, {queries} queries, {differences} differences", cases.len()))?;
+    if queries == 0 {
+        return Err("no query to verify".to_string());
+    }
     Ok(differences == 0)
 }
 
@@ -131,20 +135,21 @@ fn difference(case: &Case, query: &Query, reply: &Option<Expected>) -> String {
 pub fn demand3(mut given: Arguments) -> Done {
     let (lists, seconds) = (given.option("--lists")?, given.option("--seconds")?);
     let seed = given.option("--seed")?.unwrap_or(1);
+    let least = given.option("--least")?.unwrap_or(1);
     given.end()?;
     let seconds = seconds.unwrap_or(if lists.is_some() { 1_000_000 } else { 10 });
     let time = Duration::from_secs(seconds);
     let start = Instant::now();
     let (counts, violation) = demand3::run(Extent { lists: lists.unwrap_or(u64::MAX), time, seed });
     print_counts(&counts, start.elapsed())?;
-    match violation {
-        None => Ok(true),
-        Some(violation) => {
-            say(&format!("WRONG: {}", violation.what))?;
-            print_case(&violation.case)?;
-            Ok(false)
-        }
+    if let Some(violation) = violation {
+        say(&format!("WRONG: {}", violation.what))?;
+        print_case(&violation.case)?;
+        return Ok(false);
     }
+    let lacking = counts.lacking(least);
+    lacking.iter().try_for_each(|what| say(&format!("FAILED: {what}")))?;
+    Ok(lacking.is_empty())
 }
 
 fn print_counts(counts: &Counts, time: Duration) -> Result<(), String> {

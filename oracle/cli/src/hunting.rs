@@ -88,6 +88,9 @@ pub fn hunted_check(mut given: Arguments) -> Done {
     } else {
         say(&format!("{} cases, {claims} claims, {wrong} wrong", hunted.len()))?;
     }
+    if claims == 0 {
+        return Err("no claim to check".to_string());
+    }
     Ok(wrong == 0)
 }
 

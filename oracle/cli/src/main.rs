@@ -28,10 +28,12 @@ oracle: document 01's queries, answered by the original search graph
       Prints the cases with the replies filled in. Queries that use more than N goal runs
       (default 1000000) are left out.
   oracle verify [--fuel N] < cases
-      Replays the cases and compares; exit status 1 if something differs.
-  oracle demand3 [--lists N] [--seconds S] [--seed K]
+      Replays the cases and compares; exit status 1 if something differs. No query is an error.
+  oracle demand3 [--lists N] [--seconds S] [--seed K] [--least M]
       Checks demand 3, panics and the state after each frame on random lists (default: 10
-      seconds, seed 1); exit status 1 with a small book if something is wrong.
+      seconds, seed 1); exit status 1 with a small book if something is wrong, and where it saw
+      fewer than M lists (default 1), no Yes, no No, or more than one query in a hundred that is
+      too long.
   oracle recorded FILE
       Prints one of the recorded files of tests/vectors, made anew: document, refusals, caches
       or random.
@@ -43,15 +45,12 @@ oracle: document 01's queries, answered by the original search graph
       (default 200) or S seconds (default 3600).
   oracle hunted-check [--table] < cases
       Confirms that each case catches the readings that its comment lists (feature
-      wrong_readings); exit status 1 if not. With --table prints which cases catch which.
+      wrong_readings); exit status 1 if not. With --table prints which cases catch which. No
+      claim is an error.
   oracle help
 
   --mutant N, with any command, switches on wrong reading N (feature wrong_readings).
 ";
-
-#[cfg(not(feature = "wrong_readings"))]
-const NO_READINGS: &str =
-    "this build has no wrong readings; build with --features wrong_readings (see README.md)";
 
 fn main() -> ExitCode {
     oracle_core::silence_panics();
@@ -69,9 +68,7 @@ fn main() -> ExitCode {
 /// True if all is well, false if a comparison failed, an error on bad usage.
 fn run() -> Result<bool, String> {
     let mut given = Arguments::new();
-    if let Some(number) = given.option("--mutant")? {
-        read_wrongly(number)?;
-    }
+    oracle_core::read_as_told(&mut given)?;
     match given.next().as_deref() {
         Some("ask") => commands::ask(given),
         Some("classes") => commands::classes(given),
@@ -86,7 +83,7 @@ fn run() -> Result<bool, String> {
         #[cfg(feature = "wrong_readings")]
         Some("hunted-check") => hunting::hunted_check(given),
         #[cfg(not(feature = "wrong_readings"))]
-        Some("hunt" | "hunted-check") => Err(NO_READINGS.to_string()),
+        Some("hunt" | "hunted-check") => Err(oracle_core::NO_READINGS.to_string()),
         Some("help" | "--help" | "-h") => {
             print!("{HELP}");
             Ok(true)
@@ -94,19 +91,4 @@ fn run() -> Result<bool, String> {
         Some(other) => Err(format!("no command {other:?}")),
         None => Err("a command is missing".to_string()),
     }
-}
-
-#[cfg(feature = "wrong_readings")]
-fn read_wrongly(number: u64) -> Result<(), String> {
-    let known = oracle_core::wrong_readings().iter().any(|(n, _)| u64::from(*n) == number);
-    if number != 0 && !known {
-        return Err(format!("no wrong reading {number}; see `oracle readings`"));
-    }
-    oracle_core::read_wrongly(number as u32);
-    Ok(())
-}
-
-#[cfg(not(feature = "wrong_readings"))]
-fn read_wrongly(_: u64) -> Result<(), String> {
-    Err(NO_READINGS.to_string())
 }

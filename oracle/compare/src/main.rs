@@ -2,6 +2,8 @@
 //! cache and workspace, and guard bytes around what is lent.
 
 mod guarded;
+mod judge;
+mod tally;
 
 use std::process::ExitCode;
 use std::time::Instant;
@@ -10,22 +12,30 @@ use guarded::Guarded;
 use oracle_core::arguments::Arguments;
 use oracle_core::case::{Case, Query};
 use oracle_core::generate::{CLASSES, Class, class_named};
-use oracle_core::{Outcome, reply, work_len};
+use oracle_core::{Limits, Outcome, reply_within, work_len};
+use tally::Tally;
 
-const USAGE: &str = "usage: compare [--seed S] [--cases N] [--seconds T] [--fuel F] [--class NAME]
-  N cases of each class (100,000), for T seconds at the most (60); a query of more than F goal runs (20,000) is not compared";
+const USAGE: &str = "usage: compare [--seed S] [--cases N] [--seconds T] [--fuel F] [--class NAME] [--least M]
+  N cases of each class (100,000), for T seconds at the most (60); a query of more than F goal runs (20,000) is not compared.
+  Fails where the two differ, where the original panics or has a frame out of order, where more than 1 query in 100 is too
+  long, and where a class gives fewer comparisons, answers or refusals than it should. The last is judged from 1,000 cases of
+  each class on, and said where there are fewer; with --least M, fewer than M are a failure.
+  --mutant N: the original with wrong reading N (feature wrong_readings), to see this program find it.";
 
 struct Options {
     seed: u64,
     cases: u64,
     seconds: u64,
-    fuel: u64,
+    limits: Limits,
     classes: Vec<&'static Class>,
+    /// Fewer cases of each class are a failure.
+    least: u64,
 }
 
 impl Options {
     fn read() -> Result<Options, String> {
         let mut words = Arguments::new();
+        oracle_core::read_as_told(&mut words)?;
         let classes = match words.option_word("--class")? {
             Some(name) => vec![class_named(&name).ok_or(format!("no class {name:?}"))?],
             None => CLASSES.iter().collect(),
@@ -34,32 +44,16 @@ impl Options {
             seed: words.option("--seed")?.unwrap_or(1),
             cases: words.option("--cases")?.unwrap_or(100_000),
             seconds: words.option("--seconds")?.unwrap_or(60),
-            fuel: words.option("--fuel")?.unwrap_or(20_000),
+            limits: Limits {
+                fuel: words.option("--fuel")?.unwrap_or(20_000),
+                check_frames: true,
+                ..Limits::default()
+            },
             classes,
+            least: words.option("--least")?.unwrap_or(0),
         };
         words.end()?;
         Ok(options)
-    }
-}
-
-#[derive(Clone, Default)]
-struct Tally {
-    compared: u64,
-    differences: u64,
-    answers: [u64; 4],
-    refusals: [u64; 12],
-    too_long: u64,
-    panics: u64,
-}
-
-impl Tally {
-    fn add(&mut self, other: &Tally) {
-        self.compared += other.compared;
-        self.differences += other.differences;
-        self.too_long += other.too_long;
-        self.panics += other.panics;
-        (0..4).for_each(|i| self.answers[i] += other.answers[i]);
-        (0..12).for_each(|i| self.refusals[i] += other.refusals[i]);
     }
 }
 
@@ -68,32 +62,56 @@ fn any_bytes(len: usize, salt: usize) -> Vec<u8> {
     (0..len).map(|i| (i.wrapping_mul(37) ^ salt.wrapping_mul(101)) as u8).collect()
 }
 
-/// One query on both sides; the cache is carried on.
-fn compare_query(
-    case: &Case,
+/// A query, and how it is told.
+struct Asked<'a> {
+    case: &'a Case,
     number: usize,
-    query: &Query,
+    query: &'a Query,
+}
+
+impl std::fmt::Display for Asked<'_> {
+    fn fmt(&self, f: &mut std::fmt::Formatter) -> std::fmt::Result {
+        let Query { goal, depth, .. } = self.query;
+        write!(f, "{}, query {} (goal {goal}, depth {depth})", self.case.name, self.number)
+    }
+}
+
+/// The original's answer and refusal; none where there is nothing to compare with.
+fn original_says(
+    asked: &Asked,
     cache: &mut [u8],
-    fuel: u64,
+    work: &mut [u8],
+    limits: Limits,
     tally: &mut Tally,
-) {
+) -> Option<(u8, u8)> {
+    let Query { goal, depth, .. } = *asked.query;
+    match reply_within(limits, &asked.case.book, cache, work, goal, depth).outcome {
+        Outcome::Replied { answer, refusal } => return Some((answer, refusal)),
+        Outcome::TooLong => tally.too_long += 1,
+        Outcome::Panicked => {
+            tally.panics += 1;
+            println!("{asked}: the original panics");
+        }
+        Outcome::FrameIsWrong(why) => {
+            tally.frames += 1;
+            println!("{asked}: the original has a frame out of order: {why}");
+        }
+    }
+    None
+}
+
+/// One query on both sides; the cache is carried on.
+fn compare_query(asked: &Asked, cache: &mut [u8], limits: Limits, tally: &mut Tally) {
+    let (case, query) = (asked.case, asked.query);
     let mut our_cache = Guarded::new(cache);
-    let mut work = any_bytes(query.work_len, number);
+    let mut work = any_bytes(query.work_len, asked.number);
     let mut our_work = Guarded::new(&work);
-    let report = reply(&case.book, cache, &mut work, query.goal, query.depth, fuel);
-    let (answer, refusal) = match report.outcome {
-        Outcome::Replied { answer, refusal } => (answer, refusal),
-        Outcome::TooLong => return tally.too_long += 1,
-        Outcome::Panicked | Outcome::FrameIsWrong(_) => return tally.panics += 1,
-    };
+    let said = original_says(asked, cache, &mut work, limits, tally);
+    let Some((answer, refusal)) = said else { return };
     let book = Guarded::new(&case.book);
-    let code = library::query(
-        book.inner(),
-        our_cache.inner_mut(),
-        our_work.inner_mut(),
-        query.goal,
-        query.depth,
-    );
+    let (goal, depth) = (query.goal, query.depth);
+    let code =
+        library::query(book.inner(), our_cache.inner_mut(), our_work.inner_mut(), goal, depth);
     tally.compared += 1;
     match refusal {
         0 => tally.answers[answer as usize] += 1,
@@ -107,10 +125,7 @@ fn compare_query(
     if !(whole && same) {
         tally.differences += 1;
         println!(
-            "{}, query {number} (goal {}, depth {}): the original says {answer} {refusal}, the library {} {}; cache {}, workspace {}, guards {}",
-            case.name,
-            query.goal,
-            query.depth,
+            "{asked}: the original says {answer} {refusal}, the library {} {}; cache {}, workspace {}, guards {}",
             code % 256,
             code / 256,
             our_cache.inner() == cache,
@@ -120,10 +135,10 @@ fn compare_query(
     }
 }
 
-fn compare_case(case: &Case, fuel: u64, tally: &mut Tally) {
+fn compare_case(case: &Case, limits: Limits, tally: &mut Tally) {
     let mut cache = case.cache.clone();
     for (number, query) in case.queries.iter().enumerate() {
-        compare_query(case, number, query, &mut cache, fuel, tally);
+        compare_query(&Asked { case, number, query }, &mut cache, limits, tally);
     }
 }
 
@@ -151,13 +166,52 @@ fn compare(options: &Options) -> (Vec<Tally>, u64) {
             if start.elapsed().as_secs() >= options.seconds {
                 return (tallies, number);
             }
-            compare_case(&class.case(options.seed, number), options.fuel, tally);
+            compare_case(&class.case(options.seed, number), options.limits, tally);
         }
     }
     (tallies, options.cases)
 }
 
+fn print(options: &Options, tallies: &[Tally], cases: u64, all: &Tally) {
+    for (class, tally) in options.classes.iter().zip(tallies) {
+        println!(
+            "{:17} {:9} queries, {} differences, answers {:?}, refusals 1 to 11 {:?}, too long {}",
+            class.name,
+            tally.compared,
+            tally.differences,
+            tally.answers,
+            &tally.refusals[1..],
+            tally.too_long,
+        );
+    }
+    println!(
+        "seed {}, {cases} cases of each class: {} queries compared, {} differences; not compared: {} too long, {} panics of the original, {} frames out of order",
+        options.seed, all.compared, all.differences, all.too_long, all.panics, all.frames
+    );
+}
+
+/// All that is wrong with the run.
+fn faults(options: &Options, tallies: &[Tally], cases: u64, all: &Tally) -> Vec<String> {
+    let mut found = judge::never(all, compare_lengths());
+    if cases >= judge::ENOUGH {
+        let classes = options.classes.iter().zip(tallies);
+        found.extend(
+            classes.flat_map(|(class, tally)| judge::below_floors(class.name, cases, tally)),
+        );
+    } else {
+        println!("what a class gives is not judged: fewer than {} cases of each", judge::ENOUGH);
+    }
+    if cases < options.least {
+        found.push(format!("{cases} cases of each class, fewer than {}", options.least));
+    }
+    found
+}
+
 fn main() -> ExitCode {
+    if std::env::args().nth(1).as_deref() == Some("--help") {
+        println!("{USAGE}");
+        return ExitCode::SUCCESS;
+    }
     let options = match Options::read() {
         Ok(options) => options,
         Err(wrong) => {
@@ -166,33 +220,11 @@ fn main() -> ExitCode {
         }
     };
     oracle_core::silence_panics();
-    let lengths = compare_lengths();
     let (tallies, cases) = compare(&options);
     let mut all = Tally::default();
-    for (class, tally) in options.classes.iter().zip(&tallies) {
-        println!(
-            "{:17} {:9} queries, {} differences, answers {:?}, refusals 1 to 11 {:?}, too long {}, panics {}",
-            class.name,
-            tally.compared,
-            tally.differences,
-            tally.answers,
-            &tally.refusals[1..],
-            tally.too_long,
-            tally.panics
-        );
-        all.add(tally);
-    }
-    println!(
-        "seed {}, {cases} cases of each class: {} queries compared, {} differences; not compared: {} too long, {} panics of the original",
-        options.seed,
-        all.compared,
-        all.differences + lengths,
-        all.too_long,
-        all.panics
-    );
-    if all.differences + lengths == 0 && all.compared > 0 {
-        ExitCode::SUCCESS
-    } else {
-        ExitCode::FAILURE
-    }
+    tallies.iter().for_each(|tally| all.add(tally));
+    print(&options, &tallies, cases, &all);
+    let faults = faults(&options, &tallies, cases, &all);
+    faults.iter().for_each(|fault| println!("FAILED: {fault}"));
+    if faults.is_empty() { ExitCode::SUCCESS } else { ExitCode::FAILURE }
 }

@@ -8,6 +8,7 @@ use crate::book::{Book, COINDUCTIVE, INDUCTIVE};
 use crate::case::Case;
 use crate::delegate::{NO, YES};
 use crate::generate::{class_named, query};
+use crate::judge;
 use crate::random::Random;
 use crate::reply::{Limits, Outcome, reply_to_read};
 use crate::sets::{Goals, greatest, least};
@@ -31,6 +32,8 @@ pub struct Counts {
     pub refused: [u64; 12],
     /// By the answer.
     pub answers: [u64; 4],
+    /// Those of them that demand 3 speaks of.
+    pub measured_answers: [u64; 4],
     pub too_long: u64,
     pub panics: u64,
     pub goal_runs: u64,
@@ -38,6 +41,23 @@ pub struct Counts {
     pub high_water: usize,
     /// The most goals runs of an accepted query.
     pub longest: u64,
+}
+
+impl Counts {
+    /// What a run of at least so many lists lacks, in words: it finds nothing wrong where it saw too little.
+    pub fn lacking(&self, least: u64) -> Vec<String> {
+        let mut found = Vec::new();
+        if self.lists < least {
+            found.push(format!("{} lists, fewer than {least}", self.lists));
+        }
+        for (answer, name) in [(NO, "No"), (YES, "Yes")] {
+            if self.measured_answers[usize::from(answer)] == 0 {
+                found.push(format!("no {name} that demand 3 speaks of"));
+            }
+        }
+        found.extend(judge::too_long(self.too_long, self.queries));
+        found
+    }
 }
 
 /// What is wrong, and the list that shows it.
@@ -145,6 +165,7 @@ pub fn check(case: &Case, counts: &mut Counts) -> Option<String> {
             Outcome::Replied { answer, refusal: 0 } => {
                 counts.accepted += 1;
                 counts.answers[usize::from(answer)] += 1;
+                counts.measured_answers[usize::from(answer)] += u64::from(!sets.pairs.is_empty());
                 counts.longest = counts.longest.max(report.goal_runs);
                 if !sets.allow(goal, answer) {
                     return Some(format!("goal {goal} at depth {depth} is answered {answer}"));
@@ -174,4 +195,33 @@ fn wrong_slot(book: &Book, sets: &Sets, cache: &[u8]) -> Option<String> {
     let (i, slot) = slots
         .find(|(i, slot)| slot[0] == 1 && !sets.allow(i / header.slots_per_goal(), slot[1]))?;
     Some(format!("a slot of goal {} holds {}", i / header.slots_per_goal(), slot[1]))
+}
+
+#[cfg(test)]
+mod tests {
+    use super::Counts;
+
+    fn enough() -> Counts {
+        let measured_answers = [1, 1, 0, 0];
+        Counts { lists: 2, queries: 200, too_long: 2, measured_answers, ..Counts::default() }
+    }
+
+    #[test]
+    fn a_run_must_have_seen_both_answers() {
+        assert!(enough().lacking(2).is_empty());
+        let without = |answer: usize| {
+            let mut counts = enough();
+            counts.measured_answers[answer] = 0;
+            counts.lacking(2)
+        };
+        assert_eq!(without(0), ["no No that demand 3 speaks of"]);
+        assert_eq!(without(1), ["no Yes that demand 3 speaks of"]);
+    }
+
+    #[test]
+    fn a_run_must_have_asked() {
+        assert_eq!(enough().lacking(3), ["2 lists, fewer than 3"]);
+        assert_eq!(Counts { too_long: 3, ..enough() }.lacking(2).len(), 1);
+        assert_eq!(Counts::default().lacking(1).len(), 3);
+    }
 }

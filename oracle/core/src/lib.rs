@@ -7,6 +7,7 @@ pub mod demand3;
 pub mod generate;
 #[cfg(feature = "wrong_readings")]
 pub mod hunt;
+pub mod judge;
 pub mod random;
 pub mod recorded;
 pub mod sets;
@@ -46,6 +47,33 @@ pub fn wrong_readings() -> Vec<(u32, &'static str)> {
 pub fn read_wrongly(number: u32) {
     original::MUTANT.store(number, std::sync::atomic::Ordering::Relaxed);
 }
+
+/// Takes `--mutant N` from the words, and switches that reading on.
+pub fn read_as_told(words: &mut arguments::Arguments) -> Result<(), String> {
+    match words.option("--mutant")? {
+        Some(number) => read_known(number),
+        None => Ok(()),
+    }
+}
+
+#[cfg(feature = "wrong_readings")]
+fn read_known(number: u64) -> Result<(), String> {
+    let known = wrong_readings().iter().any(|(n, _)| u64::from(*n) == number);
+    if number != 0 && !known {
+        return Err(format!("no wrong reading {number}; see `oracle readings`"));
+    }
+    read_wrongly(number as u32);
+    Ok(())
+}
+
+#[cfg(not(feature = "wrong_readings"))]
+fn read_known(_: u64) -> Result<(), String> {
+    Err(NO_READINGS.to_string())
+}
+
+#[cfg(not(feature = "wrong_readings"))]
+pub const NO_READINGS: &str =
+    "this build has no wrong readings; build with --features wrong_readings (see README.md)";
 
 /// Panics of the original are reported as an outcome, so nothing is printed about them.
 pub fn silence_panics() {

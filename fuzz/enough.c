@@ -1,0 +1,22 @@
+/* A test of enough_seen: just enough of everything is enough, and one fewer of anything is not. */
+#include "target.c"
+
+enum { ASKED = 20000 };
+
+static int enough_with_one_fewer(unsigned long *count) {
+    --*count;
+    int enough = enough_seen(ASKED);
+    ++*count;
+    return enough;
+}
+
+int main(void) {
+    queries = ASKED;
+    for (int i = 0; i < ANSWERS; i++) answers[i] = ASKED / 10000 * least_answers[i];
+    for (int i = 1; i <= REFUSALS; i++) refusals[i] = ASKED / 10000 * least_refusals[i];
+    int wrong = !enough_seen(ASKED);
+    wrong += enough_with_one_fewer(&queries);
+    for (int i = 0; i < ANSWERS; i++) wrong += enough_with_one_fewer(&answers[i]);
+    for (int i = 1; i <= REFUSALS; i++) wrong += enough_with_one_fewer(&refusals[i]);
+    return wrong != 0;
+}
