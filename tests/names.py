@@ -123,7 +123,7 @@ def declared(ts, k):
     """The names that a declaration at token k declares; none where no declaration starts there."""
     while ts[k].text in MARKS:
         k += 1
-    if ts[k].text in ("data", "record") and ts[k + 1].text != "{":
+    if ts[k].text in ("data", "record", "ruleset") and ts[k + 1].text != "{":
         return [ts[k + 1].text]
     names = []
     while k < len(ts) and ts[k].text not in (*"(){}.;,@=:", "unfolding", "module", "mutual"):
