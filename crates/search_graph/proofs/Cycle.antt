@@ -32,7 +32,7 @@ use Rattle.task.specs.declared.Iteration.the-variants.{End, Again}
 use Rattle.task.specs.Turns.{turn, turned, FewTurned}
 use Rattle.task.proofs.Turns.{turn-is}
 use Rattle.search_graph.specs.Calls.{Running, evaluator, Comes, TaskComes}
-use Rattle.search_graph.specs.Steps.{LookedUp, Pushed, IterationEnded, Finished}
+use Rattle.search_graph.specs.Between.{LookedUp, Pushed, IterationEnded, Finished}
 
 -- ---- the measure: goals off the stack, then iterations left, then bytes left
 abbrev pub rank : ℕ → ℕ → ℕ → ℕ

@@ -1,7 +1,8 @@
 // evaluate_goal, evaluate_goal_in_task and the delegate's compute_goal: three functions
 // that call each other in a cycle. What stands between their calls is in other functions.
-pub mod steps;
+pub mod between;
 
+use between::Shape;
 use book::part;
 use book::part::Call;
 use definition::answers::Answer;
@@ -13,7 +14,6 @@ use delegate::Step;
 use evaluation::Outcome;
 use evaluation::TaskOutcome;
 use lookup::Found;
-use steps::Shape;
 use task::Iteration;
 ghost use mathlib.Core.Bool.{false};
 ghost use Prim.Native.Nat.{_-_, _≤_, _<_};
@@ -42,7 +42,7 @@ pub fn evaluate(
     requires { ⌜ goal < h .goals ⌝ }
     ensures { λ r. ⌜ Comes (h .goals) root height height (evaluator (now (book .entry)) h height (graphOf (h .goals) root height entries (graphIn (h .goals) (now (work .entry))) (now (cache .entry))) goal step lower) (now (work .entry)) (now (work .exit)) (now (cache .exit)) r ⌝ }
 {
-    let found = steps::look_up(cache, work, h, root, height, entries, goal, step, lower);
+    let found = between::look_up(cache, work, h, root, height, entries, goal, step, lower);
     match found {
         Found::Known(answer) => Outcome::Done(answer, entries),
         Found::Push(available) => {
@@ -50,9 +50,9 @@ pub fn evaluate(
             if goals <= height {
                 return Outcome::Stopped(Refusal::Unreachable);
             }
-            steps::push(work, goals, height, goal, step, available);
+            between::push(work, goals, height, goal, step, available);
             let p = part::of_goal(book, starts, goal);
-            let left = steps::one_less(h.limit);
+            let left = between::one_less(h.limit);
             let o = rerun(
                 book,
                 starts,
@@ -66,7 +66,7 @@ pub fn evaluate(
                 left,
                 false,
             );
-            steps::finish(o, cache, work, h, height, goal, step, available)
+            between::finish(o, cache, work, h, height, goal, step, available)
         }
     }
 }
@@ -102,7 +102,7 @@ fn rerun(
         entries,
         false,
     );
-    let next = steps::end_iteration(o, work, h.goals, height, left, overflow);
+    let next = between::end_iteration(o, work, h.goals, height, left, overflow);
     match next {
         Iteration::End(t) => t,
         Iteration::Again(met, kept) => rerun(
@@ -139,7 +139,7 @@ fn read_part(
     ensures { λ r. ⌜ Comes (h .goals) root height (keptBelow in_pick height) (evalPart (evaluator (now (book .entry)) h height) (h .goals) (partIn (h .goals) in_pick (now (p .entry))) (graphOf (h .goals) root height entries (graphIn (h .goals) (now (work .entry))) (now (cache .entry)))) (now (work .entry)) (now (work .exit)) (now (cache .exit)) r ⌝ }
 {
     let code = part::code(p);
-    let shape = steps::shape_of(code);
+    let shape = between::shape_of(code);
     match shape {
         Shape::Undecided => Outcome::Done(Answer::Undecided, entries),
         Shape::Call => {

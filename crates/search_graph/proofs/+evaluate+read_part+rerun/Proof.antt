@@ -40,12 +40,12 @@ use Rattle.delegate.proofs.close.Reads as close-reads
 use Rattle.delegate.proofs.end.Reads as end-reads
 use Rattle.delegate.proofs.start.Reads as start-reads
 use Rattle.delegate.proofs.weigh.Reads as weigh-reads
-use Rattle.search_graph.proofs.steps.end_iteration.Reads as end-iteration-reads
-use Rattle.search_graph.proofs.steps.finish.Reads as finish-reads
-use Rattle.search_graph.proofs.steps.look_up.Reads as look-up-reads
-use Rattle.search_graph.proofs.steps.one_less.Reads as one-less-reads
-use Rattle.search_graph.proofs.steps.push.Reads as push-reads
-use Rattle.search_graph.proofs.steps.shape_of.Reads as shape-of-reads
+use Rattle.search_graph.proofs.between.end_iteration.Reads as end-iteration-reads
+use Rattle.search_graph.proofs.between.finish.Reads as finish-reads
+use Rattle.search_graph.proofs.between.look_up.Reads as look-up-reads
+use Rattle.search_graph.proofs.between.one_less.Reads as one-less-reads
+use Rattle.search_graph.proofs.between.push.Reads as push-reads
+use Rattle.search_graph.proofs.between.shape_of.Reads as shape-of-reads
 use Rattle.search_graph.proofs.+evaluate+read_part+rerun.{statement}
 use Rattle.search_graph.proofs.+evaluate+read_part+rerun.Tie.{close}
 
