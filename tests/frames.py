@@ -40,7 +40,8 @@ class Function:
         if m and i.word in ("sub", "subq", "add", "addq", "lea"):
             n = int(m[2], 16) - (1 << 64 if m[2].startswith("ffffffff") else 0)
             return n if i.word.startswith("sub") or m[1] == "-" else -n
-        if i.operands.endswith("%rsp") and i.word not in ("cmp", "test") or i.word in ("leave", "enter", "pushf", "popf"):
+        changed = i.operands.endswith("%rsp") and i.word not in ("cmp", "test")
+        if changed or i.word in ("leave", "enter", "pushf", "popf"):
             self.fail(i, "the stack pointer is changed in a way that is not understood")
         return 0
 

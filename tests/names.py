@@ -16,7 +16,7 @@ MARKS = ("pub", "unfoldable", "abbrev", "axiom")
 
 
 def tokens(text, line=1):
-    """Without comments and quoted texts. An escaped name is the bare one, unless a `_` in it would be an argument's place."""
+    """Without comments and quoted texts. An escaped name is the bare one, but where a `_` in it would be an argument's."""
     out, at = [], 0
     for m in TOKEN.finditer(text):
         line += text.count("\n", at, m.start())
@@ -35,7 +35,7 @@ def parts(name):
 
 
 def module_key(path):
-    """(crate, 'specs' or 'proofs', module ..) of a path such as Rattle.book.specs.Lines; None for one of the kit."""
+    """(crate, 'specs' or 'proofs', module ..) of a path as Rattle.book.specs.Lines; None for one of the kit."""
     return (path[0].split("·")[1], *path[1:]) if path[0].startswith("Rattle·") else None
 
 
@@ -72,7 +72,7 @@ def is_label(ts, k, inside):
 
 
 def named(ts):
-    """Each token that names something, with what follows it after tight dots, `a.b.c`; a projection ` .field` is left out."""
+    """Each token that names something, with what follows it after tight dots, `a.b.c`; without projections, ` .field`."""
     brackets, out = [""], []
     for k, t in enumerate(ts):
         if t.text in ("(", "{"):
@@ -160,7 +160,7 @@ class Module:
         self.declare(ts[k:])
 
     def declare(self, ts):
-        """Finds the declarations, at the left edge and in blocks, the tokens of each, and the constructors and fields (members).
+        """Finds the declarations, at the left edge and in blocks, the tokens of each, and members: constructors and fields.
         What stands outside, as the parameters of a block do, belongs to None."""
         self.lines, self.members, self.bodies = {}, {}, collections.defaultdict(list)
         columns, owner, line, inner = [0], None, 0, 0

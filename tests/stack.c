@@ -1,5 +1,5 @@
-/* stack BYTES: asks the deepest books of a query that has BYTES of stack, a page without access below them, and prints how many
-   bytes were taken at most. It dies of the page where they do not suffice. tests/stack runs it. */
+/* stack BYTES: asks the deepest books of a query that has BYTES of stack, a page without access below them, and prints
+   how many bytes were taken at most. It dies of the page where they do not suffice. tests/stack runs it. */
 #include <stdint.h>
 #include <stdio.h>
 #include <stdlib.h>
@@ -60,7 +60,8 @@ static void make_book(const struct shape *s) {
 
 /* ---- a call on a stack of its own */
 
-static uint8_t *low, *top;
+static uint8_t *low, *top, *cache, *work;
+static size_t cache_len, work_len;
 
 static void make_stack(size_t bytes) {
     size_t page = (size_t)sysconf(_SC_PAGESIZE), room = (bytes + page - 1) / page * page;
@@ -71,7 +72,7 @@ static void make_stack(size_t bytes) {
 }
 
 /* search_graph_query, the first byte below `top` being the first that it may use */
-static uint32_t query_below(uint8_t *cache, size_t cache_len, uint8_t *work, size_t work_len, size_t goal, size_t depth) {
+static uint32_t query_below(size_t goal, size_t depth) {
     register uint64_t code __asm__("rax");
     register const uint8_t *a __asm__("rdi") = book;
     register size_t b __asm__("rsi") = book_len;
@@ -90,20 +91,19 @@ static uint32_t query_below(uint8_t *cache, size_t cache_len, uint8_t *work, siz
                      "movq %%rbx, %%rsp"
                      : "=r"(code), "+r"(a), "+r"(b), "+r"(c), "+r"(d), "+r"(e), "+r"(f)
                      : [start] "r"(start), [g] "r"(g), [h] "r"(h)
-                     : "rbx", "r10", "r11", "memory", "cc", "xmm0", "xmm1", "xmm2", "xmm3", "xmm4", "xmm5", "xmm6", "xmm7",
-                       "xmm8", "xmm9", "xmm10", "xmm11", "xmm12", "xmm13", "xmm14", "xmm15");
+                     : "rbx", "r10", "r11", "memory", "cc", "xmm0", "xmm1", "xmm2", "xmm3", "xmm4", "xmm5", "xmm6",
+                       "xmm7", "xmm8", "xmm9", "xmm10", "xmm11", "xmm12", "xmm13", "xmm14", "xmm15");
     return (uint32_t)code;
 }
 
 /* ---- the run */
 
-static uint8_t *cache, *work;
-static size_t cache_len, work_len, most, queries, answers[4];
+static size_t most, queries, answers[4];
 
 static void ask(size_t goal, size_t depth) {
     const uint8_t *at = low;
     memset(low, 0xA5, (size_t)(top - low));
-    uint32_t code = query_below(cache, cache_len, work, work_len, goal, depth);
+    uint32_t code = query_below(goal, depth);
     if (code > 3 && code / 256 != 10 && code / 256 != 11) die("the book was refused");
     while (at < top && *at == 0xA5) at++;
     if ((size_t)(top - at) > most) most = (size_t)(top - at);
@@ -138,7 +138,7 @@ int main(int argc, char **argv) {
                     for (s.kinds = 0; s.kinds < 5; s.kinds++)
                         for (s.escape = 0; s.escape < 2; s.escape++)
                             for (s.back = 0; s.back < 2; s.back++) run(&s);
-    printf("%zu queries (No %zu, Yes %zu, undecided %zu, overflow %zu) took at most %zu bytes\n", queries, answers[0], answers[1],
-           answers[2], answers[3], most);
+    printf("%zu queries (No %zu, Yes %zu, undecided %zu, overflow %zu) took at most %zu bytes\n", queries, answers[0],
+           answers[1], answers[2], answers[3], most);
     return 0;
 }
