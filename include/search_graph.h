@@ -2,7 +2,8 @@
 
    The caller owns every buffer. No function keeps a pointer, allocates or has a state of its own.
    The three buffers of a query must not overlap, and a pointer is not null, also where the
-   length is 0. Any bytes and any lengths are answered: what does not fit is refused. */
+   length is 0. Any bytes and any lengths are answered: what does not fit is refused. A query
+   needs SEARCH_GRAPH_STACK_LEN bytes of the machine's stack. */
 #ifndef SEARCH_GRAPH_H
 #define SEARCH_GRAPH_H
 
@@ -12,6 +13,11 @@
 #ifdef __cplusplus
 extern "C" {
 #endif
+
+/* The most bytes of the machine's stack that a query needs, for any book, cache and workspace:
+   below the caller's stack pointer, with the arguments. 4 KB of it are for the C library's
+   memset and memcpy. */
+#define SEARCH_GRAPH_STACK_LEN ((size_t)285 * 1024)
 
 /* The length in bytes of the workspace for a number of goals, 1 to 64; 0 where it is out of
    range. It is 4 * goals * (41 * goals + 24). */

@@ -1,6 +1,6 @@
 -- The lengths of cache and workspace for a book that was opened, at most 16 goals.
-use mathlib.Core.Path.{_≡_, refl, sym, ap, subst, _∙_}
-use mathlib.Core.Bool.{Bool, true, false, _&&_}
+use mathlib.Core.Path.{_≡_, sym, ap, subst, _∙_}
+use mathlib.Core.Bool.{Bool, true, _&&_}
 use mathlib.Core.List.{List}
 use Prim.Native.Nat.{ℕ, _+_, _*_, _≤_}
 use native.Mathlib.Omega.{arith}
@@ -10,7 +10,6 @@ use lib.ListN.{length, take}
 use lib.Seq.{length-take-le}
 use borrow.Author.Tests.{le-leb}
 use Rattle.definition.specs.declared.format.Header.{Header}
-use Rattle.definition.specs.Part.{Book}
 use Rattle.definition.specs.Reader.{readBook}
 use Rattle.definition.specs.CacheForm.{cacheLength}
 use Rattle.definition.specs.Query.{workLength}

@@ -1,5 +1,5 @@
 -- What the program makes of a question line.
-use mathlib.Core.Path.{_≡_, refl, sym, ap, subst, _∙_}
+use mathlib.Core.Path.{_≡_, sym, ap, _∙_}
 use mathlib.Core.Bool.{Bool, true, false}
 use mathlib.Core.List.{List, []}
 use Prim.Native.Nat.{ℕ}
@@ -9,8 +9,8 @@ use Rattle.definition.specs.Query.{Reply, query}
 use Rattle.question.specs.declared.Question.{Question}
 use Rattle.question.specs.declared.Question.the-variants.{Asked, IllFormed}
 use Rattle.question.specs.declared.Ending.the-variants.{QuestionLine}
-use Rattle.question.specs.Lines.{readQuestion, replyLine, endingLine}
-use Rattle.query.specs.Carried.{Carried, RightQuery}
+use Rattle.question.specs.Lines.{replyLine, endingLine}
+use Rattle.query.specs.Carried.{Carried}
 use Rattle.ask.specs.Program.{Turned, replied, turnBy, Lent, Ready}
 
 abbrev turnedTo : List ℕ → Bool → List ℕ → List ℕ → Turned

@@ -159,34 +159,6 @@ flags-low (suc k) (suc i) a =
     rest : (k i : ℕ) → k - i ≡ suc k - suc i
     rest k i = omega arith
 
--- fewer flags of a number are its first ones
-pub flags-take : (k i a : ℕ) → i ≤ k → flags i a ≡ take i (flags k a)
-unfolding flags
-flags-take k zero a h = refl
-flags-take zero (suc i) a h = absurd (omega arith)
-flags-take (suc k) (suc i) a h = ap (λ (l : List Bool). flag (a % 2) ∷ l) (flags-take k i (a / 2) (omega arith))
-
--- more flags of a number that has g bits are not set
-pub flags-more : (k g a : ℕ) → g ≤ k → a < 2 ^ g → flags k a ≡ flags g a ++ replicate (k - g) false
-flags-more k g a h small = ap (flags k) (sym (mod-eq-of-lt small)) ∙ flags-low k g a ∙ ap (λ (l : List Bool). l ++ replicate (k - g) false) (sym (flags-take k g a h))
-
--- numbers of k bits with the same flags are the same
-pub flags-same : (k a b : ℕ) → a < 2 ^ k → b < 2 ^ k → flags k a ≡ flags k b → a ≡ b
-unfolding flags
-flags-same zero a b ha hb e = omega arith
-flags-same (suc k) a b ha hb e =
-    let pa : a < 2 ^ k * 2 = rw pow-suc at ha in
-    let pb : b < 2 ^ k * 2 = rw pow-suc at hb in
-    let hi = flags-same k (a / 2) (b / 2) (omega arith) (omega arith) (cc) in
-    let lo = bit (a % 2) (b % 2) (mod-lt a (lit< tt)) (mod-lt b (lit< tt)) (cc) in
-    omega arith
-  where
-    bit : (d e : ℕ) → d < 2 → e < 2 → flag d ≡ flag e → d ≡ e
-    bit zero zero p q h = refl
-    bit zero (suc e) p q h = let z : _≡_ {A = ℕ} 0 1 = cc in absurd (omega arith)
-    bit (suc d) zero p q h = let z : _≡_ {A = ℕ} 0 1 = cc in absurd (omega arith)
-    bit (suc d) (suc e) p q h = omega arith
-
 -- `m & ((1 << i) - 1)`
 pub flags-below : (k i a : ℕ) → i < k → flags k (bitAnd a (1 * 2 ^ i % 2 ^ k - 1)) ≡ take i (flags k a) ++ replicate (k - i) false
 flags-below k i a h = ap (λ (n : ℕ). flags k (bitAnd a (n - 1))) (one-shifted k i h) ∙ ap (flags k) (and-mask a i) ∙ flags-low k i a

@@ -2,18 +2,18 @@
 use mathlib.Core.Path.{_≡_, refl, sym, ap, ap₂, _∙_}
 use mathlib.Core.Bool.{Bool, true, false}
 use mathlib.Core.List.{List, [], _∷_, _++_}
-use mathlib.Core.Option.{Option, none, some, Option·some-injective, Option·none-ne-some, Option·some-ne-none}
+use mathlib.Core.Option.{Option, none, some, Option·some-injective, Option·none-ne-some}
 use Prim.Native.Nat.{ℕ, zero, suc, _+_, _*_, _-_, _/_, _%_, _^_, _≤_, _<_, min}
-use native.Mathlib.Nat.{pow-suc, add-zero}
+use native.Mathlib.Nat.{pow-suc}
 use native.Mathlib.Omega.{arith}
 use native.Mathlib.Decide.{decLt}
-use lib.ListN.{length, getD, set, take, replicate}
+use lib.ListN.{getD, set, replicate}
 use lib.Dec.{lit<}
 use lib.Pow.{pow-mono, pow-pos}
 use lib.Bits.{bitAnd, bitOr, and-step, and-self, and-le-r, or-lt, or-add-and}
 use lib.Count.{trailingZeros, leadingZeros, under, leading-top}
-use Rattle.bits.specs.Masks.{flag, flags, firstPlace, lastPlace, nextPlace, placeOr, foldPlaces, updatePlaces}
-use Rattle.bits.proofs.Flags.{flags-zero, flags-more, digit}
+use Rattle.bits.specs.Masks.{flag, flags, firstPlace, lastPlace, nextPlace, placeOr}
+use Rattle.bits.proofs.Flags.{flags-zero, digit}
 
 -- ---- no flag
 pub first-none : (k : ℕ) → firstPlace (replicate k false) ≡ none
@@ -41,14 +41,6 @@ unfolding lastPlace
 last-more [] n = last-none n
 last-more (true ∷ xs) n = ap (λ (o : Option ℕ). elim o [ none ↦ some 0 | some i ↦ some (suc i) ]) (last-more xs n)
 last-more (false ∷ xs) n = ap nextPlace (last-more xs n)
-
--- the places of a mask that has g bits are those of its g flags
-module _ (k g a : ℕ) (fewer : g ≤ k) (small : a < 2 ^ g) where
-  pub first-bits : firstPlace (flags k a) ≡ firstPlace (flags g a)
-  first-bits = ap firstPlace (flags-more k g a fewer small) ∙ first-more (flags g a) (k - g)
-
-  pub last-bits : lastPlace (flags k a) ≡ lastPlace (flags g a)
-  last-bits = ap lastPlace (flags-more k g a fewer small) ∙ last-more (flags g a) (k - g)
 
 -- ---- the lowest
 step-place : (k : ℕ) (o : Option ℕ) → suc (placeOr k o) ≡ placeOr (suc k) (nextPlace o)
@@ -149,10 +141,6 @@ next-some : (o : Option ℕ) (j : ℕ) → nextPlace o ≡ some j → (i : ℕ) 
 next-some none j e = absurd (Option·none-ne-some j e)
 next-some (some i) j e = (i, refl, Option·some-injective (suc i) j e)
 
-next-none : (o : Option ℕ) → nextPlace o ≡ none → o ≡ none
-next-none none e = refl
-next-none (some i) e = absurd (Option·some-ne-none (suc i) e)
-
 -- the first place is set
 pub first-set : (xs : List Bool) (j : ℕ) → firstPlace xs ≡ some j → getD xs j false ≡ true
 unfolding firstPlace
@@ -161,44 +149,3 @@ first-set (true ∷ xs) j e = sym (ap (λ (k : ℕ). getD (true ∷ xs) k false)
 first-set (false ∷ xs) j e =
     let n = next-some (firstPlace xs) j e in
     sym (ap (λ (k : ℕ). getD (false ∷ xs) k false) (n .2)) ∙ first-set xs (n .0) (n .1)
-
-module _ {S : Type 0} (f : ℕ → S → S) where
-  -- the end of a fold over the places
-  pub fold-none : (xs : List Bool) (i : ℕ) (s : S) → firstPlace xs ≡ none → foldPlaces f i xs s ≡ s
-  unfolding firstPlace foldPlaces
-  fold-none [] i s e = refl
-  fold-none (true ∷ xs) i s e = absurd (Option·some-ne-none 0 e)
-  fold-none (false ∷ xs) i s e = fold-none xs (suc i) s (next-none (firstPlace xs) e)
-
-  -- its first turn
-  pub fold-next : (xs : List Bool) (i j : ℕ) (s : S) → firstPlace xs ≡ some j → foldPlaces f i xs s ≡ foldPlaces f i (set xs j false) (f (i + j) s)
-  unfolding firstPlace foldPlaces
-  fold-next [] i j s e = absurd (Option·none-ne-some j e)
-  fold-next (true ∷ xs) i j s e = rw (sym (Option·some-injective 0 j e), add-zero i)
-  fold-next (false ∷ xs) i j s e =
-      let n = next-some (firstPlace xs) j e in
-      let m : suc i + n .0 ≡ i + suc (n .0) = omega arith in
-      rw (sym (n .2)) (fold-next xs (suc i) (n .0) s (n .1) ∙ ap (λ (k : ℕ). foldPlaces f (suc i) (set xs (n .0) false) (f k s)) m)
-
-module _ {A : Type 0} (f : ℕ → A → A) where
-  -- the end of an update at the places
-  pub update-none : (xs : List Bool) (i : ℕ) (ys : List A) → firstPlace xs ≡ none → updatePlaces f i xs ys ≡ ys
-  unfolding firstPlace updatePlaces
-  update-none [] i ys e = refl
-  update-none (x ∷ xs) i [] e = refl
-  update-none (true ∷ xs) i (y ∷ ys) e = absurd (Option·some-ne-none 0 e)
-  update-none (false ∷ xs) i (y ∷ ys) e = ap (λ (l : List A). y ∷ l) (update-none xs (suc i) ys (next-none (firstPlace xs) e))
-
-  -- its first turn
-  pub update-next : (d : A) (xs : List Bool) (i j : ℕ) (ys : List A) → firstPlace xs ≡ some j
-      → updatePlaces f i xs ys ≡ updatePlaces f i (set xs j false) (set ys j (f (i + j) (getD ys j d)))
-  unfolding firstPlace updatePlaces
-  update-next d [] i j ys e = absurd (Option·none-ne-some j e)
-  update-next d (true ∷ xs) i j [] e = rw (sym (Option·some-injective 0 j e))
-  update-next d (true ∷ xs) i j (y ∷ ys) e = rw (sym (Option·some-injective 0 j e), add-zero i)
-  update-next d (false ∷ xs) i j [] e = rw (sym (next-some (firstPlace xs) j e .2))
-  update-next d (false ∷ xs) i j (y ∷ ys) e =
-      let n = next-some (firstPlace xs) j e in
-      let m : suc i + n .0 ≡ i + suc (n .0) = omega arith in
-      rw (sym (n .2))
-      (ap (λ (l : List A). y ∷ l) (update-next d xs (suc i) (n .0) ys (n .1) ∙ ap (λ (k : ℕ). updatePlaces f (suc i) (set xs (n .0) false) (set ys (n .0) (f k (getD ys (n .0) d)))) m))

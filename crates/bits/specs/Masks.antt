@@ -42,16 +42,3 @@ lastPlace (false ∷ xs) = nextPlace (lastPlace xs)
 abbrev pub placeOr : ℕ → Option ℕ → ℕ
 placeOr d none = d
 placeOr d (some i) = i
-
--- f at each place that is set, the lowest first; the first flag has place i
-unfoldable pub foldPlaces : {S : Type 0} → (ℕ → S → S) → ℕ → List Bool → S → S
-foldPlaces f i [] s = s
-foldPlaces f i (true ∷ xs) s = foldPlaces f (suc i) xs (f i s)
-foldPlaces f i (false ∷ xs) s = foldPlaces f (suc i) xs s
-
--- a list, changed by f at each place that is set; the first flag has place i
-unfoldable pub updatePlaces : {A : Type 0} → (ℕ → A → A) → ℕ → List Bool → List A → List A
-updatePlaces f i [] ys = ys
-updatePlaces f i (x ∷ xs) [] = []
-updatePlaces f i (true ∷ xs) (a ∷ ys) = f i a ∷ updatePlaces f (suc i) xs ys
-updatePlaces f i (false ∷ xs) (a ∷ ys) = a ∷ updatePlaces f (suc i) xs ys

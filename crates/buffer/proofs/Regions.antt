@@ -1,12 +1,12 @@
 -- What a write of bytes at an offset does to a region, once, over offset and size.
-use mathlib.Core.Path.{_≡_, refl, sym, ap, ap₂, _∙_}
+use mathlib.Core.Path.{_≡_, refl, sym, ap, _∙_}
 use mathlib.Core.List.{List, [], _∷_, _++_, append-assoc, append-nil}
 use Prim.Native.Nat.{ℕ, zero, suc, _+_, _-_, _≤_, _<_}
 use native.Mathlib.Nat.{zero-add, suc-add}
 use native.Mathlib.Numerals.{add-one}
 use native.Mathlib.Omega.{arith}
 use lib.ListN.{length, getD, take, drop, set, length-append, length-drop, List·getD-append, take-append-drop, drop-of-length-le}
-use lib.Seq.{getD-take, getD-drop, getD-append-add, take-nil, take-at, drop-at, drop-drop, drop-cons, take-suc, take-append-le, take-take, take-append-seam, take-append-add, append-snoc, length-take-le, set-at, set-split}
+use lib.Seq.{getD-take, getD-drop, take-nil, drop-at, drop-drop, drop-cons, take-suc, take-append-le, take-take, take-append-seam, take-append-add, append-snoc, length-take-le, set-at, set-split}
 use Rattle.buffer.specs.Regions.{region, overwrite}
 
 pub drop-take : (b n : ℕ) (l : List ℕ) → drop b (take (b + n) l) ≡ take n (drop b l)
@@ -17,10 +17,6 @@ drop-take (suc b) n (x ∷ l) = rw suc-add (drop-take b n l)
 -- a region inside the buffer is as long as it says
 pub length-region : (a n : ℕ) (bs : List ℕ) → a + n ≤ length bs → length (region a n bs) ≡ n
 length-region a n bs h = length-take-le n (drop a bs) (rw length-drop (omega arith))
-
--- a byte of a region
-pub region-at : (a n : ℕ) (bs : List ℕ) (i : ℕ) → i < n → getD (region a n bs) i 0 ≡ getD bs (a + i) 0
-region-at a n bs i h = getD-take n (drop a bs) i 0 h ∙ getD-drop a bs i 0
 
 -- a region of a region
 pub region-region : (a m b n : ℕ) (bs : List ℕ) → b + n ≤ m → region b n (region a m bs) ≡ region (a + b) n bs
@@ -138,14 +134,6 @@ overwrite-back bs a n h =
     ap (λ (m : ℕ). take a bs ++ (region a n bs ++ drop m (drop a bs))) (length-region a n bs h)
     ∙ ap (λ (l : List ℕ). take a bs ++ l) (take-append-drop n (drop a bs))
     ∙ take-append-drop a bs
-
--- of two writes at one place, the second stays
-pub overwrite-twice : (bs : List ℕ) (a : ℕ) (xs ys : List ℕ) → length xs ≡ length ys → a + length ys ≤ length bs → overwrite (overwrite bs a xs) a ys ≡ overwrite bs a ys
-overwrite-twice bs a xs ys e h =
-    let fits : a + length xs ≤ length bs = omega arith in
-    let rest : List ℕ = drop (length xs) (drop a bs) in
-    ap₂ (λ (l m : List ℕ). l ++ (ys ++ drop (length ys) m)) (take-at (take a bs) (xs ++ rest) a (front bs a xs fits)) (tail bs a xs fits)
-    ∙ ap (λ (l : List ℕ). take a bs ++ (ys ++ l)) (drop-at xs rest (length ys) e ∙ ap (λ (n : ℕ). drop n (drop a bs)) e)
 
 -- the bytes that come back from a part `[a..e]` that was borrowed, with ys in it
 pub overwrite-part : (bs : List ℕ) (a e : ℕ) (ys : List ℕ) → length ys ≡ e - a → take a bs ++ (ys ++ drop (e - a) (drop a bs)) ≡ overwrite bs a ys

@@ -2,13 +2,13 @@
 use mathlib.Core.Path.{_≡_, refl, sym, ap, ap₂, _∙_}
 use mathlib.Core.List.{List, [], _∷_, _++_}
 use Prim.Native.Nat.{ℕ, zero, suc, _+_, _*_, _-_, _≤_, _<_}
-use native.Mathlib.Nat.{zero-add, suc-add, add-zero, suc-mul, mul-le-mul-right, add-assoc}
+use native.Mathlib.Nat.{zero-add, suc-add, add-zero, suc-mul, mul-le-mul-right}
 use native.Mathlib.Omega.{arith}
 use native.Mathlib.Decide.{decLt, ℕ-discrete}
 use lib.ListN.{length, getD, set, drop}
 use Rattle.buffer.specs.Regions.{region, overwrite}
 use Rattle.buffer.specs.Tables.{listUp, listDown, recordAt, table, tableDown}
-use Rattle.buffer.proofs.Regions.{region-same, region-before, region-after, region-inside, region-region}
+use Rattle.buffer.proofs.Regions.{region-same, region-before, region-after, region-inside}
 
 -- ---- lists of f's values
 module _ {A : Type 0} where
@@ -80,12 +80,6 @@ pub apart : (j i size : ℕ) → j < i → j * size + size ≤ i * size
 apart j i size h = let m = mul-le-mul-right size h in let e = suc-mul j size in omega arith
 
 module _ {A : Type 0} (dec : List ℕ → A) (size base : ℕ) where
-  -- a table in a region, read from the whole
-  pub table-region : (a m n : ℕ) (bs : List ℕ) → base + n * size ≤ m → table dec size base n (region a m bs) ≡ table dec size (a + base) n bs
-  table-region a m n bs h =
-      up-same (recordAt dec size base (region a m bs)) (recordAt dec size (a + base) bs) n
-      (λ i lt. ap dec (region-region a m (base + i * size) size bs (omega (arith, apart i n size lt)) ∙ ap (λ (x : ℕ). region x size bs) (sym (add-assoc a base (i * size)))))
-
   -- a write of ys at a that meets no record
   module _ (bs : List ℕ) (a : ℕ) (ys : List ℕ) (fits : a + length ys ≤ length bs) where
     pub record-before : (i : ℕ) → base + i * size + size ≤ a → recordAt dec size base (overwrite bs a ys) i ≡ recordAt dec size base bs i
@@ -110,9 +104,6 @@ module _ {A : Type 0} (dec : List ℕ → A) (size base : ℕ) where
     -- the write lies below the table
     pub table-above : (n : ℕ) → a + length ys ≤ base → table dec size base n (overwrite bs a ys) ≡ table dec size base n bs
     table-above n h = up-same (recordAt dec size base (overwrite bs a ys)) (recordAt dec size base bs) n (above n h)
-
-    pub tableDown-above : (n : ℕ) → a + length ys ≤ base → tableDown dec size base n (overwrite bs a ys) ≡ tableDown dec size base n bs
-    tableDown-above n h = down-same (recordAt dec size base (overwrite bs a ys)) (recordAt dec size base bs) n (above n h)
 
   -- a write of ys inside record i, k bytes into it
   module _ (bs : List ℕ) (i k : ℕ) (ys : List ℕ) (inner : k + length ys ≤ size) (room : base + i * size + size ≤ length bs) where

@@ -1,7 +1,7 @@
 -- The examples of document 01.
 use Prim.Native.Nat.{ℕ, _<_}
 use mathlib.Core.Path.{_≡_, refl}
-use mathlib.Core.List.{List, [], _∷_, _++_}
+use mathlib.Core.List.{List, [], _∷_}
 use lib.ListN.{replicate, take, getD}
 use Rattle.definition.specs.declared.replies.Refusal.the-variants.{ProvisionalCacheFull, CacheConflict}
 use Rattle.definition.specs.declared.replies.Response.the-variants.{Refused}

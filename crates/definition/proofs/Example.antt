@@ -1,10 +1,10 @@
 -- Books written as lines of numbers, queries on them, and what examples prove.
-use Prim.Native.Nat.{ℕ, zero, suc, _+_, _*_, _/_, _%_, _<_}
+use Prim.Native.Nat.{ℕ, zero, suc, _+_, _/_, _%_, _<_}
 use native.Mathlib.Nat.{not-suc-le-zero, le-of-suc-le-suc}
-use mathlib.Core.Path.{_≡_, refl}
+use mathlib.Core.Path.{_≡_}
 use mathlib.Core.Bool.{Bool, true, false, _&&_}
 use mathlib.Core.List.{List, [], _∷_, _++_}
-use lib.Dec.{eqb, leb, T, eqb→eq}
+use lib.Dec.{eqb, T, eqb→eq}
 use lib.ListN.{length, replicate, getD, take}
 use Rattle.definition.specs.Answers.{responseAnswer, responseRefusal}
 use Rattle.definition.specs.Query.{Reply, query, workLength}

@@ -1,13 +1,13 @@
 -- The branches of `PathsToNested`'s methods, by what the definitions say.
-use mathlib.Core.Path.{_≡_, refl, sym, ap, ap₂, _∙_}
-use mathlib.Core.Bool.{Bool, true, false}
+use mathlib.Core.Path.{_≡_, sym, ap, ap₂, _∙_}
+use mathlib.Core.Bool.{true, false}
 use mathlib.Core.List.{List, [], _∷_}
 use Prim.Native.Nat.{ℕ, _-_}
 use borrow.Author.Tests.{eq-eqb, ne-eqb}
 use lib.Bits.{bitAnd, bitOr, or-zero-l, or-zero-r}
 use Rattle.definition.specs.Paths.{flagOf, weakerFlags, containsPath, extendWith, extendWithEach, containedIn, extendWithPaths}
 use Rattle.definition.specs.declared.paths.PathKind.{PathKind}
-use Rattle.definition.specs.declared.paths.PathKind.the-variants.{Inductive, Unknown, Coinductive, ForcedAmbiguity}
+use Rattle.definition.specs.declared.paths.PathKind.the-variants.{Unknown, Coinductive, ForcedAmbiguity}
 
 -- `extend_with` of a set p, by whether p has one of the weaker flags
 module _ (p : ℕ) (k : PathKind) (weaker : ℕ) (is : weaker ≡ weakerFlags k) where

@@ -1,9 +1,8 @@
 -- Made by tests/make-hunted from tests/vectors/hunted.txt: books that tell wrong readings of document 01 apart, with the
 -- original's answers, refusals and caches. Above each: the wrong readings that it catches.
-use Prim.Native.Nat.{ℕ}
 use mathlib.Core.Path.{_≡_, refl}
 use mathlib.Core.Bool.{true}
-use mathlib.Core.List.{List, [], _∷_}
+use mathlib.Core.List.{[], _∷_}
 use lib.ListN.{replicate}
 use Rattle.definition.specs.Usages.{counterLimit}
 use Rattle.definition.proofs.Example.{line, book, bytes, agrees}

@@ -124,14 +124,6 @@ impl PathsToNested {
         self.bits & flag == flag
     }
 
-    pub fn union(self, other: PathsToNested) -> PathsToNested
-        ensures { λ r. ⌜ r .bits ≡ bitOr (self .bits) (other .bits) ⌝ }
-    {
-        PathsToNested {
-            bits: self.bits | other.bits,
-        }
-    }
-
     // The paths, each gone on with by a path of a kind.
     pub fn extend_with(self, kind: PathKind) -> PathsToNested
         ensures { λ r. ⌜ r .bits ≡ extendWith (self .bits) kind ⌝ }

@@ -2,31 +2,18 @@
 use mathlib.Core.Path.{_≡_, refl, ap, ap₂}
 use mathlib.Core.Bool.{Bool, _&&_, _||_}
 use mathlib.Core.List.{List}
-use mathlib.Core.Option.{Option}
-use Prim.Native.Nat.{ℕ, zero, suc, _+_, _*_}
+use Prim.Native.Nat.{ℕ, zero, suc}
 use lib.Dec.{eqb, leb}
 use lib.ListN.{getD, drop}
 use Rattle.definition.specs.declared.format.Header.{Header}
 use Rattle.definition.specs.Graph.{EvaluationResult}
-use Rattle.definition.specs.GlobalCache.{slotAt, slotStart, writeSlot, slotsPerGoal, cacheInsert}
-use Rattle.definition.specs.CacheForm.{cacheLength, allAtMost, depthFits, slotFits, slotsFit, goalsFit, cacheFits}
+use Rattle.definition.specs.GlobalCache.{slotAt, slotsPerGoal, cacheInsert}
+use Rattle.definition.specs.CacheForm.{allAtMost, depthFits, slotFits, slotsFit, goalsFit, cacheFits}
 use Rattle.global_cache.specs.Cache.{headerWith, evaluated}
 
 module _ (h : Header) where
   abbrev pub only : Header
   only = headerWith (h .goals) (h .top)
-
-  pub length-with : cacheLength only ≡ cacheLength h
-  length-with = refl
-
-  pub start-with : (goal slot : ℕ) → slotStart only goal slot ≡ slotStart h goal slot
-  start-with goal slot = refl
-
-  pub slot-with : (cache : List ℕ) (goal slot : ℕ) → slotAt only cache goal slot ≡ slotAt h cache goal slot
-  slot-with cache goal slot = refl
-
-  pub write-with : (cache : List ℕ) (goal slot : ℕ) (bytes : List ℕ) → writeSlot only cache goal slot bytes ≡ writeSlot h cache goal slot bytes
-  write-with cache goal slot bytes = refl
 
   -- nor does an insertion look at the heads
   pub insert-with : (cache : List ℕ) (goal : ℕ) (r : EvaluationResult)

@@ -3,16 +3,16 @@ use mathlib.Core.Path.{_≡_, refl, sym, ap, ap₂, _∙_}
 use mathlib.Core.Bool.{Bool, true, false, not, _&&_}
 use mathlib.Core.List.{List, [], _∷_, _++_}
 use mathlib.Core.Option.{Option, none, some}
-use Prim.Native.Nat.{ℕ, zero, suc, _+_, _*_, _-_, _≤_, _<_}
+use Prim.Native.Nat.{ℕ, _+_, _*_, _-_, _≤_, _<_}
 use native.Mathlib.Nat.{mul-le-mul-right}
 use native.Mathlib.Omega.{arith}
 use lib.Dec.{eqb}
-use lib.ListN.{length, getD, take, drop, set, drop-of-length-le, length-drop}
+use lib.ListN.{length, getD, take, drop, set, drop-of-length-le}
 use lib.Seq.{take-nil, drop-drop}
 use Rattle.buffer.proofs.Regions.{length-region}
 use Rattle.definition.specs.declared.answers.Answer.{Answer}
 use Rattle.definition.specs.Answers.{answerNumber}
-use Rattle.definition.specs.GlobalCache.{slotAt, slotStart, slotHeld, slotNested, slotFor, cacheInsert}
+use Rattle.definition.specs.GlobalCache.{slotAt, slotStart, slotHeld, slotFor, cacheInsert}
 use Rattle.global_cache.specs.declared.Insertion.the-variants.{Kept, Conflict}
 use Rattle.global_cache.specs.Cache.{headerWith, CacheBytes, evaluated}
 use Rattle.global_cache.proofs.Sizes.{place-in, goal-in}
@@ -43,17 +43,6 @@ pub slot-room : (goals top goal slot : ℕ) (cache s : List ℕ) → CacheBytes 
 slot-room goals top goal slot cache s g k h e =
     let n : length s ≡ goals + 3 = ap length e ∙ slot-length goals top goal slot cache g k h in
     omega arith
-
--- and has a nested byte for each goal
-pub nested-length : (goals top goal slot : ℕ) (cache : List ℕ) → CacheBytes goals top cache → goal < goals → slot < top + 2
-    → length (slotNested (slotAt (headerWith goals top) cache goal slot)) ≡ goals
-nested-length goals top goal slot cache g k h =
-    let s : List ℕ = slotAt (headerWith goals top) cache goal slot in
-    omega (arith, length-drop 3 s, slot-length goals top goal slot cache g k h)
-
--- a cache stays one while it keeps its length
-pub same-bytes : (goals top : ℕ) (cache other : List ℕ) → CacheBytes goals top cache → length other ≡ length cache → CacheBytes goals top other
-same-bytes goals top cache other g e = record { few = g .few; low = g .low; whole = e ∙ g .whole }
 
 -- ---- a slot written
 -- the three first bytes, then the nested goals

@@ -1,6 +1,6 @@
 -- Document 01's lines, read and written; 32 is a space, 48 is the digit 0, 10 a newline.
 use mathlib.Core.Path.{_≡_, refl}
-use mathlib.Core.List.{List, [], _∷_}
+use mathlib.Core.List.{[], _∷_}
 use Rattle.definition.specs.declared.answers.Answer.the-variants.{No}
 use Rattle.definition.specs.declared.replies.Refusal.the-variants.{BookLength, ProvisionalCacheFull}
 use Rattle.definition.specs.declared.replies.Response.the-variants.{Answered, Refused}

@@ -6,8 +6,8 @@ use native.Mathlib.Omega.{arith}
 use borrow.Author.Tests.{ne-eqb}
 use Rattle.delegate.specs.declared.Op.{Op}
 use Rattle.delegate.specs.declared.Op.the-variants.{All, Any, Pick}
-use Rattle.search_graph.specs.declared.steps.Shape.{Shape}
-use Rattle.search_graph.specs.declared.steps.Shape.the-variants as shapes
+use Rattle.search_graph.specs.declared.between.Shape.{Shape}
+use Rattle.search_graph.specs.declared.between.Shape.the-variants as shapes
 use Rattle.delegate.specs.Groups.{isPick}
 use Rattle.search_graph.specs.Shapes.{shapeOf}
 

@@ -1,4 +1,4 @@
--- What each step says of the workspace, once the graph that was lent is back.
+-- What each function between the calls says of the workspace, once the graph that was lent is back.
 use mathlib.Core.Path.{_≡_, sym, ap, _∙_}
 use mathlib.Core.Bool.{Bool}
 use mathlib.Core.List.{List, _∷_}
@@ -22,7 +22,7 @@ use Rattle.lookup.specs.declared.Found.the-variants.{Push}
 use Rattle.lookup.specs.Lookups.{found}
 use Rattle.task.specs.declared.Iteration.{Iteration}
 use Rattle.task.specs.Turns.{turn, turned, FewTurned}
-use Rattle.search_graph.specs.Steps.{LookedUp, Pushed, IterationEnded, Finished}
+use Rattle.search_graph.specs.Between.{LookedUp, Pushed, IterationEnded, Finished}
 
 module _ (h : Header) (work : List ℕ) (n : ℕ) (w : WorkBytes (h .goals) work) (is : n ≡ graphLength (h .goals)) (ys : List ℕ) (kept : length ys ≡ length (part work 0 n)) where
   pub looked-up : (root height m goal : ℕ) (step : PathKind) (lower : Bool) (cache : List ℕ) (r : Found)

@@ -31,8 +31,8 @@ use Rattle.delegate.specs.Groups.{opOf, isPick, rest, next}
 use Rattle.delegate.proofs.Laws.{rest-turn}
 use Rattle.delegate.proofs.Plain.{no-pick}
 use Rattle.delegate.specs.Steps.{Kept, Begun, Entered, Stepped, Ended, stepOf}
-use Rattle.search_graph.specs.declared.steps.Shape.{Shape}
-use Rattle.search_graph.specs.declared.steps.Shape.the-variants as shapes
+use Rattle.search_graph.specs.declared.between.Shape.{Shape}
+use Rattle.search_graph.specs.declared.between.Shape.the-variants as shapes
 use Rattle.search_graph.specs.Shapes.{shapeOf, insideOf}
 use Rattle.search_graph.specs.Calls.{Comes, keptBelow}
 use Rattle.search_graph.proofs.Codes.{opNumber, number, code-is, plain-group}
@@ -159,9 +159,9 @@ module _ (ev : Evaluator) (goals root height : ℕ) (inPick inside : Bool) (op :
           read .merged (height - 1) (subst (λ (b : Bool). height - 1 < keptBelow b height) (sym (walk .within ∙ ap (λ (x : Op). insideOf x inPick) (sym (walk .same) ∙ e))) (omega arith))
           ∙ enter .kept (height - 1) (omega arith)
 
-      steps-on : (ps : Parts) → partsIn goals inside k t ≡ Then (partIn goals inside t) ps
+      goes-on : (ps : Parts) → partsIn goals inside k t ≡ Then (partIn goals inside t) ps
           → stepOf ev goals height ps root work3 cache2 r ≡ whole
-      steps-on ps e =
+      goes-on ps e =
           after .whole ev ps root cache2
           ∙ (λ i. andThen ((read .is ∙ ap (evalPart ev goals (partIn goals inside t)) (enter .whole root (g .entries) cache)) i) (next ev goals g ps (mergedOf goals (height - 1) work2)))
           ∙ sym (rest-turn ev goals g (partIn goals inside t) ps (mergedOf goals (height - 1) work) (mergedOf goals (height - 1) work2) (graphOf goals root height (g .entries) (graphIn goals work) cache) (λ e. sym (own-kept (is-pick-op (g .op) e))))
@@ -189,7 +189,7 @@ module _ (ev : Evaluator) (goals root height : ℕ) (inPick inside : Bool) (op :
       walk-stops x e =
           let ps = others-of goals inside k t (walk .parts) pos in
           record {
-            is = sym (ap (stepOf ev goals height ps root work3 cache2) e) ∙ steps-on ps (first-and goals inside k t (walk .parts) pos);
+            is = sym (ap (stepOf ev goals height ps root work3 cache2) e) ∙ goes-on ps (first-and goals inside k t (walk .parts) pos);
             few = after .ended x e;
             merged = merged-on;
           }
@@ -208,7 +208,7 @@ module _ (ev : Evaluator) (goals root height : ℕ) (inPick inside : Bool) (op :
             few = after .count x e;
             parts = left .0;
             shorter = omega arith;
-            value = sym (ap (stepOf ev goals height ps root work3 cache2) e) ∙ steps-on ps (left .1);
+            value = sym (ap (stepOf ev goals height ps root work3 cache2) e) ∙ goes-on ps (left .1);
             merged = merged-on;
           }
 

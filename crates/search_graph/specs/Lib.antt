@@ -1,3 +1,3 @@
+pub mod Between
 pub mod Calls
 pub mod Shapes
-pub mod Steps

@@ -4,8 +4,8 @@ use Prim.Native.Nat.{ℕ}
 use lib.Dec.{eqb}
 use Rattle.delegate.specs.declared.Op.{Op}
 use Rattle.delegate.specs.declared.Op.the-variants.{All, Any, Pick}
-use Rattle.search_graph.specs.declared.steps.Shape.{Shape}
-use Rattle.search_graph.specs.declared.steps.Shape.the-variants as shapes
+use Rattle.search_graph.specs.declared.between.Shape.{Shape}
+use Rattle.search_graph.specs.declared.between.Shape.the-variants as shapes
 
 abbrev pub shapeOf : ℕ → Shape
 shapeOf code =

@@ -1,5 +1,4 @@
 use mathlib.Core.Path.{refl}
-use Prim.Native.Nat.{_+_, _*_}
 use native.Mathlib.Omega.{arith}
 use Rattle.global_cache.proofs.Sizes.{slots-few, goal-in}
 use Rattle.global_cache.proofs.Slots.{insert-conflict, insert-kept, kept-differs}

@@ -1,4 +1,4 @@
-use mathlib.Core.List.{List, [], _∷_}
+use mathlib.Core.List.{[], _∷_}
 use borrow.Author.Needs.{needs}
 use Rattle.question.proofs.output_line.Statement.{statement}
 use Rattle.question.proofs.output_line.Tie as tie

@@ -1,6 +1,4 @@
 use Rattle.replay.proofs.Lent.{long}
-use lib.ListN.{length-replicate}
-use mathlib.Core.Path.{sym}
 use Rattle.replay.proofs.sevens.Statement.{statement}
 use Rattle.replay.proofs.sevens.Tie as tie
 

@@ -1,4 +1,4 @@
--- What the steps on the graph say of the workspace.
+-- What the functions between the calls say of the workspace.
 use mathlib.Core.Path.{_≡_}
 use mathlib.Core.Bool.{Bool}
 use mathlib.Core.List.{List, _∷_}

@@ -1,4 +1,4 @@
-// What stands between the calls of the cycle: the steps that need the graph alone, which is
+// What stands between the calls of the cycle: what needs the graph alone, which is
 // the first part of the workspace, and how a line is read.
 use definition::format::Header;
 use definition::paths::PathKind;
@@ -13,7 +13,7 @@ ghost use Prim.Native.Nat.{_≤_, _<_, pred};
 ghost use Rattle.evaluation.specs.Workspace.{WorkBytes};
 ghost use Rattle.evaluation.specs.Outcomes.{FewEntries};
 ghost use Rattle.search_graph.specs.Shapes.{shapeOf};
-ghost use Rattle.search_graph.specs.Steps.{Looking, LookedUp, Pushed, IterationEnded, Finishing, Finished};
+ghost use Rattle.search_graph.specs.Between.{Looking, LookedUp, Pushed, IterationEnded, Finishing, Finished};
 
 // What a part is.
 pub enum Shape {

@@ -1,33 +1,33 @@
 use Rattle.search_graph.proofs.Lending.{iteration-ended}
 use borrow.Author.Needs.{needs}
-use Rattle.search_graph.proofs.steps.end_iteration.Statement.{statement}
-use Rattle.search_graph.proofs.steps.end_iteration.Tie as tie
+use Rattle.search_graph.proofs.between.end_iteration.Statement.{statement}
+use Rattle.search_graph.proofs.between.end_iteration.Tie as tie
 
--- src/steps.rt:115:9
+-- src/between.rt:115:9
 graph-length-requires : tie.Need-graph-length-requires
 graph-length-requires c κs = search needs
 
--- src/steps.rt:116:28
+-- src/between.rt:116:28
 sub-end-iteration : tie.Need-sub-end-iteration
 sub-end-iteration c = search needs
 
--- src/steps.rt:116:28
+-- src/between.rt:116:28
 part-end-iteration-start : tie.Need-part-end-iteration-start
 part-end-iteration-start c = search needs
 
--- src/steps.rt:116:28
+-- src/between.rt:116:28
 part-end-iteration-end : tie.Need-part-end-iteration-end
 part-end-iteration-end c = search needs
 
--- src/steps.rt:116:5
+-- src/between.rt:116:5
 end-iteration-requires : tie.Need-end-iteration-requires
 end-iteration-requires c κs = search needs
 
--- src/steps.rt:104:1
+-- src/between.rt:104:1
 same-length : tie.Need-same-length
 same-length c = search needs
 
--- src/steps.rt:104:1
+-- src/between.rt:104:1
 returns : tie.Need-returns
 returns c =
     let s = c .before .before .before .before .before .before in let l = c .before .before .end-iteration in

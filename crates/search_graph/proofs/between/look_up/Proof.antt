@@ -1,33 +1,33 @@
 use Rattle.search_graph.proofs.Lending.{looked-up}
 use borrow.Author.Needs.{needs}
-use Rattle.search_graph.proofs.steps.look_up.Statement.{statement}
-use Rattle.search_graph.proofs.steps.look_up.Tie as tie
+use Rattle.search_graph.proofs.between.look_up.Statement.{statement}
+use Rattle.search_graph.proofs.between.look_up.Tie as tie
 
--- src/steps.rt:75:9
+-- src/between.rt:75:9
 graph-length-requires : tie.Need-graph-length-requires
 graph-length-requires c κs = search needs
 
--- src/steps.rt:78:9
+-- src/between.rt:78:9
 sub-lookup : tie.Need-sub-lookup
 sub-lookup c = search needs
 
--- src/steps.rt:78:9
+-- src/between.rt:78:9
 part-lookup-start : tie.Need-part-lookup-start
 part-lookup-start c = search needs
 
--- src/steps.rt:78:9
+-- src/between.rt:78:9
 part-lookup-end : tie.Need-part-lookup-end
 part-lookup-end c = search needs
 
--- src/steps.rt:76:5
+-- src/between.rt:76:5
 lookup-requires : tie.Need-lookup-requires
 lookup-requires c κs = search needs
 
--- src/steps.rt:61:1
+-- src/between.rt:61:1
 same-length : tie.Need-same-length
 same-length c = search needs
 
--- src/steps.rt:61:1
+-- src/between.rt:61:1
 returns : tie.Need-returns
 returns c =
     let s = c .before .before .before .before .before .before .before in let l = c .before .before .lookup in

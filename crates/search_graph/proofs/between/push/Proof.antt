@@ -1,33 +1,33 @@
 use Rattle.search_graph.proofs.Lending.{pushed}
 use borrow.Author.Needs.{needs}
-use Rattle.search_graph.proofs.steps.push.Statement.{statement}
-use Rattle.search_graph.proofs.steps.push.Tie as tie
+use Rattle.search_graph.proofs.between.push.Statement.{statement}
+use Rattle.search_graph.proofs.between.push.Tie as tie
 
--- src/steps.rt:100:9
+-- src/between.rt:100:9
 graph-length-requires : tie.Need-graph-length-requires
 graph-length-requires c κs = search needs
 
--- src/steps.rt:101:17
+-- src/between.rt:101:17
 sub-push : tie.Need-sub-push
 sub-push c = search needs
 
--- src/steps.rt:101:17
+-- src/between.rt:101:17
 part-push-start : tie.Need-part-push-start
 part-push-start c = search needs
 
--- src/steps.rt:101:17
+-- src/between.rt:101:17
 part-push-end : tie.Need-part-push-end
 part-push-end c = search needs
 
--- src/steps.rt:101:5
+-- src/between.rt:101:5
 push-requires : tie.Need-push-requires
 push-requires c κs = search needs
 
--- src/steps.rt:89:1
+-- src/between.rt:89:1
 same-length : tie.Need-same-length
 same-length c = search needs
 
--- src/steps.rt:89:1
+-- src/between.rt:89:1
 returns : tie.Need-returns
 returns c =
     let s = c .before .before .before .before .before .before in let l = c .before .before .push in
