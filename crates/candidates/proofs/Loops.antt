@@ -8,23 +8,25 @@ use lib.ListN.{length, getD, set, take, replicate}
 use Rattle.definition.specs.declared.usages.HeadUsages.{HeadUsages}
 use Rattle.definition.specs.Usages.{noUsages, usagesCover, mergeUsages}
 use Rattle.definition.specs.Heads.{CycleHeads, usagesAt, ignoreAtHeads}
-use Rattle.definition.specs.Stack.{Frame, Stack}
+use Rattle.definition.specs.Stack.{Frame, Stack, withHeads, withUsages}
 use Rattle.definition.specs.Parent.{orNoUsages}
-use Rattle.definition.specs.Candidates.{withUsages, candidateUsagesOf, headsCover, canIgnore, ignoreOnTop, ignoreOwnUsages}
+use Rattle.definition.specs.Candidates.{candidateUsagesOf, headsCover, canIgnore, ignoreOnTop, ignoreOwnUsages}
 use Rattle.bits.specs.Masks.{flags, firstPlace, placeOr}
 use Rattle.bits.proofs.Flags.{length-flags}
 use Rattle.bits.proofs.Marks.{keep-get, none-left, turn-set, turn-at, turn-still, turn-rest}
 use Rattle.bits.proofs.Marks as marks
-use Rattle.layout.specs.Work.{stackOf, entriesOf, mergedOf}
+use Rattle.layout.specs.Work.{stackOf, mergedOf}
 use Rattle.layout.specs.Frame.{frameOf}
 use Rattle.layout.specs.Blocks.{candidateOf}
 use Rattle.layout.proofs.Graphs.{length-stack}
 use Rattle.stack.specs.Bytes.{frameAt}
 use Rattle.stack.proofs.Loops.{stack-top}
 use Rattle.evaluation.specs.Workspace.{WorkBytes, graphIn}
-use Rattle.candidates.specs.Steps.{Names, trackedOf, addAt, ignoreHeadAt, ignoreHeads, ignoreOwn}
-use Rattle.candidates.specs.Written.{mergedBytes, topBytes, topOf, MergedWritten, FrameWritten}
-use Rattle.candidates.proofs.Kept.{keep-is, below-only, below-same, merge-none, merge-one, ignore-none, ignore-one, cover-same, cover-one, cover-none, cover-fails}
+use Rattle.layout.specs.AtIndex.{Names, addAt}
+use Rattle.stack.specs.Tracked.{trackedOf, ignoreHeadAt, ignoreHeads, ignoreOwn}
+use Rattle.candidates.specs.Written.{mergedBytes, topBytes, topOf, MergedWritten, WorkWritten, FrameWritten}
+use Rattle.layout.proofs.Kept.{keep-is, below-only, below-same}
+use Rattle.candidates.proofs.Merging.{merge-none, merge-one, ignore-none, ignore-one, cover-same, cover-one, cover-none, cover-fails}
 use Rattle.candidates.proofs.Parts.{merged-is, frame-now, frame-again, frame-same, frame-kept}
 
 -- ---- the mask that is left
@@ -178,9 +180,6 @@ pub record Ignoring (goals own : ℕ) (old new : List ℕ) (left : ℕ) : Type 0
   pub written : FrameWritten goals own (topOf goals own new) old new
   pub rest : ignoreHeads (keep (flags 64 left) (mergedOf goals own old)) (topOf goals own new) ≡ ignoreHeads (mergedOf goals own old) (topOf goals own old)
 
-abbrev withThose : Frame → CycleHeads → Frame
-withThose f hs = withUsages f hs (f .usages) (f .candidateUsages)
-
 module _ (goals own : ℕ) (lt : own < goals) (old : List ℕ) (bytes : WorkBytes goals old) where
   pub ignore-start : (b : List ℕ) (left : ℕ) → b ≡ mergedBytes goals own old → left < 2 ^ 64 → Names goals left (candidateOf goals b) → Ignoring goals own old old left
   ignore-start b left is-b small names =
@@ -213,7 +212,7 @@ module _ (goals own : ℕ) (lt : own < goals) (old : List ℕ) (bytes : WorkByte
           written = frame-same goals own g old new (frame-again goals own f old now (inv .written) g new w) (topOf goals own new) (sym top-new);
           rest =
               ap₂ ignoreHeads (turn-rest left i pos (inv .small) is left′ is-left noUsages us) top-new
-              ∙ ap (withThose f) (ignore-one (f .heads) (keep (flags 64 left) us) i u at)
+              ∙ ap (withHeads f) (ignore-one (f .heads) (keep (flags 64 left) us) i u at)
               ∙ inv .rest;
         }
 
@@ -221,24 +220,26 @@ module _ (goals own : ℕ) (lt : own < goals) (old : List ℕ) (bytes : WorkByte
     ignore-done h =
         let us : List HeadUsages = mergedOf goals own old in
         let f : Frame = topOf goals own now in
-        let is : f ≡ ignoreHeads us (topOf goals own old) = ap (withThose f) (sym (ignore-none (f .heads) (keep (flags 64 left) us) (none-left noUsages left h us))) ∙ inv .rest in
+        let is : f ≡ ignoreHeads us (topOf goals own old) = ap (withHeads f) (sym (ignore-none (f .heads) (keep (flags 64 left) us) (none-left noUsages left h us))) ∙ inv .rest in
         frame-same goals own f old now (inv .written) (ignoreHeads us (topOf goals own old)) is
 
 -- ---- `ignore`
 pub ignored : (goals own : ℕ) (old mid new b : List ℕ) (u : HeadUsages) → own < goals → WorkBytes goals mid
     → FrameWritten goals own (ignoreHeads (mergedOf goals own old) (topOf goals own old)) old mid
     → b ≡ mergedBytes goals own mid → u ≡ getD (candidateOf goals b) own noUsages → FrameWritten goals own (ignoreOwn u (topOf goals own mid)) mid new
-    → (stackOf goals (own + 1) (graphIn goals new) ≡ ignoreOnTop (mergedOf goals own old) (stackOf goals (own + 1) (graphIn goals old)))
-    × (((n : ℕ) → entriesOf goals n (graphIn goals new) ≡ entriesOf goals n (graphIn goals old)) × ((i : ℕ) → i < goals → mergedOf goals i new ≡ mergedOf goals i old))
+    → WorkWritten goals (own + 1) (ignoreOnTop (mergedOf goals own old) (stackOf goals (own + 1) (graphIn goals old))) old new
 ignored goals own old mid new b u lt ok w is-b is-u v =
     let us : List HeadUsages = mergedOf goals own old in
     let f : Frame = topOf goals own old in
     let fs : Stack = stackOf goals own (graphIn goals old) in
     let at : u ≡ getD us own noUsages = is-u ∙ ap (λ (l : List HeadUsages). getD l own noUsages) (merged-is goals mid ok own lt b is-b ∙ w .merged own lt) in
-    let a = frame-again goals own (ignoreHeads us f) old mid w (ignoreOwn u (topOf goals own mid)) new v in (
-      a .stack
+    let a = frame-again goals own (ignoreHeads us f) old mid w (ignoreOwn u (topOf goals own mid)) new v in
+    record {
+      stack =
+          a .stack
           ∙ ap₂ (λ (g : Frame) (x : HeadUsages). ignoreOwn x g ∷ fs) (frame-now goals own (ignoreHeads us f) old mid w) at
-          ∙ ap (λ (n : ℕ). withUsages f (ignoreAtHeads (f .heads) us) (ignoreOwnUsages (f .usages) (getD us n noUsages)) (f .candidateUsages) ∷ fs) (sym (length-stack goals own (graphIn goals old)))
-          ∙ sym (ap (ignoreOnTop us) (stack-top goals own (graphIn goals old))),
-      (a .entries, a .merged),
-    )
+          ∙ ap (λ (n : ℕ). withUsages (withHeads f (ignoreAtHeads (f .heads) us)) (ignoreOwnUsages (f .usages) (getD us n noUsages)) ∷ fs) (sym (length-stack goals own (graphIn goals old)))
+          ∙ sym (ap (ignoreOnTop us) (stack-top goals own (graphIn goals old)));
+      entries = a .entries;
+      merged = a .merged;
+    }

@@ -8,7 +8,7 @@ use native.Mathlib.Numerals.{add-one}
 use native.Mathlib.Omega.{arith}
 use lib.ListN.{length}
 use Rattle.definition.specs.declared.usages.HeadUsages.{HeadUsages}
-use Rattle.definition.specs.Stack.{Frame, Stack}
+use Rattle.definition.specs.Stack.{Frame, Stack, withCandidateUsages}
 use Rattle.definition.specs.Candidates.{setCandidateUsages}
 use Rattle.buffer.specs.Regions.{region, overwrite}
 use Rattle.buffer.proofs.Regions.{length-region, region-region, region-inside}
@@ -18,13 +18,13 @@ use Rattle.layout.specs.Frame.{frameSize, frameOf}
 use Rattle.layout.specs.Entry.{entrySize}
 use Rattle.layout.specs.Work.{frameStart, entriesStart, graphLength, mergedStart, stackOf, entriesOf, mergedOf}
 use Rattle.layout.proofs.Graphs.{at-least, merged-room, stack-push, entries-push, merged-whole, merged-other, merged-graph, graph-merged}
-use Rattle.stack.specs.Bytes.{FrameBytes, GraphBytes, frameAt}
+use Rattle.stack.specs.Bytes.{FrameBytes, GraphBytes}
+use Rattle.stack.specs.Written.{StackWritten}
 use Rattle.stack.proofs.Parts.{part, returned, part-length, part-back}
 use Rattle.stack.proofs.Loops.{stack-top, top-is, under-is}
-use Rattle.stack.proofs.Graph.{part-is, stack-written, entries-written}
+use Rattle.stack.proofs.Graph.{top-written}
 use Rattle.evaluation.specs.Workspace.{WorkBytes, graphIn}
 use Rattle.evaluation.proofs.Lent.{graph-room, graph-long}
-use Rattle.candidates.specs.Steps.{withTracked}
 use Rattle.candidates.specs.Written.{mergedBytes, topBytes, topOf, MergedWritten, FrameWritten}
 
 -- ---- orders, over what the sizes are
@@ -37,12 +37,11 @@ only a n = omega arith
 -- ---- a graph's top frame
 -- what it tracks is written
 pub tracked-written : (goals : ℕ) (bs : List ℕ) (own a n : ℕ) (c : Option (List HeadUsages)) (g : GraphBytes goals bs) → own < goals → a ≡ frameStart goals own → n ≡ frameSize goals
-    → (ys : List ℕ) → length ys ≡ length (part bs a (a + n)) → frameOf goals ys ≡ withTracked c (frameOf goals (part bs a (a + n)))
-    → (stackOf goals (own + 1) (returned bs a (a + n) ys) ≡ setCandidateUsages c (stackOf goals (own + 1) bs)) × ((k : ℕ) → entriesOf goals k (returned bs a (a + n) ys) ≡ entriesOf goals k bs)
+    → (ys : List ℕ) → length ys ≡ length (part bs a (a + n)) → frameOf goals ys ≡ withCandidateUsages (frameOf goals (part bs a (a + n))) c
+    → StackWritten goals (own + 1) (setCandidateUsages c (stackOf goals (own + 1) bs)) bs (returned bs a (a + n) ys)
 tracked-written goals bs own a n c g lt is-a is-n ys kept e =
-    let f : Frame = withTracked c (frameAt goals own bs) in
-    let is : frameOf goals ys ≡ f = e ∙ ap (λ (l : List ℕ). withTracked c (frameOf goals l)) (part-is goals bs own a n g lt is-a is-n) in
-    (stack-written goals bs own a n g lt is-a is-n ys kept f is ∙ sym (ap (setCandidateUsages c) (stack-top goals own bs)), entries-written goals bs own a n g lt is-a is-n ys kept)
+    let w = top-written goals bs own a n g lt is-a is-n ys kept (λ (f : Frame). withCandidateUsages f c) e in
+    record { stack = w .stack ∙ sym (ap (setCandidateUsages c) (stack-top goals own bs)); entries = w .entries }
 
 -- ---- the workspace
 module _ (goals : ℕ) (work : List ℕ) (w : WorkBytes goals work) (own : ℕ) (lt : own < goals) where

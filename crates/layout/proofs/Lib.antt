@@ -1,6 +1,10 @@
 pub mod Blocks
 pub mod Frames
+pub mod Kept
+pub mod AtIndex
 pub mod Graphs
 pub mod Marks
+pub mod NestedExtended
+pub mod NestedPaths
 pub mod Present
 pub mod Written

@@ -1,5 +1,3 @@
-pub mod Nested
-pub mod Frames
 pub mod Heads
 pub mod Top
 pub mod Update

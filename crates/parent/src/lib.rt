@@ -5,23 +5,22 @@ use definition::paths::PathsToNested;
 use definition::usages::HeadUsages;
 use layout::heads;
 use layout::offsets;
-ghost use mathlib.Core.Path.{_≡_};
+use stack::frame::child;
 ghost use mathlib.Core.Bool.{false};
-ghost use Prim.Native.Nat.{ℕ, _+_, _*_, _<_, _≤_};
+ghost use Prim.Native.Nat.{_+_, _*_, _<_, _≤_};
 ghost use lib.ListN.{length};
 ghost use Rattle.definition.specs.Paths.{flagOf};
 ghost use Rattle.definition.specs.Heads.{noHeads, insertHead};
-ghost use Rattle.definition.specs.Parent.{addHeads, addRest, updateParentGoal, Ordinary, CycleOnStack, ProvisionalCacheHit};
+ghost use Rattle.definition.specs.Parent.{addHeads, addRest, Ordinary, CycleOnStack, ProvisionalCacheHit};
 ghost use Rattle.buffer.specs.Regions.{region};
 ghost use Rattle.layout.specs.Blocks.{headsSize, headsOf};
 ghost use Rattle.layout.specs.Frame.{frameSize};
 ghost use Rattle.layout.specs.Entry.{entrySize, entryOf};
-ghost use Rattle.layout.specs.Work.{frameStart, entryStart, stackOf, entriesOf};
-ghost use Rattle.stack.specs.Bytes.{GraphBytes, frameBytes, frameAt};
-ghost use Rattle.parent.specs.Head.{addHeadAt};
-ghost use Rattle.parent.specs.Top.{TopWritten};
-
-pub mod frame;
+ghost use Rattle.layout.specs.Work.{frameStart, entryStart};
+ghost use Rattle.stack.specs.Bytes.{GraphBytes, frameAt};
+ghost use Rattle.stack.specs.Child.{addHeadAt};
+ghost use Rattle.stack.specs.Written.{TopWritten};
+ghost use Rattle.parent.specs.Updated.{Updated};
 
 // ---- the frame at index `own`, on top
 
@@ -30,9 +29,9 @@ fn add_head(graph: &mut [u8], goals: usize, own: usize, step: PathKind, i: usize
     requires { ⌜ GraphBytes goals (now graph) × ((own < goals) × (i < goals)) ⌝ }
     ensures { λ _. ⌜ TopWritten goals own (addHeadAt step own i head (frameAt goals own (now (graph .entry)))) (now (graph .entry)) (now (graph .exit)) ⌝ }
 {
-    let a = offsets::frame_start(goals, own);
-    let e = a + offsets::frame_size(goals);
-    frame::add_head(&mut graph[a..e], goals, own, step, i, head);
+    let start = offsets::frame_start(goals, own);
+    let end = start + offsets::frame_size(goals);
+    child::add_head(&mut graph[start..end], goals, own, step, i, head);
 }
 
 // The heads of the nested goal, in the block at `start` of the graph, behind the frame.
@@ -63,9 +62,16 @@ fn add_ordinary(
     requires { ⌜ GraphBytes goals (now graph) × (own < goals) ⌝ }
     ensures { λ _. ⌜ TopWritten goals own (addRest step overflow (Ordinary (now (nested .entry))) reached (frameAt goals own (now (graph .entry)))) (now (graph .entry)) (now (graph .exit)) ⌝ }
 {
-    let a = offsets::frame_start(goals, own);
-    let e = a + offsets::frame_size(goals);
-    frame::add_ordinary(&mut graph[a..e], goals, step, overflow, nested, reached);
+    let start = offsets::frame_start(goals, own);
+    let end = start + offsets::frame_size(goals);
+    child::add_ordinary(
+        &mut graph[start..end],
+        goals,
+        step,
+        overflow,
+        nested,
+        reached,
+    );
 }
 
 // The rest, after an entry.
@@ -80,9 +86,9 @@ fn add_entry(
     requires { ⌜ GraphBytes goals (now graph) × (own < goals) ⌝ }
     ensures { λ _. ⌜ TopWritten goals own (addRest step overflow ProvisionalCacheHit reached (frameAt goals own (now (graph .entry)))) (now (graph .entry)) (now (graph .exit)) ⌝ }
 {
-    let a = offsets::frame_start(goals, own);
-    let e = a + offsets::frame_size(goals);
-    frame::add_entry(&mut graph[a..e], goals, step, overflow, reached);
+    let start = offsets::frame_start(goals, own);
+    let end = start + offsets::frame_size(goals);
+    child::add_entry(&mut graph[start..end], goals, step, overflow, reached);
 }
 
 // The rest, after a goal on the stack.
@@ -97,9 +103,9 @@ fn add_cycle(
     requires { ⌜ GraphBytes goals (now graph) × (own < goals) ⌝ }
     ensures { λ _. ⌜ TopWritten goals own (addRest step false (CycleOnStack goal) reached (frameAt goals own (now (graph .entry)))) (now (graph .entry)) (now (graph .exit)) ⌝ }
 {
-    let a = offsets::frame_start(goals, own);
-    let e = a + offsets::frame_size(goals);
-    frame::add_cycle(&mut graph[a..e], goals, step, goal, reached);
+    let start = offsets::frame_start(goals, own);
+    let end = start + offsets::frame_size(goals);
+    child::add_cycle(&mut graph[start..end], goals, step, goal, reached);
 }
 
 // ---- the parent
@@ -115,7 +121,7 @@ pub fn update_from_slot(
     reached: usize,
 )
     requires { ⌜ GraphBytes goals (now graph) × (height ≤ goals) ⌝ }
-    ensures { λ _. ⌜ (stackOf goals height (now (graph .exit)) ≡ updateParentGoal (stackOf goals height (now (graph .entry))) step (noHeads goals) overflow (Ordinary (now (nested .entry))) reached) × ((n : ℕ) → entriesOf goals n (now (graph .exit)) ≡ entriesOf goals n (now (graph .entry))) ⌝ }
+    ensures { λ _. ⌜ Updated goals height step (noHeads goals) overflow (Ordinary (now (nested .entry))) reached (now (graph .entry)) (now (graph .exit)) ⌝ }
 {
     if height == 0 {
         return;
@@ -134,12 +140,12 @@ pub fn update_from_entry(
     reached: usize,
 )
     requires { ⌜ GraphBytes goals (now graph) × ((height ≤ goals) × (i < 2 * goals)) ⌝ }
-    ensures { λ _. ⌜ (stackOf goals height (now (graph .exit)) ≡ updateParentGoal (stackOf goals height (now (graph .entry))) step ((entryOf goals (region (entryStart goals i) (entrySize goals) (now (graph .entry)))) .heads) overflow ProvisionalCacheHit reached) × ((n : ℕ) → entriesOf goals n (now (graph .exit)) ≡ entriesOf goals n (now (graph .entry))) ⌝ }
+    ensures { λ _. ⌜ Updated goals height step ((entryOf goals (region (entryStart goals i) (entrySize goals) (now (graph .entry)))) .heads) overflow ProvisionalCacheHit reached (now (graph .entry)) (now (graph .exit)) ⌝ }
 {
     if height == 0 {
         return;
     }
-    let start = offsets::entry_start(goals, i) + 8;
+    let start = offsets::entry_start(goals, i) + offsets::ENTRY_HEADS;
     add_heads(graph, goals, height - 1, step, start);
     add_entry(graph, goals, height - 1, step, overflow, reached);
 }
@@ -156,7 +162,7 @@ pub fn update_from_cycle(
     reached: usize,
 )
     requires { ⌜ GraphBytes goals (now graph) × ((height ≤ goals) × (head < height)) ⌝ }
-    ensures { λ _. ⌜ (stackOf goals height (now (graph .exit)) ≡ updateParentGoal (stackOf goals height (now (graph .entry))) step (insertHead (noHeads goals) head (flagOf step) usages) false (CycleOnStack goal) reached) × ((n : ℕ) → entriesOf goals n (now (graph .exit)) ≡ entriesOf goals n (now (graph .entry))) ⌝ }
+    ensures { λ _. ⌜ Updated goals height step (insertHead (noHeads goals) head (flagOf step) usages) false (CycleOnStack goal) reached (now (graph .entry)) (now (graph .exit)) ⌝ }
 {
     if height == 0 {
         return;
@@ -181,12 +187,12 @@ pub fn update_from_frame(
     reached: usize,
 )
     requires { ⌜ GraphBytes goals (now graph) × (height < goals) ⌝ }
-    ensures { λ _. ⌜ (stackOf goals height (now (graph .exit)) ≡ updateParentGoal (stackOf goals height (now (graph .entry))) step ((frameAt goals height (now (graph .entry))) .heads) overflow (Ordinary (now (child .entry))) reached) × (((n : ℕ) → entriesOf goals n (now (graph .exit)) ≡ entriesOf goals n (now (graph .entry))) × (frameBytes goals height (now (graph .exit)) ≡ frameBytes goals height (now (graph .entry)))) ⌝ }
+    ensures { λ _. ⌜ Updated goals height step ((frameAt goals height (now (graph .entry))) .heads) overflow (Ordinary (now (child .entry))) reached (now (graph .entry)) (now (graph .exit)) ⌝ }
 {
     if height == 0 {
         return;
     }
-    let start = offsets::frame_start(goals, height) + 40;
+    let start = offsets::frame_start(goals, height) + offsets::FRAME_HEADS;
     add_heads(graph, goals, height - 1, step, start);
     add_ordinary(graph, goals, height - 1, step, overflow, child, reached);
 }

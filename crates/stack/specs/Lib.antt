@@ -1,3 +1,6 @@
 pub mod Bytes
+pub mod Child
 pub mod Records
 pub mod Results
+pub mod Tracked
+pub mod Written

@@ -22,7 +22,7 @@ same-length : tie.Need-same-length
 same-length c = search needs
 
 returns : tie.Need-returns
-returns c = let a = c .before .before .before .before .before .before .before .before .before .before .args in let y = c .before .before .before .update-from-cycle in cycle-closed (a .h) (a .height) (a .graph .now) (y .last .0) (a .step) (a .available) (y .ensures .1) (a .goal) (a .head) (a .provisional) (c .before .before .before .before .before .before .before .cycle-path-kind .result) (c .before .before .before .before .before .before .none .result) (c .before .before .before .before .before .add-usage .result) (c .cycle-result .result) (c .before .before .before .before .before .before .before .cycle-path-kind .ensures) (c .before .before .before .before .before .before .none .ensures) (c .before .before .before .before .before .add-usage .ensures) (c .cycle-result .ensures) (y .ensures .0)
+returns c = let a = c .before .before .before .before .before .before .before .before .before .before .args in let y = c .before .before .before .update-from-cycle in cycle-closed (a .h) (a .height) (a .graph .now) (y .last .0) (a .step) (a .available) (y .ensures .entries) (a .goal) (a .head) (a .provisional) (c .before .before .before .before .before .before .before .cycle-path-kind .result) (c .before .before .before .before .before .before .none .result) (c .before .before .before .before .before .add-usage .result) (c .cycle-result .result) (c .before .before .before .before .before .before .before .cycle-path-kind .ensures) (c .before .before .before .before .before .before .none .ensures) (c .before .before .before .before .before .add-usage .ensures) (c .cycle-result .ensures) (y .ensures .stack)
 
 pub close-cycle-spec : {M : Type 1} → statement M
 close-cycle-spec =

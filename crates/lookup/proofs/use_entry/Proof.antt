@@ -20,7 +20,7 @@ same-length : tie.Need-same-length
 same-length c = search needs
 
 returns : tie.Need-returns
-returns c = let a = c .before .before .before .before .before .before .before .before .before .args in let y = c .before .before .update-from-entry in entry-used (a .goals) (a .height) (a .graph .now) (y .last .0) (a .step) (a .available) (y .ensures .1) (a .i) (c .before .before .before .before .before .before .entry-at .result .now) (c .before .before .before .before .before .before .entry-at .ensures) (c .before .before .before .before .before .encountered-overflow .result) (c .before .before .before .before .before .encountered-overflow .ensures) (c .before .before .before .before .result .result) (c .before .before .before .before .result .ensures) (y .ensures .0)
+returns c = let a = c .before .before .before .before .before .before .before .before .before .args in let y = c .before .before .update-from-entry in entry-used (a .goals) (a .height) (a .graph .now) (y .last .0) (a .step) (a .available) (y .ensures .entries) (a .i) (c .before .before .before .before .before .before .entry-at .result .now) (c .before .before .before .before .before .before .entry-at .ensures) (c .before .before .before .before .before .encountered-overflow .result) (c .before .before .before .before .before .encountered-overflow .ensures) (c .before .before .before .before .result .result) (c .before .before .before .before .result .ensures) (y .ensures .stack)
 
 pub use-entry-spec : {M : Type 1} → statement M
 use-entry-spec =

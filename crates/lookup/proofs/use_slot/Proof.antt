@@ -22,7 +22,7 @@ same-length : tie.Need-same-length
 same-length c = search needs
 
 returns : tie.Need-returns
-returns c = let a = c .before .before .before .before .before .before .before .before .before .before .args in let y = c .before .before .before .update-from-slot in slot-used (a .h) (a .height) (a .graph .now) (y .last .0) (a .step) (a .available) (y .ensures .1) (a .s .now) (c .before .before .before .before .before .nested-of .result .now) (a .overflow) (c .before .before .before .before .before .before .before .depth-of .result) (c .before .before .before .before .before .before .minus .result) (c .result-of .result) (c .before .before .before .before .before .before .before .depth-of .ensures) (c .before .before .before .before .before .before .minus .ensures) (c .before .before .before .before .before .nested-of .ensures) (c .result-of .ensures) (y .ensures .0)
+returns c = let a = c .before .before .before .before .before .before .before .before .before .before .args in let y = c .before .before .before .update-from-slot in slot-used (a .h) (a .height) (a .graph .now) (y .last .0) (a .step) (a .available) (y .ensures .entries) (a .s .now) (c .before .before .before .before .before .nested-of .result .now) (a .overflow) (c .before .before .before .before .before .before .before .depth-of .result) (c .before .before .before .before .before .before .minus .result) (c .result-of .result) (c .before .before .before .before .before .before .before .depth-of .ensures) (c .before .before .before .before .before .before .minus .ensures) (c .before .before .before .before .before .nested-of .ensures) (c .result-of .ensures) (y .ensures .stack)
 
 pub use-slot-spec : {M : Type 1} → statement M
 use-slot-spec =

@@ -1,6 +1,5 @@
 use Rattle.definition.specs.Stack.{Frame}
-use Rattle.stack.proofs.Graph.{part-room}
-use Rattle.parent.proofs.Top.{top-written}
+use Rattle.stack.proofs.Graph.{part-room, top-written}
 use Rattle.definition.specs.Parent.{addRest, CycleOnStack}
 use mathlib.Core.Bool.{false}
 use borrow.Author.Needs.{needs}
@@ -13,8 +12,8 @@ frame-start-requires c κs = search needs
 frame-size-requires : tie.Need-frame-size-requires
 frame-size-requires c κs = search needs
 
-add-e : tie.Need-add-e
-add-e c = search needs
+add-end : tie.Need-add-end
+add-end c = search needs
 
 sub-add-cycle : tie.Need-sub-add-cycle
 sub-add-cycle c = search needs
@@ -40,7 +39,7 @@ add-cycle-spec =
     (tie.spec
     frame-start-requires
     frame-size-requires
-    add-e
+    add-end
     sub-add-cycle
     part-add-cycle-start
     part-add-cycle-end

@@ -1,7 +1,6 @@
 use Rattle.definition.specs.Stack.{Frame}
-use Rattle.stack.proofs.Graph.{part-room}
-use Rattle.parent.proofs.Top.{top-written}
-use Rattle.parent.specs.Head.{addHeadAt}
+use Rattle.stack.proofs.Graph.{part-room, top-written}
+use Rattle.stack.specs.Child.{addHeadAt}
 use borrow.Author.Needs.{needs}
 use Rattle.parent.proofs.add_head.Statement.{statement}
 use Rattle.parent.proofs.add_head.Tie as tie
@@ -12,8 +11,8 @@ frame-start-requires c κs = search needs
 frame-size-requires : tie.Need-frame-size-requires
 frame-size-requires c κs = search needs
 
-add-e : tie.Need-add-e
-add-e c = search needs
+add-end : tie.Need-add-end
+add-end c = search needs
 
 sub-add-head : tie.Need-sub-add-head
 sub-add-head c = search needs
@@ -39,7 +38,7 @@ add-head-spec =
     (tie.spec
     frame-start-requires
     frame-size-requires
-    add-e
+    add-end
     sub-add-head
     part-add-head-start
     part-add-head-end

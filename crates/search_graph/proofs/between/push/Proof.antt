@@ -31,7 +31,7 @@ same-length c = search needs
 returns : tie.Need-returns
 returns c =
     let s = c .before .before .before .before .before .before in let l = c .before .before .push in
-    pushed (s .args .goals) (s .args .work .now) (c .before .before .before .before .graph-length .result) (s .pre .0) (c .before .before .before .before .graph-length .ensures .0) (l .last .0) (l .kept .0) (s .args .height) (s .args .goal) (s .args .step) (s .args .available) (l .ensures .0) (l .ensures .1)
+    pushed (s .args .goals) (s .args .work .now) (c .before .before .before .before .graph-length .result) (s .pre .0) (c .before .before .before .before .graph-length .ensures .0) (l .last .0) (l .kept .0) (s .args .height) (s .args .goal) (s .args .step) (s .args .available) (l .ensures .stack) (l .ensures .entries)
 
 pub push-spec : {M : Type 1} → statement M
 push-spec =
