@@ -2,6 +2,7 @@
 // from 8 on the heads.
 use buffer::scalars;
 use definition::answers::Answer;
+use definition::heads::CycleHead;
 use definition::paths::PathKind;
 use layout::offsets;
 ghost use mathlib.Core.Path.{_≡_};
@@ -12,7 +13,8 @@ ghost use Rattle.definition.specs.ProvisionalCache.{survivesRerun};
 ghost use Rattle.layout.specs.Blocks.{headsSize};
 ghost use Rattle.layout.specs.Frame.{truth};
 ghost use Rattle.layout.specs.Entry.{entryHeadsStart, entryOf};
-ghost use Rattle.provisional_cache.specs.Entries.{EntryBytes, withPath, withFields};
+ghost use Rattle.provisional_cache.specs.Entries.{EntryBytes, withFields, withPath};
+ghost use Rattle.provisional_cache.specs.Entries.{withoutHead, withJoinedHead, withLongerPath};
 
 fn flag(b: bool) -> u8
     ensures { λ r. ⌜ truth r ≡ b ⌝ }
@@ -58,8 +60,8 @@ pub fn heads(entry: &[u8], goals: usize) -> &[u8]
     requires { ⌜ EntryBytes goals (now entry) ⌝ }
     ensures { λ r. ⌜ now r ≡ region entryHeadsStart (headsSize goals) (now (entry .entry)) ⌝ }
 {
-    let e = 8 + offsets::heads_size(goals);
-    &entry[8..e]
+    let end = 8 + offsets::heads_size(goals);
+    &entry[8..end]
 }
 
 pub fn highest_head(entry: &[u8], goals: usize) -> usize
@@ -93,7 +95,8 @@ pub fn start(
     answer: Answer,
 )
     requires { ⌜ EntryBytes goals (now entry) × (goal < 256) ⌝ }
-    ensures { λ _. ⌜ entryOf goals (now (entry .exit)) ≡ withFields (entryOf goals (now (entry .entry))) goal overflow path answer ⌝ }
+    ensures { λ _. ⌜ entryOf goals (now (entry .exit))
+        ≡ withFields (entryOf goals (now (entry .entry))) goal overflow path answer ⌝ }
 {
     entry[0] = scalars::low(goal);
     entry[1] = flag(overflow);
@@ -107,4 +110,33 @@ pub fn set_path(entry: &mut [u8], goals: usize, kind: PathKind)
     ensures { λ _. ⌜ entryOf goals (now (entry .exit)) ≡ withPath (entryOf goals (now (entry .entry))) kind ⌝ }
 {
     entry[2] = kind.number();
+}
+
+// The path from the highest head goes on by a path of a kind.
+pub fn extend_path(entry: &mut [u8], goals: usize, kind: PathKind)
+    requires { ⌜ EntryBytes goals (now entry) ⌝ }
+    ensures { λ _. ⌜ entryOf goals (now (entry .exit)) ≡ withLongerPath (entryOf goals (now (entry .entry))) kind ⌝ }
+{
+    let before = path_from_head(entry, goals);
+    set_path(entry, goals, before.extend(kind));
+}
+
+// The head at index i is taken out.
+pub fn remove_head(entry: &mut [u8], goals: usize, i: usize)
+    requires { ⌜ EntryBytes goals (now entry) × (i < goals) ⌝ }
+    ensures { λ _. ⌜ entryOf goals (now (entry .exit)) ≡ withoutHead (entryOf goals (now (entry .entry))) i ⌝ }
+{
+    let end = 8 + offsets::heads_size(goals);
+    layout::heads::remove(&mut entry[8..end], goals, i);
+}
+
+// The head at index i is joined with `head`.
+pub fn join_head(entry: &mut [u8], goals: usize, i: usize, head: CycleHead)
+    requires { ⌜ EntryBytes goals (now entry) × (i < goals) ⌝ }
+    ensures { λ _. ⌜ entryOf goals (now (entry .exit)) ≡ withJoinedHead (entryOf goals (now (entry .entry))) i head ⌝ }
+{
+    let paths = head.paths;
+    let usages = head.usages;
+    let end = 8 + offsets::heads_size(goals);
+    layout::heads::insert(&mut entry[8..end], goals, i, paths, usages);
 }

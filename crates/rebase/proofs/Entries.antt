@@ -26,10 +26,6 @@ use Rattle.provisional_cache.specs.Entries.{entryAt, withPath}
 use Rattle.rebase.specs.Rebased.{gainedHead, gainHead, withHeads, underHeads, keptEntry, OthersKept}
 use Rattle.rebase.proofs.Writes.{frame-after}
 
--- ---- `entry::extend_path`
-pub path-extended : (e n : Entry) (before after kind : PathKind) → n ≡ withPath e after → after ≡ extend before kind → before ≡ e .pathFromHead → n ≡ withPath e (extend (e .pathFromHead) kind)
-path-extended e n before after kind is is-after is-before = is ∙ ap (withPath e) (is-after ∙ ap (λ (x : PathKind). extend x kind) is-before)
-
 -- ---- `gained`
 module _ (used : Bool) (ep : ℕ) (head : CycleHead) (paths : ℕ) where
   pub gained-through : used ≡ true → paths ≡ extendWithPaths ep (head .paths) → record { paths = paths; usages = head .usages } ≡ gainedHead used ep head

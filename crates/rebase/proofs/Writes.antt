@@ -23,19 +23,6 @@ use Rattle.provisional_cache.proofs.Loops.{frames-same, frames-then}
 use Rattle.provisional_cache.proofs.Writes.{frame-kept, frames-whole}
 use Rattle.rebase.specs.Rebased.{withHeads, OthersKept}
 
--- ---- the heads of one entry's bytes are written, in the n bytes from 8 on
-pub heads-written : (goals : ℕ) (bs : List ℕ) (n : ℕ) (ys : List ℕ) (f : CycleHeads → CycleHeads) → EntryBytes goals bs → n ≡ headsSize goals → length ys ≡ length (part bs 8 (8 + n))
-    → headsOf goals ys ≡ f (headsOf goals (part bs 8 (8 + n))) → entryOf goals (returned bs 8 (8 + n) ys) ≡ withHeads (entryOf goals bs) (f ((entryOf goals bs) .heads))
-unfolding entryOf
-heads-written goals bs n ys f b is-n kept e =
-    let long = b .long in
-    let fits : 8 + n ≤ length bs = omega arith in
-    let w : 8 + n - 8 ≡ n = omega arith in
-    let whole : length ys ≡ headsSize goals = part-length bs 8 (8 + n) ys (omega arith) fits kept ∙ w ∙ is-n in
-    ap (entryOf goals) (part-back bs 8 (8 + n) ys (omega arith) fits kept)
-    ∙ entry-heads goals bs long ys whole
-    ∙ ap (withHeads (entryOf goals bs)) (e ∙ ap (λ (l : List ℕ). f (headsOf goals l)) (heads-part bs 8 n (headsSize goals) is-n))
-
 -- ---- all but entry k
 pub others-same : (goals k : ℕ) (bs : List ℕ) → OthersKept goals k bs bs
 others-same goals k bs = record { frames = frames-same goals bs; before = λ n h. refl; behind = λ n. refl }

@@ -1,12 +1,12 @@
 use native.Mathlib.Omega.{arith}
 use Prim.Native.Nat.{_-_, _<_, _*_}
 use Rattle.provisional_cache.proofs.Entries.{entry-bytes}
-use Rattle.provisional_cache.proofs.Loops.{Cleared, graph-bytes, clear-start, clear-next, clear-done}
+use Rattle.provisional_cache.proofs.Loops.{Clearing, graph-bytes, clear-start, clear-next, clear-done}
 use Rattle.provisional_cache.proofs.clear_for_rerun.Statement.{statement}
 use Rattle.provisional_cache.proofs.clear_for_rerun.Tie as tie
 
 abbrev Inv-loop : tie.InvT-loop
-Inv-loop graph₀ goals rerun entries kept₀ i₀ graph kept i = Cleared goals rerun entries graph₀ graph kept i
+Inv-loop graph₀ goals rerun entries kept₀ i₀ graph kept i = Clearing goals rerun entries graph₀ graph kept i
 
 abbrev μ-loop : tie.MeasureT-loop
 μ-loop graph₀ goals rerun entries kept₀ i₀ graph kept i = entries - i
@@ -36,7 +36,7 @@ same-length : tie.Need-same-length Inv-loop μ-loop
 same-length c = c .before .loop .inv .same-length
 
 returns : tie.Need-returns Inv-loop μ-loop
-returns c = let s = c .before .before .before in let l = c .before .loop in let k0 = l .inv .kept-few in let k1 = l .inv .few in (omega arith, (clear-done (s .args .goals) (s .args .rerun) (s .args .entries) (s .args .graph .now) (l .graph) (l .kept) (l .i) (l .inv) (c .loop-test .left), l .inv .frames))
+returns c = let s = c .before .before .before in let l = c .before .loop in let k0 = l .inv .kept-few in let k1 = l .inv .few in record { few = omega arith; entries = clear-done (s .args .goals) (s .args .rerun) (s .args .entries) (s .args .graph .now) (l .graph) (l .kept) (l .i) (l .inv) (c .loop-test .left); frames = l .inv .frames }
 
 pub clear-for-rerun-spec : {M : Type 1} → statement M
 clear-for-rerun-spec =

@@ -9,8 +9,8 @@ entry-start-requires c κs = search needs
 entry-size-requires : tie.Need-entry-size-requires
 entry-size-requires c κs = search needs
 
-add-e : tie.Need-add-e
-add-e c = search needs
+add-end : tie.Need-add-end
+add-end c = search needs
 
 sub-result : tie.Need-sub-result
 sub-result c = search needs
@@ -30,7 +30,7 @@ entry-at-spec =
     (tie.spec
     entry-start-requires
     entry-size-requires
-    add-e
+    add-end
     sub-result
     part-result-start
     part-result-end

@@ -26,7 +26,7 @@ is-match-requires : tie.Need-is-match-requires Inv-loop μ-loop
 is-match-requires c κs = let s = c .before .before .before .before in let lt : c .before .before .loop .i < 2 * s .args .goals = omega arith in (entry-bytes (s .args .goals) (s .args .graph .now) (c .entry-at .result .now) (c .before .before .loop .i) (s .pre .0) lt (c .entry-at .ensures), (s .pre .0, s .pre .1 .0))
 
 returns : tie.Need-returns Inv-loop μ-loop
-returns c = let s = c .before .before .before .before .before .before in let l = c .before .before .before .before .loop in (omega arith, match-here (s .args .goals) (s .args .graph .now) (s .args .entries) (l .i) (stackOf (s .args .goals) (s .args .height) (s .args .graph .now)) (s .args .goal) (s .args .step) (firstMatch (stackOf (s .args .goals) (s .args .height) (s .args .graph .now)) (s .args .goal) (s .args .step) (entriesOf (s .args .goals) (s .args .entries) (s .args .graph .now))) (l .inv .1) (c .before .before .before .loop-test .taken) (sym (c .before .is-match .ensures ∙ read-at {A = Bool} (entryMatches (stackOf (s .args .goals) (s .args .height) (s .args .graph .now)) (s .args .goal) (s .args .step)) (s .args .goals) (s .args .graph .now) (l .i) (c .before .before .entry-at .result .now) (c .before .before .entry-at .ensures)) ∙ c .if1 .taken))
+returns c = let s = c .before .before .before .before .before .before in let l = c .before .before .before .before .loop in record { few = omega arith; is = match-here (s .args .goals) (s .args .graph .now) (s .args .entries) (l .i) (stackOf (s .args .goals) (s .args .height) (s .args .graph .now)) (s .args .goal) (s .args .step) (firstMatch (stackOf (s .args .goals) (s .args .height) (s .args .graph .now)) (s .args .goal) (s .args .step) (entriesOf (s .args .goals) (s .args .entries) (s .args .graph .now))) (l .inv .1) (c .before .before .before .loop-test .taken) (sym (c .before .is-match .ensures ∙ read-at {A = Bool} (entryMatches (stackOf (s .args .goals) (s .args .height) (s .args .graph .now)) (s .args .goal) (s .args .step)) (s .args .goals) (s .args .graph .now) (l .i) (c .before .before .entry-at .result .now) (c .before .before .entry-at .ensures)) ∙ c .if1 .taken) }
 
 add-i : tie.Need-add-i Inv-loop μ-loop
 add-i c = omega arith
@@ -38,7 +38,7 @@ loop-again : tie.Need-loop-again Inv-loop μ-loop
 loop-again c = let s = c .before .before .before .before .before .before in let l = c .before .before .before .before .loop in (omega arith, match-next (s .args .goals) (s .args .graph .now) (s .args .entries) (l .i) (stackOf (s .args .goals) (s .args .height) (s .args .graph .now)) (s .args .goal) (s .args .step) (firstMatch (stackOf (s .args .goals) (s .args .height) (s .args .graph .now)) (s .args .goal) (s .args .step) (entriesOf (s .args .goals) (s .args .entries) (s .args .graph .now))) (l .inv .1) (c .before .before .before .loop-test .taken) (sym (c .before .is-match .ensures ∙ read-at {A = Bool} (entryMatches (stackOf (s .args .goals) (s .args .height) (s .args .graph .now)) (s .args .goal) (s .args .step)) (s .args .goals) (s .args .graph .now) (l .i) (c .before .before .entry-at .result .now) (c .before .before .entry-at .ensures)) ∙ c .if1 .left))
 
 returns-2 : tie.Need-returns-2 Inv-loop μ-loop
-returns-2 c = let s = c .before .before .before in let l = c .before .loop in (omega arith, match-none (s .args .goals) (s .args .graph .now) (s .args .entries) (l .i) (stackOf (s .args .goals) (s .args .height) (s .args .graph .now)) (s .args .goal) (s .args .step) (firstMatch (stackOf (s .args .goals) (s .args .height) (s .args .graph .now)) (s .args .goal) (s .args .step) (entriesOf (s .args .goals) (s .args .entries) (s .args .graph .now))) (l .inv .1) (c .loop-test .left))
+returns-2 c = let s = c .before .before .before in let l = c .before .loop in record { few = omega arith; is = match-none (s .args .goals) (s .args .graph .now) (s .args .entries) (l .i) (stackOf (s .args .goals) (s .args .height) (s .args .graph .now)) (s .args .goal) (s .args .step) (firstMatch (stackOf (s .args .goals) (s .args .height) (s .args .graph .now)) (s .args .goal) (s .args .step) (entriesOf (s .args .goals) (s .args .entries) (s .args .graph .now))) (l .inv .1) (c .loop-test .left) }
 
 pub first-match-spec : {M : Type 1} → statement M
 first-match-spec =

@@ -20,7 +20,7 @@ same-length : tie.Need-same-length
 same-length c = search needs
 
 returns-2 : tie.Need-returns-2
-returns-2 c = let s = c .before .before .before .before .before .before .before .before in insert-kept (s .args .goals) (s .args .height) (s .args .entries) (s .args .goal) (s .args .step) (s .args .overflow) (s .args .answer) (s .args .graph .now) (omega arith) (c .before .before .write-entry .last .0) (c .before .before .before .before .path-from-head .result) (c .before .before .before .before .path-from-head .ensures) (c .before .before .write-entry .ensures .0) (c .before .before .write-entry .ensures .1)
+returns-2 c = let s = c .before .before .before .before .before .before .before .before in insert-kept (s .args .goals) (s .args .height) (s .args .entries) (s .args .goal) (s .args .step) (s .args .overflow) (s .args .answer) (s .args .graph .now) (omega arith) (c .before .before .write-entry .last .0) (c .before .before .before .before .path-from-head .result) (c .before .before .before .before .path-from-head .ensures) (c .before .before .write-entry .ensures)
 
 pub insert-spec : {M : Type 1} → statement M
 insert-spec =
