@@ -22,9 +22,10 @@ use Rattle.definition.specs.Stack.{Stack, Frame, cyclePathKind}
 use Rattle.definition.specs.Graph.{Entry}
 use Rattle.definition.specs.ProvisionalCache.{unusedHead, headThrough, pathsKeepKind, reasonKeeps, rebasedHeads, underNewHead, rebaseEntry}
 use Rattle.stack.specs.Bytes.{frameAt}
-use Rattle.provisional_cache.specs.Entries.{entryAt, withPath}
-use Rattle.rebase.specs.Rebased.{gainedHead, gainHead, withHeads, underHeads, keptEntry, OthersKept}
-use Rattle.rebase.proofs.Writes.{frame-after}
+use Rattle.provisional_cache.specs.Entries.{entryAt, withPath, withHeads, withoutHead}
+use Rattle.rebase.specs.Heads.{gainedHead, gainHead, withGained, gainedEntry, replacedEntry}
+use Rattle.rebase.specs.Rebased.{underHeads, keptEntry, EntryWritten}
+use Rattle.rebase.proofs.Writes.{others-then, frame-after}
 
 -- ---- `gained`
 module _ (used : Bool) (ep : ℕ) (head : CycleHead) (paths : ℕ) where
@@ -35,12 +36,13 @@ module _ (used : Bool) (ep : ℕ) (head : CycleHead) (paths : ℕ) where
   gained-unused t is u is-u = (λ i. record { paths = is i; usages = is-u i }) ∙ sym (ap (λ (x : Bool). gainedHead x ep head) t)
 
 -- ---- `replace_head`: the head is taken out, then the heads of the popped frame are gained
-pub replaced : (goals popped k : ℕ) (used : Bool) (ep : ℕ) (old mid new : List ℕ) → popped < goals → entryAt goals k mid ≡ withHeads (entryAt goals k old) (removeHead ((entryAt goals k old) .heads) popped) → OthersKept goals k old mid
-    → entryAt goals k new ≡ withHeads (entryAt goals k mid) (forEachHead (gainHead used ep) ((entryAt goals k mid) .heads) ((frameAt goals popped mid) .heads))
-    → entryAt goals k new ≡ withHeads (entryAt goals k old) (forEachHead (gainHead used ep) (removeHead ((entryAt goals k old) .heads) popped) ((frameAt goals popped old) .heads))
-replaced goals popped k used ep old mid new lt first others second =
-    second
-    ∙ ap₂ (λ (e : Entry) (f : Frame). withHeads e (forEachHead (gainHead used ep) (e .heads) (f .heads))) first (frame-after goals k old mid others popped lt)
+pub replaced : (goals popped k : ℕ) (used : Bool) (ep : ℕ) (old mid new : List ℕ) → popped < goals → EntryWritten goals k (withoutHead (entryAt goals k old) popped) old mid
+    → EntryWritten goals k (gainedEntry goals popped k used ep mid) mid new → EntryWritten goals k (replacedEntry goals popped k used ep old) old new
+replaced goals popped k used ep old mid new lt first second =
+    record {
+      entry = second .entry ∙ ap₂ (λ (e : Entry) (f : Frame). withGained used ep e (f .heads)) (first .entry) (frame-after goals k old mid (first .others) popped lt);
+      others = others-then goals k old mid new (first .others) (second .others);
+    }
 
 -- ---- `reason_keeps`
 module _ (reason : RebaseReason) (kind result : Answer) (u : HeadUsages) (is : reason ≡ Ambiguity kind) (t : Bool) (is-t : t ≡ isAmbiguous result) where

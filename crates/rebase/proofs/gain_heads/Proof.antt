@@ -39,13 +39,13 @@ loop-less : tie.Need-loop-less Inv-loop μ-loop
 loop-less c = c .without-lowest .ensures .1
 
 loop-again : tie.Need-loop-again Inv-loop μ-loop
-loop-again c = let s = c .before .before .before .before .before .before .before .before .before .before .before .before .before .before in let a = s .args in let l = c .before .before .before .before .before .before .before .before .before .before .loop in let j = c .before .before .before .join-head in gaining-next (a .goals) (a .popped) (a .k) (a .used) (a .eps .bits) (a .graph .now) (l .graph) (l .left) (c .before .before .before .before .before .before .before .before .lowest .result) (l .inv) (c .before .before .before .before .before .before .before .before .before .loop-test .taken) (c .before .before .before .before .before .before .before .before .lowest .ensures) (s .pre .1 .0) (c .before .before .before .before .before .before .popped-head .result) (c .before .before .before .before .before .gained .result) (c .before .before .before .before .before .before .popped-head .ensures) (c .before .before .before .before .before .gained .ensures) (j .last .0) (j .ensures .0) (j .ensures .1) (j .kept .0) (c .without-lowest .result) (c .without-lowest .ensures .0) (c .without-lowest .ensures .1)
+loop-again c = let s = c .before .before .before .before .before .before .before .before .before .before .before .before .before .before in let a = s .args in let l = c .before .before .before .before .before .before .before .before .before .before .loop in let j = c .before .before .before .join-head in gaining-next (a .goals) (a .popped) (a .k) (a .used) (a .eps .bits) (a .graph .now) (l .graph) (l .left) (c .before .before .before .before .before .before .before .before .lowest .result) (l .inv) (c .before .before .before .before .before .before .before .before .before .loop-test .taken) (c .before .before .before .before .before .before .before .before .lowest .ensures) (s .pre .1 .0) (c .before .before .before .before .before .before .popped-head .result) (c .before .before .before .before .before .gained .result) (c .before .before .before .before .before .before .popped-head .ensures) (c .before .before .before .before .before .gained .ensures) (j .last .0) (j .ensures) (j .kept .0) (c .without-lowest .result) (c .without-lowest .ensures .0) (c .without-lowest .ensures .1)
 
 same-length : tie.Need-same-length Inv-loop μ-loop
 same-length c = c .before .loop .inv .same-length
 
 returns : tie.Need-returns Inv-loop μ-loop
-returns c = let s = c .before .before .before .before .before in let a = s .args in let l = c .before .loop in (gaining-done (a .goals) (a .popped) (a .k) (a .used) (a .eps .bits) (a .graph .now) (l .graph) (l .left) (l .inv) (c .loop-test .left), l .inv .others)
+returns c = let s = c .before .before .before .before .before in let a = s .args in let l = c .before .loop in record { entry = gaining-done (a .goals) (a .popped) (a .k) (a .used) (a .eps .bits) (a .graph .now) (l .graph) (l .left) (l .inv) (c .loop-test .left); others = l .inv .others }
 
 pub gain-heads-spec : {M : Type 1} → statement M
 gain-heads-spec =

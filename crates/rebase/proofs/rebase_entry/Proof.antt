@@ -24,7 +24,7 @@ same-length : tie.Need-same-length
 same-length c = search needs
 
 returns : tie.Need-returns
-returns c = let a = c .before .before .before .before .before .args in (entry-other (stackOf (a .goals) (a .popped) (a .graph .now)) (frameAt (a .goals) (a .popped) (a .graph .now)) (a .reason) (entryAt (a .goals) (a .k) (a .graph .now)) (a .popped) (length-stack (a .goals) (a .popped) (a .graph .now)) (c .before .highest-head .result) (c .before .highest-head .ensures ∙ read-at (λ (e : Entry). highestIndex (e .heads)) (a .goals) (a .graph .now) (a .k) (c .before .before .entry-at .result .now) (c .before .before .entry-at .ensures)) (c .if1 .taken), others-same (a .goals) (a .k) (a .graph .now))
+returns c = let a = c .before .before .before .before .before .args in record { entry = entry-other (stackOf (a .goals) (a .popped) (a .graph .now)) (frameAt (a .goals) (a .popped) (a .graph .now)) (a .reason) (entryAt (a .goals) (a .k) (a .graph .now)) (a .popped) (length-stack (a .goals) (a .popped) (a .graph .now)) (c .before .highest-head .result) (c .before .highest-head .ensures ∙ read-at (λ (e : Entry). highestIndex (e .heads)) (a .goals) (a .graph .now) (a .k) (c .before .before .entry-at .result .now) (c .before .before .entry-at .ensures)) (c .if1 .taken); others = others-same (a .goals) (a .k) (a .graph .now) }
 
 rebase-heads-requires : tie.Need-rebase-heads-requires
 rebase-heads-requires c κs = search needs
@@ -33,7 +33,7 @@ same-length-2 : tie.Need-same-length-2
 same-length-2 c = search needs
 
 returns-2 : tie.Need-returns-2
-returns-2 c = let a = c .before .before .before .before .before .before .before .before .before .before .args in let x = c .before .before .before .rebase-heads in (entry-dropped (stackOf (a .goals) (a .popped) (a .graph .now)) (frameAt (a .goals) (a .popped) (a .graph .now)) (a .reason) (entryAt (a .goals) (a .k) (a .graph .now)) (a .popped) (length-stack (a .goals) (a .popped) (a .graph .now)) (c .before .before .before .before .before .before .highest-head .result) (c .before .before .before .before .before .before .highest-head .ensures ∙ read-at (λ (e : Entry). highestIndex (e .heads)) (a .goals) (a .graph .now) (a .k) (c .before .before .before .before .before .before .before .entry-at .result .now) (c .before .before .before .before .before .before .before .entry-at .ensures)) (c .before .before .before .before .before .if1 .left) (x .result) (entryAt (a .goals) (a .k) (x .last .0)) (x .ensures .0) (c .if2 .taken), x .ensures .1)
+returns-2 c = let a = c .before .before .before .before .before .before .before .before .before .before .args in let x = c .before .before .before .rebase-heads in record { entry = entry-dropped (stackOf (a .goals) (a .popped) (a .graph .now)) (frameAt (a .goals) (a .popped) (a .graph .now)) (a .reason) (entryAt (a .goals) (a .k) (a .graph .now)) (a .popped) (length-stack (a .goals) (a .popped) (a .graph .now)) (c .before .before .before .before .before .before .highest-head .result) (c .before .before .before .before .before .before .highest-head .ensures ∙ read-at (λ (e : Entry). highestIndex (e .heads)) (a .goals) (a .graph .now) (a .k) (c .before .before .before .before .before .before .before .entry-at .result .now) (c .before .before .before .before .before .before .before .entry-at .ensures)) (c .before .before .before .before .before .if1 .left) (x .result) (entryAt (a .goals) (a .k) (x .last .0)) (x .ensures .entry) (c .if2 .taken); others = x .ensures .others }
 
 rebase-path-requires : tie.Need-rebase-path-requires
 rebase-path-requires c κs = let s = c .before .before .before .before .before .before .before .before .before .before .before in (graph-bytes (s .args .goals) (s .args .graph .now) (c .before .before .before .before .rebase-heads .last .0) (s .pre .0) (c .before .before .before .before .rebase-heads .kept .0), s .pre .1)
@@ -42,7 +42,7 @@ same-length-3 : tie.Need-same-length-3
 same-length-3 c = search needs
 
 returns-3 : tie.Need-returns-3
-returns-3 c = let s = c .before .before .before .before .before .before .before .before .before .before .before .before .before .before in let a = s .args in let x = c .before .before .before .before .before .before .before .rebase-heads in let y = c .before .before .rebase-path in (entry-under (stackOf (a .goals) (a .popped) (a .graph .now)) (frameAt (a .goals) (a .popped) (a .graph .now)) (a .reason) (entryAt (a .goals) (a .k) (a .graph .now)) (a .popped) (length-stack (a .goals) (a .popped) (a .graph .now)) (c .before .before .before .before .before .before .before .before .before .before .highest-head .result) (c .before .before .before .before .before .before .before .before .before .before .highest-head .ensures ∙ read-at (λ (e : Entry). highestIndex (e .heads)) (a .goals) (a .graph .now) (a .k) (c .before .before .before .before .before .before .before .before .before .before .before .entry-at .result .now) (c .before .before .before .before .before .before .before .before .before .before .before .entry-at .ensures)) (c .before .before .before .before .before .before .before .before .before .if1 .left) (x .result) (entryAt (a .goals) (a .k) (x .last .0)) (x .ensures .0) (c .before .before .before .before .if2 .left) (keptEntry (y .result) (entryAt (a .goals) (a .k) (y .last .0))) (stackOf (a .goals) (a .popped) (x .last .0)) (frameAt (a .goals) (a .popped) (x .last .0)) (stack-after (a .goals) (a .k) (a .graph .now) (x .last .0) (x .ensures .1) (a .popped) (s .pre .1 .0)) (frame-after (a .goals) (a .k) (a .graph .now) (x .last .0) (x .ensures .1) (a .popped) (s .pre .1 .0)) (y .ensures .0), others-then (a .goals) (a .k) (a .graph .now) (x .last .0) (y .last .0) (x .ensures .1) (y .ensures .1))
+returns-3 c = let s = c .before .before .before .before .before .before .before .before .before .before .before .before .before .before in let a = s .args in let x = c .before .before .before .before .before .before .before .rebase-heads in let y = c .before .before .rebase-path in record { entry = entry-under (stackOf (a .goals) (a .popped) (a .graph .now)) (frameAt (a .goals) (a .popped) (a .graph .now)) (a .reason) (entryAt (a .goals) (a .k) (a .graph .now)) (a .popped) (length-stack (a .goals) (a .popped) (a .graph .now)) (c .before .before .before .before .before .before .before .before .before .before .highest-head .result) (c .before .before .before .before .before .before .before .before .before .before .highest-head .ensures ∙ read-at (λ (e : Entry). highestIndex (e .heads)) (a .goals) (a .graph .now) (a .k) (c .before .before .before .before .before .before .before .before .before .before .before .entry-at .result .now) (c .before .before .before .before .before .before .before .before .before .before .before .entry-at .ensures)) (c .before .before .before .before .before .before .before .before .before .if1 .left) (x .result) (entryAt (a .goals) (a .k) (x .last .0)) (x .ensures .entry) (c .before .before .before .before .if2 .left) (keptEntry (y .result) (entryAt (a .goals) (a .k) (y .last .0))) (stackOf (a .goals) (a .popped) (x .last .0)) (frameAt (a .goals) (a .popped) (x .last .0)) (stack-after (a .goals) (a .k) (a .graph .now) (x .last .0) (x .ensures .others) (a .popped) (s .pre .1 .0)) (frame-after (a .goals) (a .k) (a .graph .now) (x .last .0) (x .ensures .others) (a .popped) (s .pre .1 .0)) (y .ensures .entry); others = others-then (a .goals) (a .k) (a .graph .now) (x .last .0) (y .last .0) (x .ensures .others) (y .ensures .others) }
 
 pub rebase-entry-spec : {M : Type 1} → statement M
 rebase-entry-spec =

@@ -25,7 +25,7 @@ same-length : tie.Need-same-length
 same-length c = search needs
 
 returns : tie.Need-returns
-returns c = let a = c .before .before .before .before .before .before .before .before .before .before .before .args in let x = c .before .before .replace-head in (heads-unused (stackOf (a .goals) (a .popped) (a .graph .now)) (frameAt (a .goals) (a .popped) (a .graph .now)) (a .reason) (entryAt (a .goals) (a .k) (a .graph .now)) (a .popped) (length-stack (a .goals) (a .popped) (a .graph .now)) (c .before .before .before .before .before .before .before .before .head-usages .result) (c .before .before .before .before .before .before .head-paths .result .bits) (usagesAt ((entryAt (a .goals) (a .k) (a .graph .now)) .heads) (a .popped)) (pathsAt ((entryAt (a .goals) (a .k) (a .graph .now)) .heads) (a .popped)) (c .before .before .before .before .before .before .before .before .head-usages .ensures) (c .before .before .before .before .before .before .head-paths .ensures) (c .before .before .before .before .before .is-empty .result) (c .before .before .before .before .before .is-empty .ensures) (c .before .before .before .before .if1 .taken) (entryAt (a .goals) (a .k) (x .last .0)) (x .ensures .0), x .ensures .1)
+returns c = let a = c .before .before .before .before .before .before .before .before .before .before .before .args in let x = c .before .before .replace-head in record { entry = heads-unused (stackOf (a .goals) (a .popped) (a .graph .now)) (frameAt (a .goals) (a .popped) (a .graph .now)) (a .reason) (entryAt (a .goals) (a .k) (a .graph .now)) (a .popped) (length-stack (a .goals) (a .popped) (a .graph .now)) (c .before .before .before .before .before .before .before .before .head-usages .result) (c .before .before .before .before .before .before .head-paths .result .bits) (usagesAt ((entryAt (a .goals) (a .k) (a .graph .now)) .heads) (a .popped)) (pathsAt ((entryAt (a .goals) (a .k) (a .graph .now)) .heads) (a .popped)) (c .before .before .before .before .before .before .before .before .head-usages .ensures) (c .before .before .before .before .before .before .head-paths .ensures) (c .before .before .before .before .before .is-empty .result) (c .before .before .before .before .before .is-empty .ensures) (c .before .before .before .before .if1 .taken) (entryAt (a .goals) (a .k) (x .last .0)) (x .ensures .entry); others = x .ensures .others }
 
 stays-requires : tie.Need-stays-requires
 stays-requires c κs = search needs
@@ -34,7 +34,7 @@ same-length-2 : tie.Need-same-length-2
 same-length-2 c = search needs
 
 returns-2 : tie.Need-returns-2
-returns-2 c = let a = c .before .before .before .before .before .before .before .before .before .before .args in (heads-dropped (stackOf (a .goals) (a .popped) (a .graph .now)) (frameAt (a .goals) (a .popped) (a .graph .now)) (a .reason) (entryAt (a .goals) (a .k) (a .graph .now)) (a .popped) (length-stack (a .goals) (a .popped) (a .graph .now)) (c .before .before .before .before .before .before .before .head-usages .result) (c .before .before .before .before .before .head-paths .result .bits) (usagesAt ((entryAt (a .goals) (a .k) (a .graph .now)) .heads) (a .popped)) (pathsAt ((entryAt (a .goals) (a .k) (a .graph .now)) .heads) (a .popped)) (c .before .before .before .before .before .before .before .head-usages .ensures) (c .before .before .before .before .before .head-paths .ensures) (c .before .before .before .before .is-empty .result) (c .before .before .before .before .is-empty .ensures) (c .before .before .before .if1 .left) (c .before .stays .result) (c .before .stays .ensures) (c .if2 .taken), others-same (a .goals) (a .k) (a .graph .now))
+returns-2 c = let a = c .before .before .before .before .before .before .before .before .before .before .args in record { entry = heads-dropped (stackOf (a .goals) (a .popped) (a .graph .now)) (frameAt (a .goals) (a .popped) (a .graph .now)) (a .reason) (entryAt (a .goals) (a .k) (a .graph .now)) (a .popped) (length-stack (a .goals) (a .popped) (a .graph .now)) (c .before .before .before .before .before .before .before .head-usages .result) (c .before .before .before .before .before .head-paths .result .bits) (usagesAt ((entryAt (a .goals) (a .k) (a .graph .now)) .heads) (a .popped)) (pathsAt ((entryAt (a .goals) (a .k) (a .graph .now)) .heads) (a .popped)) (c .before .before .before .before .before .before .before .head-usages .ensures) (c .before .before .before .before .before .head-paths .ensures) (c .before .before .before .before .is-empty .result) (c .before .before .before .before .is-empty .ensures) (c .before .before .before .if1 .left) (c .before .stays .result) (c .before .stays .ensures) (c .if2 .taken); others = others-same (a .goals) (a .k) (a .graph .now) }
 
 replace-head-requires-2 : tie.Need-replace-head-requires-2
 replace-head-requires-2 c κs = search needs
@@ -43,7 +43,7 @@ same-length-3 : tie.Need-same-length-3
 same-length-3 c = search needs
 
 returns-3 : tie.Need-returns-3
-returns-3 c = let a = c .before .before .before .before .before .before .before .before .before .before .before .before .before .before .args in let x = c .before .before .replace-head2 in (heads-through (stackOf (a .goals) (a .popped) (a .graph .now)) (frameAt (a .goals) (a .popped) (a .graph .now)) (a .reason) (entryAt (a .goals) (a .k) (a .graph .now)) (a .popped) (length-stack (a .goals) (a .popped) (a .graph .now)) (c .before .before .before .before .before .before .before .before .before .before .before .head-usages .result) (c .before .before .before .before .before .before .before .before .before .head-paths .result .bits) (usagesAt ((entryAt (a .goals) (a .k) (a .graph .now)) .heads) (a .popped)) (pathsAt ((entryAt (a .goals) (a .k) (a .graph .now)) .heads) (a .popped)) (c .before .before .before .before .before .before .before .before .before .before .before .head-usages .ensures) (c .before .before .before .before .before .before .before .before .before .head-paths .ensures) (c .before .before .before .before .before .before .before .before .is-empty .result) (c .before .before .before .before .before .before .before .before .is-empty .ensures) (c .before .before .before .before .before .before .before .if1 .left) (c .before .before .before .before .before .stays .result) (c .before .before .before .before .before .stays .ensures) (c .before .before .before .before .if2 .left) (entryAt (a .goals) (a .k) (x .last .0)) (x .ensures .0), x .ensures .1)
+returns-3 c = let a = c .before .before .before .before .before .before .before .before .before .before .before .before .before .before .args in let x = c .before .before .replace-head2 in record { entry = heads-through (stackOf (a .goals) (a .popped) (a .graph .now)) (frameAt (a .goals) (a .popped) (a .graph .now)) (a .reason) (entryAt (a .goals) (a .k) (a .graph .now)) (a .popped) (length-stack (a .goals) (a .popped) (a .graph .now)) (c .before .before .before .before .before .before .before .before .before .before .before .head-usages .result) (c .before .before .before .before .before .before .before .before .before .head-paths .result .bits) (usagesAt ((entryAt (a .goals) (a .k) (a .graph .now)) .heads) (a .popped)) (pathsAt ((entryAt (a .goals) (a .k) (a .graph .now)) .heads) (a .popped)) (c .before .before .before .before .before .before .before .before .before .before .before .head-usages .ensures) (c .before .before .before .before .before .before .before .before .before .head-paths .ensures) (c .before .before .before .before .before .before .before .before .is-empty .result) (c .before .before .before .before .before .before .before .before .is-empty .ensures) (c .before .before .before .before .before .before .before .if1 .left) (c .before .before .before .before .before .stays .result) (c .before .before .before .before .before .stays .ensures) (c .before .before .before .before .if2 .left) (entryAt (a .goals) (a .k) (x .last .0)) (x .ensures .entry); others = x .ensures .others }
 
 pub rebase-heads-spec : {M : Type 1} → statement M
 rebase-heads-spec =

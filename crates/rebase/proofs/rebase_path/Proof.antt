@@ -18,7 +18,7 @@ same-length : tie.Need-same-length
 same-length c = search needs
 
 returns : tie.Need-returns
-returns c = let a = c .before .before .before .before .before .args in (path-none (stackOf (a .goals) (a .popped) (a .graph .now)) (frameAt (a .goals) (a .popped) (a .graph .now)) (entryAt (a .goals) (a .k) (a .graph .now)) (headsOf (a .goals) (c .before .before .entry-heads .result .now)) (entry-block (a .goals) (a .k) (a .graph .now) (c .before .before .entry-heads .result .now) (c .before .before .entry-heads .ensures)) (c .before .is-empty .result) (c .before .is-empty .ensures) (c .if1 .taken), others-same (a .goals) (a .k) (a .graph .now))
+returns c = let a = c .before .before .before .before .before .args in record { entry = path-none (stackOf (a .goals) (a .popped) (a .graph .now)) (frameAt (a .goals) (a .popped) (a .graph .now)) (entryAt (a .goals) (a .k) (a .graph .now)) (headsOf (a .goals) (c .before .before .entry-heads .result .now)) (entry-block (a .goals) (a .k) (a .graph .now) (c .before .before .entry-heads .result .now) (c .before .before .entry-heads .ensures)) (c .before .is-empty .result) (c .before .is-empty .ensures) (c .if1 .taken); others = others-same (a .goals) (a .k) (a .graph .now) }
 
 highest-requires : tie.Need-highest-requires
 highest-requires c κs = let s = c .before .before .before .before .before in entry-heads-at (s .args .goals) (s .args .k) (s .args .graph .now) (c .before .before .entry-heads .result .now) (s .pre .0) (s .pre .1 .1) (c .before .before .entry-heads .ensures)
@@ -33,7 +33,7 @@ same-length-2 : tie.Need-same-length-2
 same-length-2 c = search needs
 
 returns-2 : tie.Need-returns-2
-returns-2 c = let a = c .before .before .before .before .before .before .before .before .before .before .before .before .args in let x = c .before .before .extend-path in (path-some (stackOf (a .goals) (a .popped) (a .graph .now)) (frameAt (a .goals) (a .popped) (a .graph .now)) (entryAt (a .goals) (a .k) (a .graph .now)) (headsOf (a .goals) (c .before .before .before .before .before .before .before .before .before .entry-heads .result .now)) (entry-block (a .goals) (a .k) (a .graph .now) (c .before .before .before .before .before .before .before .before .before .entry-heads .result .now) (c .before .before .before .before .before .before .before .before .before .entry-heads .ensures)) (c .before .before .before .before .before .before .before .before .is-empty .result) (c .before .before .before .before .before .before .before .before .is-empty .ensures) (c .before .before .before .before .before .before .before .if1 .left) (c .before .before .before .before .before .before .highest .result) (c .before .before .before .before .before .before .highest .ensures) (c .before .before .before .before .path-to-popped .result) (c .before .before .before .before .path-to-popped .ensures) (entryAt (a .goals) (a .k) (x .last .0)) (x .ensures .0), x .ensures .1)
+returns-2 c = let a = c .before .before .before .before .before .before .before .before .before .before .before .before .args in let x = c .before .before .extend-path in record { entry = path-some (stackOf (a .goals) (a .popped) (a .graph .now)) (frameAt (a .goals) (a .popped) (a .graph .now)) (entryAt (a .goals) (a .k) (a .graph .now)) (headsOf (a .goals) (c .before .before .before .before .before .before .before .before .before .entry-heads .result .now)) (entry-block (a .goals) (a .k) (a .graph .now) (c .before .before .before .before .before .before .before .before .before .entry-heads .result .now) (c .before .before .before .before .before .before .before .before .before .entry-heads .ensures)) (c .before .before .before .before .before .before .before .before .is-empty .result) (c .before .before .before .before .before .before .before .before .is-empty .ensures) (c .before .before .before .before .before .before .before .if1 .left) (c .before .before .before .before .before .before .highest .result) (c .before .before .before .before .before .before .highest .ensures) (c .before .before .before .before .path-to-popped .result) (c .before .before .before .before .path-to-popped .ensures) (entryAt (a .goals) (a .k) (x .last .0)) (x .ensures .entry); others = x .ensures .others }
 
 pub rebase-path-spec : {M : Type 1} → statement M
 rebase-path-spec =

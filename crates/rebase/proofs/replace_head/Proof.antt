@@ -1,6 +1,5 @@
 use Rattle.provisional_cache.proofs.Loops.{graph-bytes}
 use Rattle.rebase.proofs.Entries.{replaced}
-use Rattle.rebase.proofs.Writes.{others-then}
 use borrow.Author.Needs.{needs}
 use Rattle.rebase.proofs.replace_head.Statement.{statement}
 use Rattle.rebase.proofs.replace_head.Tie as tie
@@ -15,7 +14,7 @@ same-length : tie.Need-same-length
 same-length c = search needs
 
 returns : tie.Need-returns
-returns c = let s = c .before .before .before .before .before .before .before .before .before in let a = s .args in (replaced (a .goals) (a .popped) (a .k) (a .used) (a .eps .bits) (a .graph .now) (c .before .before .before .before .before .before .remove-head .last .0) (c .before .before .gain-heads .last .0) (s .pre .1 .0) (c .before .before .before .before .before .before .remove-head .ensures .0) (c .before .before .before .before .before .before .remove-head .ensures .1) (c .before .before .gain-heads .ensures .0), others-then (a .goals) (a .k) (a .graph .now) (c .before .before .before .before .before .before .remove-head .last .0) (c .before .before .gain-heads .last .0) (c .before .before .before .before .before .before .remove-head .ensures .1) (c .before .before .gain-heads .ensures .1))
+returns c = let s = c .before .before .before .before .before .before .before .before .before in let a = s .args in replaced (a .goals) (a .popped) (a .k) (a .used) (a .eps .bits) (a .graph .now) (c .before .before .before .before .before .before .remove-head .last .0) (c .before .before .gain-heads .last .0) (s .pre .1 .0) (c .before .before .before .before .before .before .remove-head .ensures) (c .before .before .gain-heads .ensures)
 
 pub replace-head-spec : {M : Type 1} → statement M
 replace-head-spec =
