@@ -8,15 +8,11 @@ use layout::heads;
 use layout::offsets;
 use stack::frame;
 ghost use mathlib.Core.Path.{_≡_};
-ghost use mathlib.Core.List.{List};
-ghost use Prim.Native.Nat.{ℕ, _<_};
-ghost use Rattle.definition.specs.Graph.{finalize};
+ghost use Prim.Native.Nat.{_<_};
 ghost use Rattle.definition.specs.Heads.{headsEmpty};
-ghost use Rattle.definition.specs.Evaluate.{insertGlobalCache, insertProvisionalCache, insertResult};
-ghost use Rattle.layout.specs.Work.{graphOf};
 ghost use Rattle.stack.specs.Bytes.{GraphBytes, frameAt};
-ghost use Rattle.evaluation.specs.Outcomes.{outcomeOf, FewEntries};
 ghost use Rattle.task.specs.Places.{Popped, Room};
+ghost use Rattle.task.specs.Results.{InGlobalCache, InProvisionalCache, InCache};
 
 // The nested goals of the frame.
 pub fn nested_at(graph: &[u8], goals: usize, height: usize) -> &[u8]
@@ -24,8 +20,8 @@ pub fn nested_at(graph: &[u8], goals: usize, height: usize) -> &[u8]
     ensures { λ r. ⌜ now r ≡ (frameAt goals height (now (graph .entry))) .nestedGoals ⌝ }
 {
     let a = offsets::frame_start(goals, height) + offsets::nested_start(goals);
-    let e = a + goals;
-    &graph[a..e]
+    let end = a + goals;
+    &graph[a..end]
 }
 
 // Whether the frame has no heads.
@@ -48,7 +44,8 @@ fn in_global_cache(
     answer: Answer,
 ) -> Outcome
     requires { ⌜ Popped h height entries goal (now graph) (now cache) ⌝ }
-    ensures { λ r. ⌜ ((root : ℕ) → outcomeOf (h .goals) root height (now (graph .entry)) (now (cache .exit)) r ≡ insertGlobalCache h (graphOf (h .goals) root height entries (now (graph .entry)) (now (cache .entry))) goal (finalize (frameAt (h .goals) height (now (graph .entry))) overflow answer)) × FewEntries (h .goals) r ⌝ }
+    ensures { λ r. ⌜ InGlobalCache h height entries goal overflow answer (now (graph .entry))
+        (now (cache .entry)) (now (cache .exit)) r ⌝ }
 {
     let goals = h.goals;
     let top = h.top;
@@ -75,7 +72,8 @@ fn in_provisional_cache(
     answer: Answer,
 ) -> Outcome
     requires { ⌜ Room h height entries goal (now graph) ⌝ }
-    ensures { λ r. ⌜ ((root : ℕ) (cache : List ℕ) → outcomeOf (h .goals) root height (now (graph .exit)) cache r ≡ insertProvisionalCache h (graphOf (h .goals) root height entries (now (graph .entry)) cache) goal step (finalize (frameAt (h .goals) height (now (graph .entry))) overflow answer)) × FewEntries (h .goals) r ⌝ }
+    ensures { λ r. ⌜ InProvisionalCache h height entries goal step overflow answer
+        (now (graph .entry)) (now (graph .exit)) r ⌝ }
 {
     let goals = h.goals;
     let made = provisional_cache::insert(
@@ -107,7 +105,8 @@ pub fn result(
     answer: Answer,
 ) -> Outcome
     requires { ⌜ Popped h height entries goal (now graph) (now cache) ⌝ }
-    ensures { λ r. ⌜ ((root : ℕ) → outcomeOf (h .goals) root height (now (graph .exit)) (now (cache .exit)) r ≡ insertResult h (graphOf (h .goals) root height entries (now (graph .entry)) (now (cache .entry))) goal step (finalize (frameAt (h .goals) height (now (graph .entry))) overflow answer)) × FewEntries (h .goals) r ⌝ }
+    ensures { λ r. ⌜ InCache h height entries goal step overflow answer
+        (now (cache .entry)) (now (cache .exit)) (now (graph .entry)) (now (graph .exit)) r ⌝ }
 {
     let goals = h.goals;
     if is_headless(graph, goals, height) {

@@ -18,7 +18,7 @@ same-length : tie.Need-same-length
 same-length c = search needs
 
 returns : tie.Need-returns
-returns c = let a = c .before .before .before .before .before .before .before .before .before .before .before .args in let p = c .before .before .before .before .before .depth in let y = c .before .before .lookup-at-depth in (λ compute. depth-allowed (a .h) (a .root) (a .height) (a .entries) (a .goal) (a .step) (a .lower) (a .graph .now) (a .cache .now) (c .before .before .before .before .before .before .before .allowed-depth-for-nested .result) (c .before .before .before .before .before .before .before .allowed-depth-for-nested .ensures .0 (a .h) refl) compute (p .given .0 .0) (p .given .1) ∙ y .ensures .0 (a .root) compute, λ d e. y .ensures .1 d e)
+returns c = let a = c .before .before .before .before .before .before .before .before .before .before .before .args in let p = c .before .before .before .before .before .depth in let y = c .before .before .lookup-at-depth in record { is = λ compute. depth-allowed (a .h) (a .root) (a .height) (a .entries) (a .goal) (a .step) (a .lower) (a .graph .now) (a .cache .now) (c .before .before .before .before .before .before .before .allowed-depth-for-nested .result) (c .before .before .before .before .before .before .before .allowed-depth-for-nested .ensures .0 (a .h) refl) compute (p .given .0 .0) (p .given .1) ∙ y .ensures .is (a .root) compute; low = y .ensures .low }
 
 enum-told : tie.Need-enum-told
 enum-told c = search needs
@@ -30,7 +30,7 @@ same-length-2 : tie.Need-same-length-2
 same-length-2 c = search needs
 
 returns-2 : tie.Need-returns-2
-returns-2 c = let a = c .before .before .before .before .before .before .before .before .before .before .args in let y = c .before .before .mark-top-overflow in (λ compute. depth-overflow (a .h) (a .root) (a .height) (a .entries) (a .goal) (a .step) (a .lower) (a .graph .now) (a .cache .now) (c .before .before .before .before .before .before .allowed-depth-for-nested .result) (c .before .before .before .before .before .before .allowed-depth-for-nested .ensures .0 (a .h) refl) compute (c .before .before .before .before .enum-told .given .1) (y .last .0) (y .ensures .0) (y .ensures .1), λ d e. known-pushes answer.Overflow d e)
+returns-2 c = let a = c .before .before .before .before .before .before .before .before .before .before .args in let y = c .before .before .mark-top-overflow in record { is = λ compute. depth-overflow (a .h) (a .root) (a .height) (a .entries) (a .goal) (a .step) (a .lower) (a .graph .now) (a .cache .now) (c .before .before .before .before .before .before .allowed-depth-for-nested .result) (c .before .before .before .before .before .before .allowed-depth-for-nested .ensures .0 (a .h) refl) compute (c .before .before .before .before .enum-told .given .1) (y .last .0) (y .ensures .0) (y .ensures .1); low = λ d e. known-pushes answer.Overflow d e }
 
 pub lookup-spec : {M : Type 1} → statement M
 lookup-spec =

@@ -29,7 +29,7 @@ result-requires : tie.Need-result-requires
 result-requires c κs = let s = c .before .before .before .before .before .before .before .before .before .before .before .before .before .before .before in let a = s .args in let o = c .before .before .before .before .before .before .before .before .before .before .before .o2 .given in let y = c .before .before .before .before .update-parent in record { room = record { bytes = graph-bytes (a .h .goals) (a .graph .now) (y .last .0) (s .pre .bytes) (y .kept .0); under = s .pre .under; known = s .pre .known; few = few-evaluated (a .h .goals) (a .o) (o .0 .0) (o .0 .1 .0) (o .0 .1 .1 .0) (o .1) (s .pre .few) }; cache-bytes = s .pre .cache-bytes }
 
 returns : tie.Need-returns
-returns c = let a = c .before .before .before .before .before .args in (λ root. finish-stopped (a .h) root (a .height) (a .goal) (a .available) (a .step) (a .graph .now) (a .cache .now) (a .o) (c .before .o .given .0 .0) (c .before .o .given .1), tt)
+returns c = let a = c .before .before .before .before .before .args in record { is = λ root. finish-stopped (a .h) root (a .height) (a .goal) (a .available) (a .step) (a .graph .now) (a .cache .now) (a .o) (c .before .o .given .0 .0) (c .before .o .given .1); few = tt }
 
 same-length : tie.Need-same-length
 same-length c = search needs
@@ -38,7 +38,7 @@ same-length-2 : tie.Need-same-length-2
 same-length-2 c = search needs
 
 returns-2 : tie.Need-returns-2
-returns-2 c = let a = c .before .before .before .before .before .before .before .before .before .before .before .before .before .before .before .before .before .before .before .before .args in let o = c .before .before .before .before .before .before .before .before .before .before .before .before .before .before .before .before .o2 .given in let y = c .before .before .before .before .before .before .before .before .before .update-parent in let d = c .before .before .before .before .before .before .before .before .before .before .before .before .required-depth in let z = c .before .before .before .before .result in (λ root. z .ensures .0 root ∙ finish-evaluated (a .h) root (a .height) (a .goal) (a .available) (a .step) (a .graph .now) (a .cache .now) (a .o) (o .0 .0) (o .0 .1 .0) (o .0 .1 .1 .0) (o .1) (d .result) (c .before .before .before .before .before .before .before .before .before .before .before .minus .result) (required-is (a .h .goals) (a .height) (a .graph .now) (c .before .before .before .before .before .before .before .before .before .before .before .before .before .frame-at .result .now) (d .result) (c .before .before .before .before .before .before .before .before .before .before .before .before .before .frame-at .ensures) (d .ensures .0)) (c .before .before .before .before .before .before .before .before .before .before .before .minus .ensures) (y .last .0) (y .ensures .0) (y .ensures .1 .0) (y .ensures .1 .1), z .ensures .1)
+returns-2 c = let a = c .before .before .before .before .before .before .before .before .before .before .before .before .before .before .before .before .before .before .before .before .args in let o = c .before .before .before .before .before .before .before .before .before .before .before .before .before .before .before .before .o2 .given in let y = c .before .before .before .before .before .before .before .before .before .update-parent in let d = c .before .before .before .before .before .before .before .before .before .before .before .before .required-depth in let z = c .before .before .before .before .result in record { is = λ root. z .ensures .is root ∙ finish-evaluated (a .h) root (a .height) (a .goal) (a .available) (a .step) (a .graph .now) (a .cache .now) (a .o) (o .0 .0) (o .0 .1 .0) (o .0 .1 .1 .0) (o .1) (d .result) (c .before .before .before .before .before .before .before .before .before .before .before .minus .result) (required-is (a .h .goals) (a .height) (a .graph .now) (c .before .before .before .before .before .before .before .before .before .before .before .before .before .frame-at .result .now) (d .result) (c .before .before .before .before .before .before .before .before .before .before .before .before .before .frame-at .ensures) (d .ensures .0)) (c .before .before .before .before .before .before .before .before .before .before .before .minus .ensures) (y .last .0) (y .ensures); few = z .ensures .few }
 
 pub finish-spec : {M : Type 1} → statement M
 finish-spec =

@@ -39,19 +39,19 @@ same-length : tie.Need-same-length
 same-length c = search needs
 
 returns : tie.Need-returns
-returns c = let s = c .before .before .before .before .before .before .before .before in let a = s .args in (λ root cache next. follows-finish (rerunBy (a .left) next) (a .overflow) (graphOf (a .goals) root (a .own) (a .entries) (a .graph .now) cache) (frameAt (a .goals) (a .own) (a .graph .now)) (a .answer) (c .before .before .before .either .result) (met-is (a .goals) (a .own) (a .graph .now) (c .before .before .before .before .before .frame-at .result .now) (a .overflow) (c .before .before .before .before .overflow .result) (c .before .before .before .either .result) (c .before .before .before .before .before .frame-at .ensures) (c .before .before .before .before .overflow .ensures) (c .before .before .before .either .ensures)) (c .before .before .next-of .result) (next-is (a .goals) (a .own) (a .graph .now) (c .before .before .before .before .before .frame-at .result .now) (a .answer) (nextFor (c .before .before .next-of .result)) (c .before .before .before .before .before .frame-at .ensures) (c .before .before .next-of .ensures)) (c .enum-told .given .1) ∙ finished-turn (a .goals) root (a .own) (a .entries) next (a .graph .now) cache (c .before .before .before .either .result) (a .answer), s .pre .1 .1)
+returns c = let s = c .before .before .before .before .before .before .before .before in let a = s .args in record { is = λ root cache next. follows-finish (rerunBy (a .left) next) (a .overflow) (graphOf (a .goals) root (a .own) (a .entries) (a .graph .now) cache) (frameAt (a .goals) (a .own) (a .graph .now)) (a .answer) (c .before .before .before .either .result) (met-is (a .goals) (a .own) (a .graph .now) (c .before .before .before .before .before .frame-at .result .now) (a .overflow) (c .before .before .before .before .overflow .result) (c .before .before .before .either .result) (c .before .before .before .before .before .frame-at .ensures) (c .before .before .before .before .overflow .ensures) (c .before .before .before .either .ensures)) (c .before .before .next-of .result) (next-is (a .goals) (a .own) (a .graph .now) (c .before .before .before .before .before .frame-at .result .now) (a .answer) (nextFor (c .before .before .next-of .result)) (c .before .before .before .before .before .frame-at .ensures) (c .before .before .next-of .ensures)) (c .enum-told .given .1) ∙ finished-turn (a .goals) root (a .own) (a .entries) next (a .graph .now) cache (c .before .before .before .either .result) (a .answer); few = s .pre .1 .1 }
 
 same-length-2 : tie.Need-same-length-2
 same-length-2 c = search needs
 
 returns-2 : tie.Need-returns-2
-returns-2 c = let a = c .before .before .before .before .before .before .before .before .before .before .before .before .before .args in let y = c .before .before .rebased in (λ root cache next. follows-rebase (rerunBy (a .left) next) (a .overflow) (graphOf (a .goals) root (a .own) (a .entries) (a .graph .now) cache) (frameAt (a .goals) (a .own) (a .graph .now)) (a .answer) (c .before .before .before .before .before .before .before .before .either .result) (met-is (a .goals) (a .own) (a .graph .now) (c .before .before .before .before .before .before .before .before .before .before .frame-at .result .now) (a .overflow) (c .before .before .before .before .before .before .before .before .before .overflow .result) (c .before .before .before .before .before .before .before .before .either .result) (c .before .before .before .before .before .before .before .before .before .before .frame-at .ensures) (c .before .before .before .before .before .before .before .before .before .overflow .ensures) (c .before .before .before .before .before .before .before .before .either .ensures)) (c .before .before .before .before .before .before .before .next-of .result) (next-is (a .goals) (a .own) (a .graph .now) (c .before .before .before .before .before .before .before .before .before .before .frame-at .result .now) (a .answer) (nextFor (c .before .before .before .before .before .before .before .next-of .result)) (c .before .before .before .before .before .before .before .before .before .before .frame-at .ensures) (c .before .before .before .before .before .before .before .next-of .ensures)) (c .before .before .before .before .before .follows .given .0 .0) (c .before .before .before .before .before .follows .given .1) ∙ sym (y .ensures .0 root cache) ∙ end-turn (a .goals) root (a .own) next (y .last .0) cache (y .result), y .ensures .1)
+returns-2 c = let a = c .before .before .before .before .before .before .before .before .before .before .before .before .before .args in let y = c .before .before .rebased in record { is = λ root cache next. follows-rebase (rerunBy (a .left) next) (a .overflow) (graphOf (a .goals) root (a .own) (a .entries) (a .graph .now) cache) (frameAt (a .goals) (a .own) (a .graph .now)) (a .answer) (c .before .before .before .before .before .before .before .before .either .result) (met-is (a .goals) (a .own) (a .graph .now) (c .before .before .before .before .before .before .before .before .before .before .frame-at .result .now) (a .overflow) (c .before .before .before .before .before .before .before .before .before .overflow .result) (c .before .before .before .before .before .before .before .before .either .result) (c .before .before .before .before .before .before .before .before .before .before .frame-at .ensures) (c .before .before .before .before .before .before .before .before .before .overflow .ensures) (c .before .before .before .before .before .before .before .before .either .ensures)) (c .before .before .before .before .before .before .before .next-of .result) (next-is (a .goals) (a .own) (a .graph .now) (c .before .before .before .before .before .before .before .before .before .before .frame-at .result .now) (a .answer) (nextFor (c .before .before .before .before .before .before .before .next-of .result)) (c .before .before .before .before .before .before .before .before .before .before .frame-at .ensures) (c .before .before .before .before .before .before .before .next-of .ensures)) (c .before .before .before .before .before .follows .given .0 .0) (c .before .before .before .before .before .follows .given .1) ∙ sym (y .ensures .is root cache) ∙ end-turn (a .goals) root (a .own) next (y .last .0) cache (y .result); few = y .ensures .few }
 
 same-length-3 : tie.Need-same-length-3
 same-length-3 c = search needs
 
 returns-3 : tie.Need-returns-3
-returns-3 c = let a = c .before .before .before .before .before .before .before .before .before .before .before .before .args in let y = c .before .before .again in (λ root cache next. follows-rerun (rerunBy (a .left) next) (a .overflow) (graphOf (a .goals) root (a .own) (a .entries) (a .graph .now) cache) (frameAt (a .goals) (a .own) (a .graph .now)) (a .answer) (c .before .before .before .before .before .before .before .either .result) (met-is (a .goals) (a .own) (a .graph .now) (c .before .before .before .before .before .before .before .before .before .frame-at .result .now) (a .overflow) (c .before .before .before .before .before .before .before .before .overflow .result) (c .before .before .before .before .before .before .before .either .result) (c .before .before .before .before .before .before .before .before .before .frame-at .ensures) (c .before .before .before .before .before .before .before .before .overflow .ensures) (c .before .before .before .before .before .before .before .either .ensures)) (c .before .before .before .before .before .before .next-of .result) (next-is (a .goals) (a .own) (a .graph .now) (c .before .before .before .before .before .before .before .before .before .frame-at .result .now) (a .answer) (nextFor (c .before .before .before .before .before .before .next-of .result)) (c .before .before .before .before .before .before .before .before .before .frame-at .ensures) (c .before .before .before .before .before .before .next-of .ensures)) (c .before .before .before .before .enum-told2 .given .1) ∙ y .ensures .0 root cache next, y .ensures .1)
+returns-3 c = let a = c .before .before .before .before .before .before .before .before .before .before .before .before .args in let y = c .before .before .again in record { is = λ root cache next. follows-rerun (rerunBy (a .left) next) (a .overflow) (graphOf (a .goals) root (a .own) (a .entries) (a .graph .now) cache) (frameAt (a .goals) (a .own) (a .graph .now)) (a .answer) (c .before .before .before .before .before .before .before .either .result) (met-is (a .goals) (a .own) (a .graph .now) (c .before .before .before .before .before .before .before .before .before .frame-at .result .now) (a .overflow) (c .before .before .before .before .before .before .before .before .overflow .result) (c .before .before .before .before .before .before .before .either .result) (c .before .before .before .before .before .before .before .before .before .frame-at .ensures) (c .before .before .before .before .before .before .before .before .overflow .ensures) (c .before .before .before .before .before .before .before .either .ensures)) (c .before .before .before .before .before .before .next-of .result) (next-is (a .goals) (a .own) (a .graph .now) (c .before .before .before .before .before .before .before .before .before .frame-at .result .now) (a .answer) (nextFor (c .before .before .before .before .before .before .next-of .result)) (c .before .before .before .before .before .before .before .before .before .frame-at .ensures) (c .before .before .before .before .before .before .next-of .ensures)) (c .before .before .before .before .enum-told2 .given .1) ∙ y .ensures .is root cache next; few = y .ensures .few }
 
 pub popped-spec : {M : Type 1} → statement M
 popped-spec =

@@ -38,7 +38,7 @@ same-length : tie.Need-same-length
 same-length c = search needs
 
 returns : tie.Need-returns
-returns c = let s = c .before .before .before .before .before .before .before .before .before .before .before .before in let a = s .args in let z = c .before .before .update-from-frame in let y = c .before .before .before .before .before .before .before .copy in let f = frameAt (a .goals) (a .height) (a .graph .now) in (z .ensures .0 ∙ parent-child (stackOf (a .goals) (a .height) (a .graph .now)) (a .step) (f .heads) (a .overflow) _ (f .nestedGoals) (a .reached) (array-first (a .goals) (s .pre .0 .few) (y .last .0) (y .kept .0) ∙ y .ensures ∙ c .before .before .before .before .before .before .before .before .nested-at .ensures), z .ensures .1)
+returns c = let s = c .before .before .before .before .before .before .before .before .before .before .before .before in let a = s .args in let z = c .before .before .update-from-frame in let y = c .before .before .before .before .before .before .before .copy in let f = frameAt (a .goals) (a .height) (a .graph .now) in record { stack = z .ensures .0 ∙ parent-child (stackOf (a .goals) (a .height) (a .graph .now)) (a .step) (f .heads) (a .overflow) _ (f .nestedGoals) (a .reached) (array-first (a .goals) (s .pre .0 .few) (y .last .0) (y .kept .0) ∙ y .ensures ∙ c .before .before .before .before .before .before .before .before .nested-at .ensures); entries = z .ensures .1 .0; frame = z .ensures .1 .1 }
 
 pub update-parent-spec : {M : Type 1} → statement M
 update-parent-spec =

@@ -15,7 +15,7 @@ required-depth-requires : tie.Need-required-depth-requires
 required-depth-requires c κs = let s = c .before .before .before in frame-bytes (s .args .h .goals) (s .args .graph .now) (c .frame-at .result .now) (s .args .height) (s .pre .room .bytes) (s .pre .room .under) (c .frame-at .ensures)
 
 returns : tie.Need-returns
-returns c = let s = c .before .before .before .before .before in let a = s .args in let d = c .before .required-depth in (λ root. global-past (a .h) root (a .height) (a .entries) (a .goal) (a .overflow) (a .answer) (a .graph .now) (a .cache .now) (d .result) (required-is (a .h .goals) (a .height) (a .graph .now) (c .before .before .frame-at .result .now) (d .result) (c .before .before .frame-at .ensures) (d .ensures .0)) (c .if1 .taken), tt)
+returns c = let s = c .before .before .before .before .before in let a = s .args in let d = c .before .required-depth in record { is = λ root. global-past (a .h) root (a .height) (a .entries) (a .goal) (a .overflow) (a .answer) (a .graph .now) (a .cache .now) (d .result) (required-is (a .h .goals) (a .height) (a .graph .now) (c .before .before .frame-at .result .now) (d .result) (c .before .before .frame-at .ensures) (d .ensures .0)) (c .if1 .taken); few = tt }
 
 nested-at-requires : tie.Need-nested-at-requires
 nested-at-requires c κs = search needs
@@ -33,13 +33,13 @@ same-length : tie.Need-same-length
 same-length c = search needs
 
 returns-2 : tie.Need-returns-2
-returns-2 c = let s = c .before .before .before .before .before .before .before .before .before .before .before .before in let a = s .args in let d = c .before .before .before .before .before .before .before .before .required-depth in let y = c .before .before .before .before .insert in (λ root. global-kept (a .h) root (a .height) (a .entries) (a .goal) (a .overflow) (a .answer) (a .graph .now) (a .cache .now) (d .result) (required-is (a .h .goals) (a .height) (a .graph .now) (c .before .before .before .before .before .before .before .before .before .frame-at .result .now) (d .result) (c .before .before .before .before .before .before .before .before .before .frame-at .ensures) (d .ensures .0)) (c .before .before .before .before .before .before .before .if1 .left) (c .before .before .before .before .before .before .nested-at .result .now) (c .before .before .before .before .before .before .nested-at .ensures) (y .result) (y .last .0) (y .ensures .0) (c .enum-told .given .1), s .pre .room .few)
+returns-2 c = let s = c .before .before .before .before .before .before .before .before .before .before .before .before in let a = s .args in let d = c .before .before .before .before .before .before .before .before .required-depth in let y = c .before .before .before .before .insert in record { is = λ root. global-kept (a .h) root (a .height) (a .entries) (a .goal) (a .overflow) (a .answer) (a .graph .now) (a .cache .now) (d .result) (required-is (a .h .goals) (a .height) (a .graph .now) (c .before .before .before .before .before .before .before .before .before .frame-at .result .now) (d .result) (c .before .before .before .before .before .before .before .before .before .frame-at .ensures) (d .ensures .0)) (c .before .before .before .before .before .before .before .if1 .left) (c .before .before .before .before .before .before .nested-at .result .now) (c .before .before .before .before .before .before .nested-at .ensures) (y .result) (y .last .0) (y .ensures .0) (c .enum-told .given .1); few = s .pre .room .few }
 
 same-length-2 : tie.Need-same-length-2
 same-length-2 c = search needs
 
 returns-3 : tie.Need-returns-3
-returns-3 c = let s = c .before .before .before .before .before .before .before .before .before .before .before .before in let a = s .args in let d = c .before .before .before .before .before .before .before .before .required-depth in let y = c .before .before .before .before .insert in (λ root. global-conflict (a .h) root (a .height) (a .entries) (a .goal) (a .overflow) (a .answer) (a .graph .now) (a .cache .now) (d .result) (required-is (a .h .goals) (a .height) (a .graph .now) (c .before .before .before .before .before .before .before .before .before .frame-at .result .now) (d .result) (c .before .before .before .before .before .before .before .before .before .frame-at .ensures) (d .ensures .0)) (c .before .before .before .before .before .before .before .if1 .left) (c .before .before .before .before .before .before .nested-at .result .now) (c .before .before .before .before .before .before .nested-at .ensures) (y .result) (y .last .0) (y .ensures .0) (c .enum-told2 .given .1), tt)
+returns-3 c = let s = c .before .before .before .before .before .before .before .before .before .before .before .before in let a = s .args in let d = c .before .before .before .before .before .before .before .before .required-depth in let y = c .before .before .before .before .insert in record { is = λ root. global-conflict (a .h) root (a .height) (a .entries) (a .goal) (a .overflow) (a .answer) (a .graph .now) (a .cache .now) (d .result) (required-is (a .h .goals) (a .height) (a .graph .now) (c .before .before .before .before .before .before .before .before .before .frame-at .result .now) (d .result) (c .before .before .before .before .before .before .before .before .before .frame-at .ensures) (d .ensures .0)) (c .before .before .before .before .before .before .before .if1 .left) (c .before .before .before .before .before .before .nested-at .result .now) (c .before .before .before .before .before .before .nested-at .ensures) (y .result) (y .last .0) (y .ensures .0) (c .enum-told2 .given .1); few = tt }
 
 pub in-global-cache-spec : {M : Type 1} → statement M
 in-global-cache-spec =

@@ -12,8 +12,8 @@ nested-start-requires c κs = search needs
 add-a : tie.Need-add-a
 add-a c = search needs
 
-add-e : tie.Need-add-e
-add-e c = search needs
+add-end : tie.Need-add-end
+add-end c = search needs
 
 sub-result : tie.Need-sub-result
 sub-result c = search needs
@@ -34,7 +34,7 @@ nested-at-spec =
     frame-start-requires
     nested-start-requires
     add-a
-    add-e
+    add-end
     sub-result
     part-result-start
     part-result-end
