@@ -19,8 +19,8 @@ use Rattle.definition.specs.Parent.{updateParentGoal, Ordinary}
 use Rattle.definition.specs.GlobalCache.{cacheInsert}
 use Rattle.definition.specs.Evaluate.{insertInSlot, insertGlobalCache, insertProvisionalCache, insertResult, afterTask}
 use Rattle.layout.specs.Frame.{frameOf}
-use Rattle.layout.specs.Work.{stackOf, entriesOf, graphOf}
-use Rattle.stack.specs.Bytes.{frameBytes, frameAt}
+use Rattle.layout.specs.Work.{stackOf, graphOf}
+use Rattle.stack.specs.Bytes.{frameAt}
 use Rattle.global_cache.specs.declared.Insertion.{Insertion}
 use Rattle.global_cache.specs.declared.Insertion.the-variants.{Kept, Conflict}
 use Rattle.global_cache.specs.Cache.{headerWith, evaluated, inserted}

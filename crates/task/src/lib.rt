@@ -40,7 +40,8 @@ fn rebased(
     answer: Answer,
 ) -> TaskOutcome
     requires { ⌜ GraphBytes goals (now graph) × ((own < goals) × (entries ≤ 2 * goals)) ⌝ }
-    ensures { λ r. ⌜ TaskRebased goals own entries reason overflow answer (now (graph .entry)) (now (graph .exit)) r ⌝ }
+    ensures { λ r. ⌜ TaskRebased goals own entries reason overflow answer
+        (now (graph .entry)) (now (graph .exit)) r ⌝ }
 {
     let left = rebase::rebase_provisional_cache_entries(graph, goals, own, reason, entries);
     TaskOutcome::Evaluated(answer, overflow, left)
@@ -57,7 +58,8 @@ fn again(
     answer: Answer,
 ) -> Iteration
     requires { ⌜ GraphBytes goals (now graph) × ((own < goals) × (entries ≤ 2 * goals)) ⌝ }
-    ensures { λ r. ⌜ RunAgain goals own entries left overflow answer (now (graph .entry)) (now (graph .exit)) r ⌝ }
+    ensures { λ r. ⌜ RunAgain goals own entries left overflow answer
+        (now (graph .entry)) (now (graph .exit)) r ⌝ }
 {
     if left == 0 {
         let reason = RebaseReason::Ambiguity(Answer::Overflow);
@@ -87,7 +89,8 @@ fn popped(
     answer: Answer,
 ) -> Iteration
     requires { ⌜ GraphBytes goals (now graph) × ((own < goals) × (entries ≤ 2 * goals)) ⌝ }
-    ensures { λ r. ⌜ FramePopped goals own entries left overflow answer (now (graph .entry)) (now (graph .exit)) r ⌝ }
+    ensures { λ r. ⌜ FramePopped goals own entries left overflow answer
+        (now (graph .entry)) (now (graph .exit)) r ⌝ }
 {
     let f = stack::frame_at(graph, goals, own);
     let met = scalars::either(overflow, frame::overflow(f, goals));

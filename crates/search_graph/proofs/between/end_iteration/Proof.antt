@@ -31,7 +31,7 @@ same-length c = search needs
 returns : tie.Need-returns
 returns c =
     let s = c .before .before .before .before .before .before in let l = c .before .before .end-iteration in
-    iteration-ended (s .args .goals) (s .args .work .now) (c .before .before .before .before .graph-length .result) (s .pre .0) (c .before .before .before .before .graph-length .ensures .0) (l .last .1 .0) (l .kept .1 .0) (s .args .height) (s .args .left) (s .args .overflow) (s .args .o) (l .result) (l .ensures .0) (l .ensures .1)
+    iteration-ended (s .args .goals) (s .args .work .now) (c .before .before .before .before .graph-length .result) (s .pre .0) (c .before .before .before .before .graph-length .ensures .0) (l .last .1 .0) (l .kept .1 .0) (s .args .height) (s .args .left) (s .args .overflow) (s .args .o) (l .result) (l .ensures)
 
 pub end-iteration-spec : {M : Type 1} → statement M
 end-iteration-spec =

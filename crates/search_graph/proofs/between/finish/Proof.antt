@@ -37,7 +37,7 @@ same-length-2 c = search needs
 returns : tie.Need-returns
 returns c =
     let s = c .before .before .before .before .before .before .before .before .before .before in let l = c .before .before .before .before .finish in
-    finished (s .args .h) (s .args .work .now) (c .before .before .before .before .before .before .before .graph-length .result) (s .pre .bytes) (c .before .before .before .before .before .before .before .graph-length .ensures .0) (l .last .1 .1 .0) (l .kept .1 .1 .0) (s .args .height) (s .args .goal) (s .args .step) (s .args .available) (s .args .o) (s .args .cache .now) (l .last .1 .0) (l .result) (l .ensures .0) (l .ensures .1)
+    finished (s .args .h) (s .args .work .now) (c .before .before .before .before .before .before .before .graph-length .result) (s .pre .bytes) (c .before .before .before .before .before .before .before .graph-length .ensures .0) (l .last .1 .1 .0) (l .kept .1 .1 .0) (s .args .height) (s .args .goal) (s .args .step) (s .args .available) (s .args .o) (s .args .cache .now) (l .last .1 .0) (l .result) (l .ensures)
 
 pub finish-spec : {M : Type 1} → statement M
 finish-spec =

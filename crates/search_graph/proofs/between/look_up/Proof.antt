@@ -31,7 +31,7 @@ same-length c = search needs
 returns : tie.Need-returns
 returns c =
     let s = c .before .before .before .before .before .before .before in let l = c .before .before .lookup in
-    looked-up (s .args .h) (s .args .work .now) (c .before .before .before .before .graph-length .result) (s .pre .bytes) (c .before .before .before .before .graph-length .ensures .0) (l .last .1 .0) (l .kept .1 .0) (s .args .root) (s .args .height) (s .args .entries) (s .args .goal) (s .args .step) (s .args .lower) (s .args .cache .now) (l .result) (l .ensures .0) (l .ensures .1)
+    looked-up (s .args .h) (s .args .work .now) (c .before .before .before .before .graph-length .result) (s .pre .bytes) (c .before .before .before .before .graph-length .ensures .0) (l .last .1 .0) (l .kept .1 .0) (s .args .root) (s .args .height) (s .args .entries) (s .args .goal) (s .args .step) (s .args .lower) (s .args .cache .now) (l .result) (l .ensures)
 
 pub look-up-spec : {M : Type 1} → statement M
 look-up-spec =
