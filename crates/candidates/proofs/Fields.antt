@@ -10,9 +10,9 @@ use Rattle.definition.specs.declared.usages.HeadUsages.{HeadUsages}
 use Rattle.definition.specs.declared.heads.CycleHead.{CycleHead}
 use Rattle.definition.specs.Usages.{noUsages, addUsages, ignoreUsages, usagesCover}
 use Rattle.definition.specs.Heads.{CycleHeads, usagesAt, ignoreAtHead}
-use Rattle.definition.specs.Stack.{Frame}
+use Rattle.definition.specs.Stack.{Frame, withHeads, withUsages, withCandidateUsages}
 use Rattle.definition.specs.Parent.{orNoUsages}
-use Rattle.definition.specs.Candidates.{noCandidateUsages, withUsages, ignoreOwnUsages}
+use Rattle.definition.specs.Candidates.{noCandidateUsages, ignoreOwnUsages}
 use Rattle.bits.specs.Masks.{flags}
 use Rattle.bits.proofs.Flags.{length-flags, flags-zero}
 use Rattle.bits.proofs.Marks.{only}
@@ -23,9 +23,10 @@ use Rattle.layout.specs.Blocks.{usagesSize, usagesOf, flagAt, headOf, headsSize
 use Rattle.layout.specs.Frame.{candidateStart, nestedStart, headsStart, frameSize, whenSet, frameOf}
 use Rattle.layout.proofs.Blocks.{kept-clear}
 use Rattle.layout.proofs.Present.{head-known, head-unknown}
-use Rattle.layout.proofs.Frames.{frame-has-candidate, frame-usages, frame-heads, frame-candidate, withHeads, withOwnUsages, withCandidateUsages}
+use Rattle.layout.proofs.Frames.{frame-has-candidate, frame-usages, frame-heads, frame-candidate}
 use Rattle.stack.specs.Bytes.{FrameBytes}
 use Rattle.stack.specs.Results.{isSome}
+use Rattle.stack.proofs.Blocks.{head-part}
 use Rattle.stack.proofs.Parts.{part, returned, part-length, part-back}
 use Rattle.candidates.specs.Steps.{Names, keep, trackedOf, addAt, ignoreAt, withTracked, ignoreHeadAt, ignoreOwn}
 use Rattle.candidates.proofs.Kept.{keep-up, keep-no-usages, below-only}
@@ -67,24 +68,6 @@ module _ (goals : ℕ) (bs : List ℕ) (i : ℕ) (lt : i < goals) (u : HeadUsage
       is-y
       ∙ ap (λ (v : HeadUsages). set hs i (some (record { paths = h .paths; usages = v }))) is-x
       ∙ sym (ap (λ (o : Option CycleHead). set hs i (ignoreAtHead o u)) known)
-
--- ---- the blocks of a frame
-pub head-part : (goals : ℕ) (bs : List ℕ) (e : ℕ) → e ≡ candidateStart goals → part bs 40 e ≡ region headsStart (headsSize goals) bs
-head-part goals bs e is = let w : e - 40 ≡ headsSize goals = omega arith in ap (λ (m : ℕ). region 40 m bs) w
-
-pub candidate-part : (goals : ℕ) (bs : List ℕ) (a e : ℕ) → a ≡ candidateStart goals → e ≡ nestedStart goals → part bs a e ≡ region (candidateStart goals) (blockSize goals) bs
-candidate-part goals bs a e is-a is-e = let w : e - a ≡ blockSize goals = omega arith in ap₂ (λ (k m : ℕ). region k m bs) is-a w
-
-module _ (goals : ℕ) (bs r : List ℕ) (f : FrameBytes goals bs) where
-  pub heads-block : r ≡ region headsStart (headsSize goals) bs → HeadsBlock goals r
-  heads-block e =
-      let long : length bs ≡ frameSize goals = f .long in
-      record { few = f .few; long = ap length e ∙ length-region headsStart (headsSize goals) bs (omega arith) }
-
-  pub candidate-block : r ≡ region (candidateStart goals) (blockSize goals) bs → UsagesBlock goals r
-  candidate-block e =
-      let long : length bs ≡ frameSize goals = f .long in
-      record { few = f .few; long = ap length e ∙ length-region (candidateStart goals) (blockSize goals) bs (omega arith) }
 
 -- ---- what a frame tracks
 abbrev chosen : ℕ → Option (List HeadUsages) → List HeadUsages
@@ -164,7 +147,7 @@ own-none none u e = refl
 own-none (some v) u e = absurd (true≢false e)
 
 pub ignore-own-none : (f : Frame) (u : HeadUsages) (t : Bool) → t ≡ isSome (f .usages) → t ≡ false → f ≡ ignoreOwn u f
-ignore-own-none f u t is e = ap (λ (o : Option HeadUsages). withUsages f (f .heads) o (f .candidateUsages)) (own-none (f .usages) u (sym is ∙ e))
+ignore-own-none f u t is e = ap (withUsages f) (own-none (f .usages) u (sym is ∙ e))
 
 own-some : (n : ℕ) (v u : HeadUsages) → whenSet n (ignoreUsages (orNoUsages (whenSet n v)) u) ≡ ignoreOwnUsages (whenSet n v) u
 own-some zero v u = refl
@@ -177,5 +160,5 @@ ignore-own-frame goals bs ys before x u long is-b is-x kept is-y =
     let n : length ys ≡ 32 = omega (arith, part-length bs 8 40 ys (omega arith) (omega arith) kept) in
     ap (frameOf goals) (part-back bs 8 40 ys (omega arith) (omega arith) kept)
     ∙ frame-usages goals bs long ys n
-    ∙ ap (λ (v : HeadUsages). withOwnUsages (frameOf goals bs) (whenSet (getD bs 6 0) v)) (is-y ∙ is-x ∙ ap (λ (b : HeadUsages). ignoreUsages b u) is-b)
-    ∙ ap (withOwnUsages (frameOf goals bs)) (own-some (getD bs 6 0) (usagesOf (region 8 32 bs)) u)
+    ∙ ap (λ (v : HeadUsages). withUsages (frameOf goals bs) (whenSet (getD bs 6 0) v)) (is-y ∙ is-x ∙ ap (λ (b : HeadUsages). ignoreUsages b u) is-b)
+    ∙ ap (withUsages (frameOf goals bs)) (own-some (getD bs 6 0) (usagesOf (region 8 32 bs)) u)

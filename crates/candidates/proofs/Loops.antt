@@ -8,9 +8,9 @@ use lib.ListN.{length, getD, set, take, replicate}
 use Rattle.definition.specs.declared.usages.HeadUsages.{HeadUsages}
 use Rattle.definition.specs.Usages.{noUsages, usagesCover, mergeUsages}
 use Rattle.definition.specs.Heads.{CycleHeads, usagesAt, ignoreAtHeads}
-use Rattle.definition.specs.Stack.{Frame, Stack}
+use Rattle.definition.specs.Stack.{Frame, Stack, withHeads, withUsages}
 use Rattle.definition.specs.Parent.{orNoUsages}
-use Rattle.definition.specs.Candidates.{withUsages, candidateUsagesOf, headsCover, canIgnore, ignoreOnTop, ignoreOwnUsages}
+use Rattle.definition.specs.Candidates.{candidateUsagesOf, headsCover, canIgnore, ignoreOnTop, ignoreOwnUsages}
 use Rattle.bits.specs.Masks.{flags, firstPlace, placeOr}
 use Rattle.bits.proofs.Flags.{length-flags}
 use Rattle.bits.proofs.Marks.{keep-get, none-left, turn-set, turn-at, turn-still, turn-rest}
@@ -178,9 +178,6 @@ pub record Ignoring (goals own : ℕ) (old new : List ℕ) (left : ℕ) : Type 0
   pub written : FrameWritten goals own (topOf goals own new) old new
   pub rest : ignoreHeads (keep (flags 64 left) (mergedOf goals own old)) (topOf goals own new) ≡ ignoreHeads (mergedOf goals own old) (topOf goals own old)
 
-abbrev withThose : Frame → CycleHeads → Frame
-withThose f hs = withUsages f hs (f .usages) (f .candidateUsages)
-
 module _ (goals own : ℕ) (lt : own < goals) (old : List ℕ) (bytes : WorkBytes goals old) where
   pub ignore-start : (b : List ℕ) (left : ℕ) → b ≡ mergedBytes goals own old → left < 2 ^ 64 → Names goals left (candidateOf goals b) → Ignoring goals own old old left
   ignore-start b left is-b small names =
@@ -213,7 +210,7 @@ module _ (goals own : ℕ) (lt : own < goals) (old : List ℕ) (bytes : WorkByte
           written = frame-same goals own g old new (frame-again goals own f old now (inv .written) g new w) (topOf goals own new) (sym top-new);
           rest =
               ap₂ ignoreHeads (turn-rest left i pos (inv .small) is left′ is-left noUsages us) top-new
-              ∙ ap (withThose f) (ignore-one (f .heads) (keep (flags 64 left) us) i u at)
+              ∙ ap (withHeads f) (ignore-one (f .heads) (keep (flags 64 left) us) i u at)
               ∙ inv .rest;
         }
 
@@ -221,7 +218,7 @@ module _ (goals own : ℕ) (lt : own < goals) (old : List ℕ) (bytes : WorkByte
     ignore-done h =
         let us : List HeadUsages = mergedOf goals own old in
         let f : Frame = topOf goals own now in
-        let is : f ≡ ignoreHeads us (topOf goals own old) = ap (withThose f) (sym (ignore-none (f .heads) (keep (flags 64 left) us) (none-left noUsages left h us))) ∙ inv .rest in
+        let is : f ≡ ignoreHeads us (topOf goals own old) = ap (withHeads f) (sym (ignore-none (f .heads) (keep (flags 64 left) us) (none-left noUsages left h us))) ∙ inv .rest in
         frame-same goals own f old now (inv .written) (ignoreHeads us (topOf goals own old)) is
 
 -- ---- `ignore`
@@ -238,7 +235,7 @@ ignored goals own old mid new b u lt ok w is-b is-u v =
     let a = frame-again goals own (ignoreHeads us f) old mid w (ignoreOwn u (topOf goals own mid)) new v in (
       a .stack
           ∙ ap₂ (λ (g : Frame) (x : HeadUsages). ignoreOwn x g ∷ fs) (frame-now goals own (ignoreHeads us f) old mid w) at
-          ∙ ap (λ (n : ℕ). withUsages f (ignoreAtHeads (f .heads) us) (ignoreOwnUsages (f .usages) (getD us n noUsages)) (f .candidateUsages) ∷ fs) (sym (length-stack goals own (graphIn goals old)))
+          ∙ ap (λ (n : ℕ). withUsages (withHeads f (ignoreAtHeads (f .heads) us)) (ignoreOwnUsages (f .usages) (getD us n noUsages)) ∷ fs) (sym (length-stack goals own (graphIn goals old)))
           ∙ sym (ap (ignoreOnTop us) (stack-top goals own (graphIn goals old))),
       (a .entries, a .merged),
     )

@@ -8,8 +8,8 @@ use lib.ListN.{getD, set}
 use Rattle.definition.specs.declared.usages.HeadUsages.{HeadUsages}
 use Rattle.definition.specs.Usages.{noUsages, addUsages}
 use Rattle.definition.specs.Heads.{CycleHeads, ignoreAtHead, ignoreAtHeads}
-use Rattle.definition.specs.Stack.{Frame}
-use Rattle.definition.specs.Candidates.{candidateUsagesOf, withUsages, ignoreOwnUsages}
+use Rattle.definition.specs.Stack.{Frame, withHeads, withUsages, withCandidateUsages}
+use Rattle.definition.specs.Candidates.{candidateUsagesOf, ignoreOwnUsages}
 use Rattle.bits.specs.Masks.{flags}
 
 -- the usages whose flag is set
@@ -38,13 +38,13 @@ ignoreAt i u hs = set hs i (ignoreAtHead (getD hs i none) u)
 
 -- on a frame
 abbrev pub withTracked : Option (List HeadUsages) → Frame → Frame
-withTracked c f = withUsages f (f .heads) (f .usages) c
+withTracked c f = withCandidateUsages f c
 
 abbrev pub ignoreHeadAt : ℕ → HeadUsages → Frame → Frame
-ignoreHeadAt i u f = withUsages f (ignoreAt i u (f .heads)) (f .usages) (f .candidateUsages)
+ignoreHeadAt i u f = withHeads f (ignoreAt i u (f .heads))
 
 abbrev pub ignoreHeads : List HeadUsages → Frame → Frame
-ignoreHeads us f = withUsages f (ignoreAtHeads (f .heads) us) (f .usages) (f .candidateUsages)
+ignoreHeads us f = withHeads f (ignoreAtHeads (f .heads) us)
 
 abbrev pub ignoreOwn : HeadUsages → Frame → Frame
-ignoreOwn u f = withUsages f (f .heads) (ignoreOwnUsages (f .usages) u) (f .candidateUsages)
+ignoreOwn u f = withUsages f (ignoreOwnUsages (f .usages) u)

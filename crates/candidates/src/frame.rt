@@ -15,8 +15,8 @@ ghost use Rattle.definition.specs.Heads.{usagesAt};
 ghost use Rattle.definition.specs.Parent.{orNoUsages};
 ghost use Rattle.definition.specs.Candidates.{noCandidateUsages};
 ghost use Rattle.buffer.specs.Regions.{region};
-ghost use Rattle.layout.specs.Blocks.{headsSize, blockSize};
-ghost use Rattle.layout.specs.Frame.{headsStart, candidateStart, frameOf};
+ghost use Rattle.layout.specs.Blocks.{blockSize};
+ghost use Rattle.layout.specs.Frame.{candidateStart, frameOf};
 ghost use Rattle.stack.specs.Bytes.{FrameBytes};
 ghost use Rattle.candidates.specs.Steps.{Names, trackedOf, withTracked, ignoreHeadAt, ignoreOwn};
 
@@ -26,9 +26,9 @@ pub fn enter(f: &mut [u8], goals: usize)
     ensures { λ _. ⌜ frameOf goals (now (f .exit)) ≡ withTracked (some (noCandidateUsages goals)) (frameOf goals (now (f .entry))) ⌝ }
 {
     let a = offsets::candidate_start(goals);
-    let e = offsets::nested_start(goals);
-    candidate::clear(&mut f[a..e], goals);
-    f[7] = 1;
+    let end = offsets::nested_start(goals);
+    candidate::clear(&mut f[a..end], goals);
+    f[offsets::FRAME_TRACKS] = 1;
 }
 
 // finish_single_candidate, which forgets the candidate's usages
@@ -36,16 +36,7 @@ pub fn finish(f: &mut [u8], goals: usize)
     requires { ⌜ FrameBytes goals (now f) ⌝ }
     ensures { λ _. ⌜ frameOf goals (now (f .exit)) ≡ withTracked none (frameOf goals (now (f .entry))) ⌝ }
 {
-    f[7] = 0;
-}
-
-// The block of heads.
-fn head_block(f: &[u8], goals: usize) -> &[u8]
-    requires { ⌜ FrameBytes goals (now f) ⌝ }
-    ensures { λ r. ⌜ now r ≡ region headsStart (headsSize goals) (now (f .entry)) ⌝ }
-{
-    let e = offsets::candidate_start(goals);
-    &f[40..e]
+    f[offsets::FRAME_TRACKS] = 0;
 }
 
 // The block of the candidate's usages.
@@ -54,8 +45,8 @@ fn candidate_block(f: &[u8], goals: usize) -> &[u8]
     ensures { λ r. ⌜ now r ≡ region (candidateStart goals) (blockSize goals) (now (f .entry)) ⌝ }
 {
     let a = offsets::candidate_start(goals);
-    let e = offsets::nested_start(goals);
-    &f[a..e]
+    let end = offsets::nested_start(goals);
+    &f[a..end]
 }
 
 // The indices that the candidate used.
@@ -85,7 +76,7 @@ pub fn head_covers(f: &[u8], goals: usize, i: usize, u: HeadUsages) -> bool
     requires { ⌜ FrameBytes goals (now f) × (i < goals) ⌝ }
     ensures { λ r. ⌜ r ≡ usagesCover (usagesAt ((frameOf goals (now (f .entry))) .heads) i) u ⌝ }
 {
-    let usages = heads::usages(head_block(f, goals), goals, i);
+    let usages = heads::usages(frame::heads(f, goals), goals, i);
     usages.covers(u)
 }
 
@@ -103,8 +94,8 @@ pub fn ignore_head(f: &mut [u8], goals: usize, i: usize, u: HeadUsages)
     requires { ⌜ FrameBytes goals (now f) × (i < goals) ⌝ }
     ensures { λ _. ⌜ frameOf goals (now (f .exit)) ≡ ignoreHeadAt i u (frameOf goals (now (f .entry))) ⌝ }
 {
-    let e = offsets::candidate_start(goals);
-    block::ignore(&mut f[40..e], goals, i, u);
+    let end = offsets::candidate_start(goals);
+    block::ignore(&mut f[offsets::FRAME_HEADS..end], goals, i, u);
 }
 
 // The usages u are taken from the frame's own, if it is a head.
@@ -116,5 +107,8 @@ pub fn ignore_own(f: &mut [u8], goals: usize, u: HeadUsages)
         return;
     }
     let before = frame::own_usages(f, goals);
-    records::write_usages(&mut f[8..40], before.ignore_usages(u));
+    records::write_usages(
+        &mut f[offsets::FRAME_USAGES..offsets::FRAME_HEADS],
+        before.ignore_usages(u),
+    );
 }

@@ -27,8 +27,8 @@ pub fn enter_single_candidate(graph: &mut [u8], goals: usize, own: usize)
     ensures { λ _. ⌜ (stackOf goals (own + 1) (now (graph .exit)) ≡ setCandidateUsages (some (noCandidateUsages goals)) (stackOf goals (own + 1) (now (graph .entry)))) × ((n : ℕ) → entriesOf goals n (now (graph .exit)) ≡ entriesOf goals n (now (graph .entry))) ⌝ }
 {
     let a = offsets::frame_start(goals, own);
-    let e = a + offsets::frame_size(goals);
-    frame::enter(&mut graph[a..e], goals);
+    let end = a + offsets::frame_size(goals);
+    frame::enter(&mut graph[a..end], goals);
 }
 
 pub fn finish_single_candidate(graph: &mut [u8], goals: usize, own: usize)
@@ -36,8 +36,8 @@ pub fn finish_single_candidate(graph: &mut [u8], goals: usize, own: usize)
     ensures { λ _. ⌜ (stackOf goals (own + 1) (now (graph .exit)) ≡ setCandidateUsages none (stackOf goals (own + 1) (now (graph .entry)))) × ((n : ℕ) → entriesOf goals n (now (graph .exit)) ≡ entriesOf goals n (now (graph .entry))) ⌝ }
 {
     let a = offsets::frame_start(goals, own);
-    let e = a + offsets::frame_size(goals);
-    frame::finish(&mut graph[a..e], goals);
+    let end = a + offsets::frame_size(goals);
+    frame::finish(&mut graph[a..end], goals);
 }
 
 // ---- the workspace's parts
@@ -48,8 +48,8 @@ fn top(work: &[u8], goals: usize, own: usize) -> &[u8]
     ensures { λ r. ⌜ now r ≡ topBytes goals own (now (work .entry)) ⌝ }
 {
     let a = offsets::frame_start(goals, own);
-    let e = a + offsets::frame_size(goals);
-    &work[a..e]
+    let end = a + offsets::frame_size(goals);
+    &work[a..end]
 }
 
 // The bytes of the merged usages.
@@ -58,8 +58,8 @@ fn merged(work: &[u8], goals: usize, own: usize) -> &[u8]
     ensures { λ r. ⌜ now r ≡ mergedBytes goals own (now (work .entry)) ⌝ }
 {
     let a = offsets::merged_start(goals, own);
-    let e = a + offsets::block_size(goals);
-    &work[a..e]
+    let end = a + offsets::block_size(goals);
+    &work[a..end]
 }
 
 // ---- merged usages
@@ -70,8 +70,8 @@ pub fn start(work: &mut [u8], goals: usize, own: usize)
     ensures { λ _. ⌜ MergedWritten goals own (noCandidateUsages goals) (now (work .entry)) (now (work .exit)) ⌝ }
 {
     let a = offsets::merged_start(goals, own);
-    let e = a + offsets::block_size(goals);
-    candidate::clear(&mut work[a..e], goals);
+    let end = a + offsets::block_size(goals);
+    candidate::clear(&mut work[a..end], goals);
 }
 
 // The merged usages of index i, with u.
@@ -80,8 +80,8 @@ fn add_at(work: &mut [u8], goals: usize, own: usize, i: usize, u: HeadUsages)
     ensures { λ _. ⌜ MergedWritten goals own (addAt i u (mergedOf goals own (now (work .entry)))) (now (work .entry)) (now (work .exit)) ⌝ }
 {
     let a = offsets::merged_start(goals, own);
-    let e = a + offsets::block_size(goals);
-    block::add(&mut work[a..e], goals, i, u);
+    let end = a + offsets::block_size(goals);
+    block::add(&mut work[a..end], goals, i, u);
 }
 
 // The usages of the candidate that is tracked are merged.
@@ -137,8 +137,8 @@ fn ignore_head(work: &mut [u8], goals: usize, own: usize, i: usize, u: HeadUsage
     ensures { λ _. ⌜ FrameWritten goals own (ignoreHeadAt i u (topOf goals own (now (work .entry)))) (now (work .entry)) (now (work .exit)) ⌝ }
 {
     let a = offsets::frame_start(goals, own);
-    let e = a + offsets::frame_size(goals);
-    frame::ignore_head(&mut work[a..e], goals, i, u);
+    let end = a + offsets::frame_size(goals);
+    frame::ignore_head(&mut work[a..end], goals, i, u);
 }
 
 // The usages u are taken from the frame's own.
@@ -147,8 +147,8 @@ fn ignore_own(work: &mut [u8], goals: usize, own: usize, u: HeadUsages)
     ensures { λ _. ⌜ FrameWritten goals own (ignoreOwn u (topOf goals own (now (work .entry)))) (now (work .entry)) (now (work .exit)) ⌝ }
 {
     let a = offsets::frame_start(goals, own);
-    let e = a + offsets::frame_size(goals);
-    frame::ignore_own(&mut work[a..e], goals, u);
+    let end = a + offsets::frame_size(goals);
+    frame::ignore_own(&mut work[a..end], goals, u);
 }
 
 // The merged usages are taken from the heads.

@@ -7,7 +7,7 @@ use lib.ListN.{length, getD, replicate}
 use Rattle.definition.specs.declared.usages.HeadUsages.{HeadUsages}
 use Rattle.definition.specs.Usages.{noUsages, ignoreUsages, usagesCover}
 use Rattle.definition.specs.Heads.{CycleHeads, ignoreAtHeads, usagesAt}
-use Rattle.definition.specs.Stack.{Frame, Stack}
+use Rattle.definition.specs.Stack.{withHeads, withUsages, withCandidateUsages, Stack}
 use Rattle.definition.specs.Parent.{orNoUsages}
 use Rattle.definition.specs.Graph.{Graph, withStack}
 
@@ -15,24 +15,9 @@ use Rattle.definition.specs.Graph.{Graph, withStack}
 abbrev pub noCandidateUsages : ℕ → List HeadUsages
 noCandidateUsages goals = replicate goals noUsages
 
-abbrev pub withUsages : Frame → CycleHeads → Option HeadUsages → Option (List HeadUsages) → Frame
-withUsages f hs u c =
-    record {
-      input = f .input;
-      stepKindFromParent = f .stepKindFromParent;
-      availableDepth = f .availableDepth;
-      minReachedAvailableDepth = f .minReachedAvailableDepth;
-      provisionalResult = f .provisionalResult;
-      heads = hs;
-      encounteredOverflow = f .encounteredOverflow;
-      usages = u;
-      candidateUsages = c;
-      nestedGoals = f .nestedGoals;
-    }
-
 abbrev pub setCandidateUsages : Option (List HeadUsages) → Stack → Stack
 setCandidateUsages c [] = []
-setCandidateUsages c (f ∷ fs) = withUsages f (f .heads) (f .usages) c ∷ fs
+setCandidateUsages c (f ∷ fs) = withCandidateUsages f c ∷ fs
 
 abbrev pub enterSingleCandidate : ℕ → Graph → Graph
 enterSingleCandidate goals g = withStack g (setCandidateUsages (some (noCandidateUsages goals)) (g .stack))
@@ -57,7 +42,7 @@ ignoreOwnUsages (some own) u = some (ignoreUsages own u)
 abbrev pub ignoreOnTop : List HeadUsages → Stack → Stack
 ignoreOnTop us [] = []
 ignoreOnTop us (f ∷ fs) =
-    withUsages f (ignoreAtHeads (f .heads) us) (ignoreOwnUsages (f .usages) (getD us (length fs) noUsages)) (f .candidateUsages) ∷ fs
+    withUsages (withHeads f (ignoreAtHeads (f .heads) us)) (ignoreOwnUsages (f .usages) (getD us (length fs) noUsages)) ∷ fs
 
 abbrev pub ignoreCandidateHeadUsages : Graph → List HeadUsages → Graph
 ignoreCandidateHeadUsages g us = withStack g (ignoreOnTop us (g .stack))

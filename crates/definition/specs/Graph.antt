@@ -18,6 +18,15 @@ pub record Entry : Type 0 where
   pub pathFromHead : PathKind
   pub result : Answer
 
+-- ---- an entry with one field that is another
+abbrev pub withEntryHeads : Entry → CycleHeads → Entry
+withEntryHeads e hs =
+    record { input = e .input; encounteredOverflow = e .encounteredOverflow; heads = hs; pathFromHead = e .pathFromHead; result = e .result }
+
+abbrev pub withPathFromHead : Entry → PathKind → Entry
+withPathFromHead e path =
+    record { input = e .input; encounteredOverflow = e .encounteredOverflow; heads = e .heads; pathFromHead = path; result = e .result }
+
 -- `globalCache` is document 01's notebook, in its bytes
 pub record Graph : Type 0 where
   pub rootDepth : ℕ

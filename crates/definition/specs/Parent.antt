@@ -11,7 +11,7 @@ use Rattle.definition.specs.Paths.{extendWith, flagOf, emptyPath}
 use Rattle.definition.specs.Usages.{noUsages, addUsagesFromNested}
 use Rattle.definition.specs.Heads.{CycleHeads, joinHead, forEachHead}
 use Rattle.definition.specs.Nested.{NestedGoals, nestedEmpty, insertNested, extendFromChild}
-use Rattle.definition.specs.Stack.{Frame, Stack}
+use Rattle.definition.specs.Stack.{Frame, withReached, withHeads, withOverflow, withUsages, withCandidateUsages, withNestedGoals, Stack}
 
 pub data UpdateParentGoalCtxt : Type 0 where
   Ordinary : NestedGoals → UpdateParentGoalCtxt
@@ -44,18 +44,11 @@ joinChild step c h = joinHead h (extendWith (c .paths) step) (c .usages)
 -- the loop over the child's heads, for the parent at index `own`
 abbrev pub addHeads : PathKind → ℕ → CycleHeads → Frame → Frame
 addHeads step own cs f =
-    record {
-      input = f .input;
-      stepKindFromParent = f .stepKindFromParent;
-      availableDepth = f .availableDepth;
-      minReachedAvailableDepth = f .minReachedAvailableDepth;
-      provisionalResult = f .provisionalResult;
-      heads = forEachHead (joinChild step) (f .heads) (take own cs);
-      encounteredOverflow = f .encounteredOverflow;
-      usages = addToUsages (f .usages) (getD cs own none);
-      candidateUsages = addToCandidate (f .candidateUsages) cs;
-      nestedGoals = f .nestedGoals;
-    }
+    withCandidateUsages
+    (withUsages
+    (withHeads f (forEachHead (joinChild step) (f .heads) (take own cs)))
+    (addToUsages (f .usages) (getD cs own none)))
+    (addToCandidate (f .candidateUsages) cs)
 
 abbrev pub addNested : UpdateParentGoalCtxt → PathKind → NestedGoals → NestedGoals
 addNested (Ordinary nested) step own = extendFromChild own step nested
@@ -78,18 +71,11 @@ nestedAfter ctxt step input own =
 -- beside the heads: overflow, the depth reached, the nested goals
 abbrev pub addRest : PathKind → Bool → UpdateParentGoalCtxt → ℕ → Frame → Frame
 addRest step overflow ctxt reached f =
-    record {
-      input = f .input;
-      stepKindFromParent = f .stepKindFromParent;
-      availableDepth = f .availableDepth;
-      minReachedAvailableDepth = min (f .minReachedAvailableDepth) reached;
-      provisionalResult = f .provisionalResult;
-      heads = f .heads;
-      encounteredOverflow = f .encounteredOverflow || overflow;
-      usages = f .usages;
-      candidateUsages = f .candidateUsages;
-      nestedGoals = nestedAfter ctxt step (f .input) (f .nestedGoals);
-    }
+    withNestedGoals
+    (withOverflow
+    (withReached f (min (f .minReachedAvailableDepth) reached))
+    (f .encounteredOverflow || overflow))
+    (nestedAfter ctxt step (f .input) (f .nestedGoals))
 
 abbrev pub updateParentGoal : Stack → PathKind → CycleHeads → Bool → UpdateParentGoalCtxt → ℕ → Stack
 updateParentGoal [] step hs overflow ctxt reached = []
@@ -97,19 +83,7 @@ updateParentGoal (f ∷ fs) step hs overflow ctxt reached =
     addRest step overflow ctxt reached (addHeads step (length fs) hs f) ∷ fs
 
 abbrev pub markOverflow : Frame → Frame
-markOverflow f =
-    record {
-      input = f .input;
-      stepKindFromParent = f .stepKindFromParent;
-      availableDepth = f .availableDepth;
-      minReachedAvailableDepth = f .minReachedAvailableDepth;
-      provisionalResult = f .provisionalResult;
-      heads = f .heads;
-      encounteredOverflow = true;
-      usages = f .usages;
-      candidateUsages = f .candidateUsages;
-      nestedGoals = insertNested (f .nestedGoals) (f .input) emptyPath;
-    }
+markOverflow f = withNestedGoals (withOverflow f true) (insertNested (f .nestedGoals) (f .input) emptyPath)
 
 abbrev pub handleOverflow : Stack → Stack
 handleOverflow [] = []

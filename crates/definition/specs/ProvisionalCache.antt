@@ -16,7 +16,7 @@ use Rattle.definition.specs.Usages.{noUsages, isEmpty, isSingle}
 use Rattle.definition.specs.Answers.{sameAnswer, isAmbiguous}
 use Rattle.definition.specs.Heads.{CycleHeads, highestIndex, optHighestIndex, removeHead, joinHead, forEachHead, usagesAt, pathsAt}
 use Rattle.definition.specs.Stack.{Frame, Stack, cyclePathKind}
-use Rattle.definition.specs.Graph.{Entry, Graph, withProvisionalCache}
+use Rattle.definition.specs.Graph.{Entry, withEntryHeads, withPathFromHead, Graph, withProvisionalCache}
 
 -- ---- clear_dependent_provisional_results_for_rerun
 
@@ -84,13 +84,7 @@ underNewHead s p e hs =
     elim (optHighestIndex hs) [
       | none ↦ none
       | some new ↦
-          some (record {
-            input = e .input;
-            encounteredOverflow = e .encounteredOverflow;
-            heads = hs;
-            pathFromHead = extend (e .pathFromHead) (cyclePathKind s (p .stepKindFromParent) new);
-            result = e .result;
-          })
+          some (withPathFromHead (withEntryHeads e hs) (extend (e .pathFromHead) (cyclePathKind s (p .stepKindFromParent) new)))
     ]
 
 -- an entry whose highest head is not p stays

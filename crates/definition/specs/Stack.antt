@@ -25,6 +25,114 @@ pub record Frame : Type 0 where
   pub candidateUsages : Option (List HeadUsages)
   pub nestedGoals : NestedGoals
 
+-- ---- a frame with one field that is another
+abbrev pub withReached : Frame → ℕ → Frame
+withReached f reached =
+    record {
+      input = f .input;
+      stepKindFromParent = f .stepKindFromParent;
+      availableDepth = f .availableDepth;
+      minReachedAvailableDepth = reached;
+      provisionalResult = f .provisionalResult;
+      heads = f .heads;
+      encounteredOverflow = f .encounteredOverflow;
+      usages = f .usages;
+      candidateUsages = f .candidateUsages;
+      nestedGoals = f .nestedGoals;
+    }
+
+abbrev pub withProvisionalResult : Frame → Option Answer → Frame
+withProvisionalResult f answer =
+    record {
+      input = f .input;
+      stepKindFromParent = f .stepKindFromParent;
+      availableDepth = f .availableDepth;
+      minReachedAvailableDepth = f .minReachedAvailableDepth;
+      provisionalResult = answer;
+      heads = f .heads;
+      encounteredOverflow = f .encounteredOverflow;
+      usages = f .usages;
+      candidateUsages = f .candidateUsages;
+      nestedGoals = f .nestedGoals;
+    }
+
+abbrev pub withHeads : Frame → CycleHeads → Frame
+withHeads f hs =
+    record {
+      input = f .input;
+      stepKindFromParent = f .stepKindFromParent;
+      availableDepth = f .availableDepth;
+      minReachedAvailableDepth = f .minReachedAvailableDepth;
+      provisionalResult = f .provisionalResult;
+      heads = hs;
+      encounteredOverflow = f .encounteredOverflow;
+      usages = f .usages;
+      candidateUsages = f .candidateUsages;
+      nestedGoals = f .nestedGoals;
+    }
+
+abbrev pub withOverflow : Frame → Bool → Frame
+withOverflow f overflow =
+    record {
+      input = f .input;
+      stepKindFromParent = f .stepKindFromParent;
+      availableDepth = f .availableDepth;
+      minReachedAvailableDepth = f .minReachedAvailableDepth;
+      provisionalResult = f .provisionalResult;
+      heads = f .heads;
+      encounteredOverflow = overflow;
+      usages = f .usages;
+      candidateUsages = f .candidateUsages;
+      nestedGoals = f .nestedGoals;
+    }
+
+abbrev pub withUsages : Frame → Option HeadUsages → Frame
+withUsages f u =
+    record {
+      input = f .input;
+      stepKindFromParent = f .stepKindFromParent;
+      availableDepth = f .availableDepth;
+      minReachedAvailableDepth = f .minReachedAvailableDepth;
+      provisionalResult = f .provisionalResult;
+      heads = f .heads;
+      encounteredOverflow = f .encounteredOverflow;
+      usages = u;
+      candidateUsages = f .candidateUsages;
+      nestedGoals = f .nestedGoals;
+    }
+
+abbrev pub withCandidateUsages : Frame → Option (List HeadUsages) → Frame
+withCandidateUsages f us =
+    record {
+      input = f .input;
+      stepKindFromParent = f .stepKindFromParent;
+      availableDepth = f .availableDepth;
+      minReachedAvailableDepth = f .minReachedAvailableDepth;
+      provisionalResult = f .provisionalResult;
+      heads = f .heads;
+      encounteredOverflow = f .encounteredOverflow;
+      usages = f .usages;
+      candidateUsages = us;
+      nestedGoals = f .nestedGoals;
+    }
+
+abbrev pub withNestedGoals : Frame → NestedGoals → Frame
+withNestedGoals f ns =
+    record {
+      input = f .input;
+      stepKindFromParent = f .stepKindFromParent;
+      availableDepth = f .availableDepth;
+      minReachedAvailableDepth = f .minReachedAvailableDepth;
+      provisionalResult = f .provisionalResult;
+      heads = f .heads;
+      encounteredOverflow = f .encounteredOverflow;
+      usages = f .usages;
+      candidateUsages = f .candidateUsages;
+      nestedGoals = ns;
+    }
+
+-- ---- what is read of frames
+
 -- StackEntry::required_depth
 abbrev pub requiredDepthOf : Frame → ℕ
 requiredDepthOf f = f .availableDepth - f .minReachedAvailableDepth

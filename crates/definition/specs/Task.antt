@@ -12,7 +12,7 @@ use Rattle.definition.specs.declared.replies.Refusal.{Refusal}
 use Rattle.definition.specs.declared.replies.Refusal.the-variants.{Unreachable}
 use Rattle.definition.specs.Usages.{noUsages, isEmpty, isSingle}
 use Rattle.definition.specs.Answers.{sameAnswer, isAmbiguous, initialKind}
-use Rattle.definition.specs.Stack.{Frame, Stack}
+use Rattle.definition.specs.Stack.{Frame, withProvisionalResult, withOverflow, withUsages, withCandidateUsages, Stack}
 use Rattle.definition.specs.Graph.{Graph, withStack, Outcome, Done, Stopped, EvaluationResult, finalize}
 use Rattle.definition.specs.ProvisionalCache.{rebaseProvisionalCacheEntries, clearDependentProvisionalResultsForRerun}
 
@@ -46,18 +46,7 @@ nextOf f result = elim (f .usages) [ none ↦ Finish | some u ↦ nextOfHead (f 
 -- heads and nested goals are kept; overflow, usages and candidate usages are reset
 abbrev pub rerunFrame : Frame → Answer → Frame
 rerunFrame f result =
-    record {
-      input = f .input;
-      stepKindFromParent = f .stepKindFromParent;
-      availableDepth = f .availableDepth;
-      minReachedAvailableDepth = f .minReachedAvailableDepth;
-      provisionalResult = some result;
-      heads = f .heads;
-      encounteredOverflow = false;
-      usages = some noUsages;
-      candidateUsages = none;
-      nestedGoals = f .nestedGoals;
-    }
+    withCandidateUsages (withUsages (withOverflow (withProvisionalResult f (some result)) false) (some noUsages)) none
 
 abbrev pub pushRerun : Graph → Frame → Answer → Graph
 pushRerun g f result = withStack (clearDependentProvisionalResultsForRerun g) (rerunFrame f result ∷ g .stack)

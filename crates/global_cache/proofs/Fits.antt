@@ -14,7 +14,7 @@ use Rattle.definition.specs.declared.format.Header.{Header}
 use Rattle.definition.specs.CacheForm.{allAtMost, depthFits, slotFits, slotsFit, goalsFit}
 use Rattle.definition.specs.GlobalCache.{slotAt, slotsPerGoal}
 use Rattle.global_cache.specs.Cache.{headerWith}
-use Rattle.global_cache.proofs.Flags.{or-low}
+use Rattle.layout.proofs.NestedPaths.{or-low}
 use Rattle.definition.proofs.Lists.{part-from}
 
 -- the depth of an overflow slot

@@ -1,5 +1,4 @@
 pub mod Fits
-pub mod Flags
 pub mod Headers
 pub mod Sizes
 pub mod Slots

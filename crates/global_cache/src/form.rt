@@ -1,6 +1,6 @@
 // The form of a cache's bytes.
-use crate::slot;
 use buffer::scalars;
+use layout::nested;
 ghost use mathlib.Core.Path.{_≡_};
 ghost use Prim.Native.Nat.{ℕ, _+_, _≤_, _<_};
 ghost use lib.ListN.{length};
@@ -25,8 +25,8 @@ fn slot_fits(s: &[u8], top: usize, slot: usize) -> bool
     requires { ⌜ 3 ≤ length (now s) ⌝ }
     ensures { λ r. ⌜ ((goals : ℕ) → r ≡ slotFits (headerWith goals top) slot (now (s .entry))) ⌝ }
 {
-    let nested = slot::flags_of(&s[3..]);
-    if s[0] | s[1] | s[2] | nested == 0 {
+    let paths = nested::all_paths(&s[3..]);
+    if s[0] | s[1] | s[2] | paths == 0 {
         return true;
     }
     if s[0] != 1 {
@@ -38,7 +38,7 @@ fn slot_fits(s: &[u8], top: usize, slot: usize) -> bool
     if !depth_fits(top, slot, scalars::wide(s[2])) {
         return false;
     }
-    nested <= 31
+    paths <= 31
 }
 
 // Whether the slots of a goal fit.

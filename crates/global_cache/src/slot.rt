@@ -5,12 +5,10 @@ use definition::answers::Answer;
 ghost use mathlib.Core.Path.{_≡_};
 ghost use mathlib.Core.Bool.{not, _&&_};
 ghost use mathlib.Core.List.{List, _∷_, _++_};
-ghost use Prim.Native.Nat.{ℕ, _+_, _-_, _^_, _<_};
-ghost use lib.Dec.{eqb, leb};
+ghost use Prim.Native.Nat.{_+_};
+ghost use lib.Dec.{eqb};
 ghost use lib.ListN.{length, getD, take};
 ghost use Rattle.definition.specs.GlobalCache.{slotHeld, slotResult, slotDepth, slotNested};
-ghost use Rattle.definition.specs.CacheForm.{allAtMost};
-ghost use Rattle.definition.specs.Nested.{nestedEmpty};
 
 pub fn is_held(slot: &[u8]) -> bool
     ensures { λ r. ⌜ r ≡ slotHeld (now (slot .entry)) ⌝ }
@@ -37,26 +35,6 @@ pub fn nested_of(slot: &[u8]) -> &[u8]
         return &slot[0..0];
     }
     &slot[3..]
-}
-
-// All flags of some bytes: they tell the bound 2 ^ k - 1 of every byte.
-pub fn flags_of(s: &[u8]) -> u8
-    ensures { λ r. ⌜ ((k : ℕ) → leb r (2 ^ k - 1) ≡ allAtMost (2 ^ k - 1) (now (s .entry))) ⌝ }
-{
-    let mut flags: u8 = 0;
-    let mut i: usize = 0;
-    while i < s.len() {
-        flags = flags | s[i];
-        i = i + 1;
-    }
-    flags
-}
-
-// Whether no goal is nested.
-pub fn is_empty(nested: &[u8]) -> bool
-    ensures { λ r. ⌜ r ≡ nestedEmpty (now (nested .entry)) ⌝ }
-{
-    flags_of(nested) == 0
 }
 
 // Whether the slot holds another result.

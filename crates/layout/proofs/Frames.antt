@@ -2,7 +2,6 @@
 use mathlib.Core.Path.{_≡_, sym, ap, _∙_}
 use mathlib.Core.Bool.{true, false}
 use mathlib.Core.List.{List, [], _∷_}
-use mathlib.Core.Option.{Option}
 use Prim.Native.Nat.{ℕ, _+_, _≤_, _<_}
 use native.Mathlib.Omega.{arith}
 use native.Mathlib.Nat.{add-zero}
@@ -11,29 +10,20 @@ use borrow.Author.Tests.{eq-eqb, ne-eqb}
 use lib.ListN.{length, getD, set}
 use lib.Seq.{getD-set-same, getD-set-other}
 use lib.Dec.{eqb, lit<}
-use Rattle.definition.specs.declared.usages.HeadUsages.{HeadUsages}
 use Rattle.definition.specs.Paths.{kindOf}
 use Rattle.definition.specs.Answers.{answerOf}
-use Rattle.definition.specs.Heads.{CycleHeads}
-use Rattle.definition.specs.Nested.{NestedGoals}
-use Rattle.definition.specs.Stack.{Frame}
-use Rattle.definition.specs.Candidates.{withUsages}
-use Rattle.definition.specs.Graph.{Entry}
+use Rattle.definition.specs.Stack.{Frame, withReached, withProvisionalResult, withHeads, withOverflow, withUsages, withCandidateUsages, withNestedGoals}
+use Rattle.definition.specs.Graph.{Entry, withEntryHeads}
 use Rattle.buffer.specs.Regions.{region, overwrite}
 use Rattle.buffer.proofs.Regions.{region-before, region-after, region-inside, byte-before, overwrite-one, overwrite-all, length-region}
 use Rattle.buffer.proofs.Tables.{length-up}
-use Rattle.layout.specs.Blocks.{usagesSize, usagesOf, headsSize, headsOf, blockSize, candidateOf, headAt, usagesIn}
-use Rattle.layout.specs.Frame.{usagesStart, headsStart, candidateStart, nestedStart, frameSize, truth, resultOf, whenSet, frameOf}
+use Rattle.layout.specs.Blocks.{usagesSize, usagesOf, headsSize, headsOf, blockSize, candidateOf, headAt}
+use Rattle.layout.specs.Frame.{frameReached, frameProvisional, frameOverflow, frameIsHead, frameTracks, usagesStart, headsStart, candidateStart, nestedStart, frameSize, truth, resultOf, whenSet, frameBy, frameOf}
 use Rattle.layout.specs.Entry.{entryHeadsStart, entrySize, entryOf}
 
--- ---- lengths
 pub length-heads : (goals : ℕ) (bs : List ℕ) → length (headsOf goals bs) ≡ goals
 unfolding headsOf
 length-heads goals bs = length-up (headAt bs) goals
-
-pub length-candidate : (goals : ℕ) (bs : List ℕ) → length (candidateOf goals bs) ≡ goals
-unfolding candidateOf
-length-candidate goals bs = length-up (usagesIn bs) goals
 
 -- ---- what x becomes where place i is written with v, and x is read at j
 abbrev pub ifAt : {A : Type 0} → ℕ → ℕ → A → A → A
@@ -48,82 +38,17 @@ module _ {A : Type 0} (f : ℕ → A) (bs : List ℕ) (i v : ℕ) (lt : i < leng
         | no ne ↦ rw (ne-eqb i j ne, ifAt) (ap f (getD-set-other bs i j v 0 (λ e. ne (sym e))))
       ]
 
--- a byte that is written, and a region before or after it
+-- a byte that is written, and a region after it
 module _ (bs : List ℕ) (i v : ℕ) (lt : i < length bs) where
   pub set-after : (b n : ℕ) → i < b → region b n (set bs i v) ≡ region b n bs
   set-after b n h = ap (region b n) (sym (overwrite-one bs i v lt)) ∙ region-after bs i (v ∷ []) (omega arith) b n (omega arith)
 
-  pub set-before : (b n : ℕ) → b + n ≤ i → region b n (set bs i v) ≡ region b n bs
-  set-before b n h = ap (region b n) (sym (overwrite-one bs i v lt)) ∙ region-before bs i (v ∷ []) (omega arith) b n h
-
--- in it
-pub set-inside : (bs : List ℕ) (a n k v : ℕ) → k < n → a + n ≤ length bs → region a n (set bs (a + k) v) ≡ set (region a n bs) k v
-set-inside bs a n k v lt fits =
-    ap (region a n) (sym (overwrite-one bs (a + k) v (omega arith)))
-    ∙ region-inside bs a n k (v ∷ []) (omega arith) fits
-    ∙ overwrite-one (region a n bs) k v (rw (length-region a n bs fits) lt)
-
--- ---- a frame with one field that is another
-abbrev pub withByte : ℕ → ℕ → Frame → Frame
-withByte i v f =
-    record {
-      input = ifAt i 0 v (f .input);
-      stepKindFromParent = ifAt i 1 (kindOf v) (f .stepKindFromParent);
-      availableDepth = ifAt i 2 v (f .availableDepth);
-      minReachedAvailableDepth = ifAt i 3 v (f .minReachedAvailableDepth);
-      provisionalResult = ifAt i 4 (resultOf v) (f .provisionalResult);
-      heads = f .heads;
-      encounteredOverflow = ifAt i 5 (truth v) (f .encounteredOverflow);
-      usages = f .usages;
-      candidateUsages = f .candidateUsages;
-      nestedGoals = f .nestedGoals;
-    }
-
-abbrev pub withNested : Frame → NestedGoals → Frame
-withNested f ns =
-    record {
-      input = f .input;
-      stepKindFromParent = f .stepKindFromParent;
-      availableDepth = f .availableDepth;
-      minReachedAvailableDepth = f .minReachedAvailableDepth;
-      provisionalResult = f .provisionalResult;
-      heads = f .heads;
-      encounteredOverflow = f .encounteredOverflow;
-      usages = f .usages;
-      candidateUsages = f .candidateUsages;
-      nestedGoals = ns;
-    }
-
-abbrev pub withHeads : Frame → CycleHeads → Frame
-withHeads f hs = withUsages f hs (f .usages) (f .candidateUsages)
-
-abbrev pub withOwnUsages : Frame → Option HeadUsages → Frame
-withOwnUsages f u = withUsages f (f .heads) u (f .candidateUsages)
-
-abbrev pub withCandidateUsages : Frame → Option (List HeadUsages) → Frame
-withCandidateUsages f c = withUsages f (f .heads) (f .usages) c
-
--- ---- a frame by its first bytes, and the bytes of its usages, heads, candidate usages and nested goals
-abbrev pub frameBy : ℕ → (ℕ → ℕ) → List ℕ → List ℕ → List ℕ → List ℕ → Frame
-frameBy goals b us hs cs ns =
-    record {
-      input = b 0;
-      stepKindFromParent = kindOf (b 1);
-      availableDepth = b 2;
-      minReachedAvailableDepth = b 3;
-      provisionalResult = resultOf (b 4);
-      heads = headsOf goals hs;
-      encounteredOverflow = truth (b 5);
-      usages = whenSet (b 6) (usagesOf us);
-      candidateUsages = whenSet (b 7) (candidateOf goals cs);
-      nestedGoals = ns;
-    }
-
-pub frame-by : (goals : ℕ) (bs : List ℕ) (b : ℕ → ℕ) (us hs cs ns : List ℕ) → ((j : ℕ) → j < 8 → getD bs j 0 ≡ b j)
+-- ---- a frame by its fields and blocks, where each is known
+pub frame-by : (goals : ℕ) (bs : List ℕ) (field : ℕ → ℕ) (us hs cs ns : List ℕ) → ((j : ℕ) → j < 8 → getD bs j 0 ≡ field j)
     → region usagesStart usagesSize bs ≡ us → region headsStart (headsSize goals) bs ≡ hs → region (candidateStart goals) (blockSize goals) bs ≡ cs → region (nestedStart goals) goals bs ≡ ns
-    → frameOf goals bs ≡ frameBy goals b us hs cs ns
+    → frameOf goals bs ≡ frameBy goals field us hs cs ns
 unfolding frameOf
-frame-by goals bs b us hs cs ns eb eu eh ec en =
+frame-by goals bs field us hs cs ns eb eu eh ec en =
     let e0 = eb 0 (lit< tt) in
     let e1 = eb 1 (lit< tt) in
     let e2 = eb 2 (lit< tt) in
@@ -132,18 +57,7 @@ frame-by goals bs b us hs cs ns eb eu eh ec en =
     let e5 = eb 5 (lit< tt) in
     let e6 = eb 6 (lit< tt) in
     let e7 = eb 7 (lit< tt) in
-    λ t. record {
-      input = e0 t;
-      stepKindFromParent = kindOf (e1 t);
-      availableDepth = e2 t;
-      minReachedAvailableDepth = e3 t;
-      provisionalResult = resultOf (e4 t);
-      heads = headsOf goals (eh t);
-      encounteredOverflow = truth (e5 t);
-      usages = whenSet (e6 t) (usagesOf (eu t));
-      candidateUsages = whenSet (e7 t) (candidateOf goals (ec t));
-      nestedGoals = en t;
-    }
+    λ t. frameBy goals (λ j. getD (e0 t ∷ e1 t ∷ e2 t ∷ e3 t ∷ e4 t ∷ e5 t ∷ e6 t ∷ e7 t ∷ []) j 0) (eu t) (eh t) (ec t) (en t)
 
 -- ---- a write in the n bytes from a on, k bytes into them
 module _ (bs : List ℕ) (a n k : ℕ) (ys : List ℕ) (inner : k + length ys ≤ n) (fits : a + n ≤ length bs) where
@@ -164,37 +78,7 @@ whole-by f g bs a n ys e fits h =
 
 -- ---- a frame's bytes
 module _ (goals : ℕ) (bs : List ℕ) (long : length bs ≡ frameSize goals) where
-  -- one of the first six is written
-  pub frame-byte : (i v : ℕ) → i < 6 → frameOf goals (set bs i v) ≡ withByte i v (frameOf goals bs)
-  unfolding frameOf
-  frame-byte i v lt =
-      let inside : i < length bs = omega arith in
-      let e0 = byte-set (λ x. x) bs i v inside 0 in
-      let e1 = byte-set kindOf bs i v inside 1 in
-      let e2 = byte-set (λ x. x) bs i v inside 2 in
-      let e3 = byte-set (λ x. x) bs i v inside 3 in
-      let e4 = byte-set resultOf bs i v inside 4 in
-      let e5 = byte-set truth bs i v inside 5 in
-      let e6 = getD-set-other bs i 6 v 0 (λ e. omega arith) in
-      let e7 = getD-set-other bs i 7 v 0 (λ e. omega arith) in
-      let eu = set-after bs i v inside usagesStart usagesSize (omega arith) in
-      let eh = set-after bs i v inside headsStart (headsSize goals) (omega arith) in
-      let ec = set-after bs i v inside (candidateStart goals) (blockSize goals) (omega arith) in
-      let en = set-after bs i v inside (nestedStart goals) goals (omega arith) in
-      λ t. record {
-        input = e0 t;
-        stepKindFromParent = e1 t;
-        availableDepth = e2 t;
-        minReachedAvailableDepth = e3 t;
-        provisionalResult = e4 t;
-        heads = headsOf goals (eh t);
-        encounteredOverflow = e5 t;
-        usages = whenSet (e6 t) (usagesOf (eu t));
-        candidateUsages = whenSet (e7 t) (candidateOf goals (ec t));
-        nestedGoals = en t;
-      }
-
-  -- any of the first eight
+  -- a field is written
   bytes-by : (i v : ℕ) → i < 8
       → frameOf goals (set bs i v)
       ≡ frameBy goals (λ j. ifAt i j v (getD bs j 0)) (region usagesStart usagesSize bs) (region headsStart (headsSize goals) bs) (region (candidateStart goals) (blockSize goals) bs) (region (nestedStart goals) goals bs)
@@ -207,19 +91,31 @@ module _ (goals : ℕ) (bs : List ℕ) (long : length bs ≡ frameSize goals) wh
       (set-after bs i v inside (candidateStart goals) (blockSize goals) (omega arith))
       (set-after bs i v inside (nestedStart goals) goals (omega arith))
 
-  -- whether there are usages, and candidate usages
-  pub frame-has-usages : (v : ℕ) → frameOf goals (set bs 6 v) ≡ withOwnUsages (frameOf goals bs) (whenSet v (usagesOf (region usagesStart usagesSize bs)))
+  pub frame-reached : (v : ℕ) → frameOf goals (set bs frameReached v) ≡ withReached (frameOf goals bs) v
   unfolding frameOf
-  frame-has-usages v = bytes-by 6 v (lit< tt)
+  frame-reached v = bytes-by frameReached v (lit< tt)
 
-  pub frame-has-candidate : (v : ℕ) → frameOf goals (set bs 7 v) ≡ withCandidateUsages (frameOf goals bs) (whenSet v (candidateOf goals (region (candidateStart goals) (blockSize goals) bs)))
+  pub frame-provisional : (v : ℕ) → frameOf goals (set bs frameProvisional v) ≡ withProvisionalResult (frameOf goals bs) (resultOf v)
   unfolding frameOf
-  frame-has-candidate v = bytes-by 7 v (lit< tt)
+  frame-provisional v = bytes-by frameProvisional v (lit< tt)
+
+  pub frame-overflow : (v : ℕ) → frameOf goals (set bs frameOverflow v) ≡ withOverflow (frameOf goals bs) (truth v)
+  unfolding frameOf
+  frame-overflow v = bytes-by frameOverflow v (lit< tt)
+
+  -- whether there are usages, and candidate usages
+  pub frame-has-usages : (v : ℕ) → frameOf goals (set bs frameIsHead v) ≡ withUsages (frameOf goals bs) (whenSet v (usagesOf (region usagesStart usagesSize bs)))
+  unfolding frameOf
+  frame-has-usages v = bytes-by frameIsHead v (lit< tt)
+
+  pub frame-has-candidate : (v : ℕ) → frameOf goals (set bs frameTracks v) ≡ withCandidateUsages (frameOf goals bs) (whenSet v (candidateOf goals (region (candidateStart goals) (blockSize goals) bs)))
+  unfolding frameOf
+  frame-has-candidate v = bytes-by frameTracks v (lit< tt)
 
   -- a write inside a field of more bytes
   module _ (k : ℕ) (ys : List ℕ) where
     pub frame-usages-inside : k + length ys ≤ usagesSize
-        → frameOf goals (overwrite bs (usagesStart + k) ys) ≡ withOwnUsages (frameOf goals bs) (whenSet (getD bs 6 0) (usagesOf (overwrite (region usagesStart usagesSize bs) k ys)))
+        → frameOf goals (overwrite bs (usagesStart + k) ys) ≡ withUsages (frameOf goals bs) (whenSet (getD bs frameIsHead 0) (usagesOf (overwrite (region usagesStart usagesSize bs) k ys)))
     unfolding frameOf
     frame-usages-inside inner =
         let fits : usagesStart + usagesSize ≤ length bs = omega arith in
@@ -243,7 +139,7 @@ module _ (goals : ℕ) (bs : List ℕ) (long : length bs ≡ frameSize goals) wh
         (region-right bs headsStart (headsSize goals) k ys inner fits (nestedStart goals) goals (omega arith))
 
     pub frame-candidate-inside : k + length ys ≤ blockSize goals
-        → frameOf goals (overwrite bs (candidateStart goals + k) ys) ≡ withCandidateUsages (frameOf goals bs) (whenSet (getD bs 7 0) (candidateOf goals (overwrite (region (candidateStart goals) (blockSize goals) bs) k ys)))
+        → frameOf goals (overwrite bs (candidateStart goals + k) ys) ≡ withCandidateUsages (frameOf goals bs) (whenSet (getD bs frameTracks 0) (candidateOf goals (overwrite (region (candidateStart goals) (blockSize goals) bs) k ys)))
     unfolding frameOf
     frame-candidate-inside inner =
         let fits : candidateStart goals + blockSize goals ≤ length bs = omega arith in
@@ -255,7 +151,7 @@ module _ (goals : ℕ) (bs : List ℕ) (long : length bs ≡ frameSize goals) wh
         (region-right bs (candidateStart goals) (blockSize goals) k ys inner fits (nestedStart goals) goals (omega arith))
 
     pub frame-nested-inside : k + length ys ≤ goals
-        → frameOf goals (overwrite bs (nestedStart goals + k) ys) ≡ withNested (frameOf goals bs) (overwrite (region (nestedStart goals) goals bs) k ys)
+        → frameOf goals (overwrite bs (nestedStart goals + k) ys) ≡ withNestedGoals (frameOf goals bs) (overwrite (region (nestedStart goals) goals bs) k ys)
     unfolding frameOf
     frame-nested-inside inner =
         let fits : nestedStart goals + goals ≤ length bs = omega arith in
@@ -268,28 +164,21 @@ module _ (goals : ℕ) (bs : List ℕ) (long : length bs ≡ frameSize goals) wh
 
   -- a write of the whole field
   module _ (ys : List ℕ) where
-    pub frame-usages : length ys ≡ usagesSize → frameOf goals (overwrite bs usagesStart ys) ≡ withOwnUsages (frameOf goals bs) (whenSet (getD bs 6 0) (usagesOf ys))
+    pub frame-usages : length ys ≡ usagesSize → frameOf goals (overwrite bs usagesStart ys) ≡ withUsages (frameOf goals bs) (whenSet (getD bs frameIsHead 0) (usagesOf ys))
     frame-usages e =
-        whole-by (frameOf goals) (λ l. withOwnUsages (frameOf goals bs) (whenSet (getD bs 6 0) (usagesOf l))) bs usagesStart usagesSize ys e (omega arith) (frame-usages-inside 0 ys (omega arith))
+        whole-by (frameOf goals) (λ l. withUsages (frameOf goals bs) (whenSet (getD bs frameIsHead 0) (usagesOf l))) bs usagesStart usagesSize ys e (omega arith) (frame-usages-inside 0 ys (omega arith))
 
     pub frame-heads : length ys ≡ headsSize goals → frameOf goals (overwrite bs headsStart ys) ≡ withHeads (frameOf goals bs) (headsOf goals ys)
     frame-heads e =
         whole-by (frameOf goals) (λ l. withHeads (frameOf goals bs) (headsOf goals l)) bs headsStart (headsSize goals) ys e (omega arith) (frame-heads-inside 0 ys (omega arith))
 
-    pub frame-candidate : length ys ≡ blockSize goals → frameOf goals (overwrite bs (candidateStart goals) ys) ≡ withCandidateUsages (frameOf goals bs) (whenSet (getD bs 7 0) (candidateOf goals ys))
+    pub frame-candidate : length ys ≡ blockSize goals → frameOf goals (overwrite bs (candidateStart goals) ys) ≡ withCandidateUsages (frameOf goals bs) (whenSet (getD bs frameTracks 0) (candidateOf goals ys))
     frame-candidate e =
-        whole-by (frameOf goals) (λ l. withCandidateUsages (frameOf goals bs) (whenSet (getD bs 7 0) (candidateOf goals l))) bs (candidateStart goals) (blockSize goals) ys e (omega arith) (frame-candidate-inside 0 ys (omega arith))
+        whole-by (frameOf goals) (λ l. withCandidateUsages (frameOf goals bs) (whenSet (getD bs frameTracks 0) (candidateOf goals l))) bs (candidateStart goals) (blockSize goals) ys e (omega arith) (frame-candidate-inside 0 ys (omega arith))
 
-    pub frame-nested : length ys ≡ goals → frameOf goals (overwrite bs (nestedStart goals) ys) ≡ withNested (frameOf goals bs) ys
+    pub frame-nested : length ys ≡ goals → frameOf goals (overwrite bs (nestedStart goals) ys) ≡ withNestedGoals (frameOf goals bs) ys
     frame-nested e =
-        whole-by (frameOf goals) (λ l. withNested (frameOf goals bs) l) bs (nestedStart goals) goals ys e (omega arith) (frame-nested-inside 0 ys (omega arith))
-
-  -- one nested goal
-  pub frame-nested-at : (g v : ℕ) → g < goals → frameOf goals (set bs (nestedStart goals + g) v) ≡ withNested (frameOf goals bs) (set (region (nestedStart goals) goals bs) g v)
-  frame-nested-at g v lt =
-      ap (frameOf goals) (sym (overwrite-one bs (nestedStart goals + g) v (omega arith)))
-      ∙ frame-nested-inside g (v ∷ []) (omega arith)
-      ∙ ap (withNested (frameOf goals bs)) (overwrite-one (region (nestedStart goals) goals bs) g v (rw (length-region (nestedStart goals) goals bs (omega arith)) lt))
+        whole-by (frameOf goals) (λ l. withNestedGoals (frameOf goals bs) l) bs (nestedStart goals) goals ys e (omega arith) (frame-nested-inside 0 ys (omega arith))
 
 -- ---- an entry's bytes
 abbrev pub withEntryByte : ℕ → ℕ → Entry → Entry
@@ -301,10 +190,6 @@ withEntryByte i v e =
       pathFromHead = ifAt i 2 (kindOf v) (e .pathFromHead);
       result = ifAt i 3 (answerOf v) (e .result);
     }
-
-abbrev pub withEntryHeads : Entry → CycleHeads → Entry
-withEntryHeads e hs =
-    record { input = e .input; encounteredOverflow = e .encounteredOverflow; heads = hs; pathFromHead = e .pathFromHead; result = e .result }
 
 module _ (goals : ℕ) (bs : List ℕ) (long : length bs ≡ entrySize goals) where
   pub entry-byte : (i v : ℕ) → i < 4 → entryOf goals (set bs i v) ≡ withEntryByte i v (entryOf goals bs)

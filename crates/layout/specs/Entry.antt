@@ -1,4 +1,4 @@
--- A provisional cache entry in bytes: 0 input, 1 overflow, 2 path from head, 3 result, 8 heads.
+-- A provisional cache entry in bytes: four fields of one byte each, and heads.
 use Prim.Native.Nat.{ℕ, _+_, _*_}
 use mathlib.Core.List.{List}
 use lib.ListN.{getD}
@@ -9,18 +9,32 @@ use Rattle.buffer.specs.Regions.{region}
 use Rattle.layout.specs.Blocks.{headsSize, headsOf}
 use Rattle.layout.specs.Frame.{truth}
 
+-- ---- where they stand
+abbrev pub entryInput : ℕ
+entryInput = 0
+
+abbrev pub entryOverflow : ℕ
+entryOverflow = 1
+
+abbrev pub entryPath : ℕ
+entryPath = 2
+
+abbrev pub entryResult : ℕ
+entryResult = 3
+
 abbrev pub entryHeadsStart : ℕ
 entryHeadsStart = 8
 
 abbrev pub entrySize : ℕ → ℕ
 entrySize goals = 16 + goals * 33
 
+-- ---- what they read as
 unfoldable pub entryOf : ℕ → List ℕ → Entry
 entryOf goals bs =
     record {
-      input = getD bs 0 0;
-      encounteredOverflow = truth (getD bs 1 0);
+      input = getD bs entryInput 0;
+      encounteredOverflow = truth (getD bs entryOverflow 0);
       heads = headsOf goals (region entryHeadsStart (headsSize goals) bs);
-      pathFromHead = kindOf (getD bs 2 0);
-      result = answerOf (getD bs 3 0);
+      pathFromHead = kindOf (getD bs entryPath 0);
+      result = answerOf (getD bs entryResult 0);
     }

@@ -1,6 +1,4 @@
--- A frame of the stack in bytes.
---   0 input, 1 step, 2 available depth, 3 depth reached, 4 provisional result (0 none, else one more than its number),
---   5 overflow, 6 usages present, 7 candidate usages present, 8 usages, 40 heads, then candidate usages, then nested goals
+-- A frame of the stack in bytes: eight fields of one byte each, then usages, heads, candidate usages and nested goals.
 use Prim.Native.Nat.{ℕ, zero, suc, _+_, _*_}
 use mathlib.Core.Bool.{Bool, true, false}
 use mathlib.Core.Option.{Option, none, some}
@@ -12,6 +10,34 @@ use Rattle.definition.specs.Answers.{answerOf}
 use Rattle.definition.specs.Stack.{Frame}
 use Rattle.buffer.specs.Regions.{region}
 use Rattle.layout.specs.Blocks.{usagesSize, usagesOf, headsSize, headsOf, blockSize, candidateOf}
+
+-- ---- where the fields stand
+abbrev pub frameInput : ℕ
+frameInput = 0
+
+abbrev pub frameStep : ℕ
+frameStep = 1
+
+abbrev pub frameAvailable : ℕ
+frameAvailable = 2
+
+abbrev pub frameReached : ℕ
+frameReached = 3
+
+-- 0 where there is no provisional result, else one more than its number
+abbrev pub frameProvisional : ℕ
+frameProvisional = 4
+
+abbrev pub frameOverflow : ℕ
+frameOverflow = 5
+
+-- whether there are usages: the frame is a cycle head
+abbrev pub frameIsHead : ℕ
+frameIsHead = 6
+
+-- whether there are candidate usages: the frame tracks a candidate
+abbrev pub frameTracks : ℕ
+frameTracks = 7
 
 abbrev pub usagesStart : ℕ
 usagesStart = 8
@@ -28,6 +54,8 @@ nestedStart goals = 56 + goals * 65
 abbrev pub frameSize : ℕ → ℕ
 frameSize goals = 56 + goals * 66
 
+-- ---- what they read as
+
 -- a byte that is not 0 says true
 abbrev pub truth : ℕ → Bool
 truth zero = false
@@ -41,17 +69,27 @@ abbrev pub whenSet : {A : Type 0} → ℕ → A → Option A
 whenSet zero x = none
 whenSet (suc n) x = some x
 
+-- a frame by its fields, and the bytes of its usages, heads, candidate usages and nested goals
+abbrev pub frameBy : ℕ → (ℕ → ℕ) → List ℕ → List ℕ → List ℕ → List ℕ → Frame
+frameBy goals field us hs cs ns =
+    record {
+      input = field frameInput;
+      stepKindFromParent = kindOf (field frameStep);
+      availableDepth = field frameAvailable;
+      minReachedAvailableDepth = field frameReached;
+      provisionalResult = resultOf (field frameProvisional);
+      heads = headsOf goals hs;
+      encounteredOverflow = truth (field frameOverflow);
+      usages = whenSet (field frameIsHead) (usagesOf us);
+      candidateUsages = whenSet (field frameTracks) (candidateOf goals cs);
+      nestedGoals = ns;
+    }
+
 unfoldable pub frameOf : ℕ → List ℕ → Frame
 frameOf goals bs =
-    record {
-      input = getD bs 0 0;
-      stepKindFromParent = kindOf (getD bs 1 0);
-      availableDepth = getD bs 2 0;
-      minReachedAvailableDepth = getD bs 3 0;
-      provisionalResult = resultOf (getD bs 4 0);
-      heads = headsOf goals (region headsStart (headsSize goals) bs);
-      encounteredOverflow = truth (getD bs 5 0);
-      usages = whenSet (getD bs 6 0) (usagesOf (region usagesStart usagesSize bs));
-      candidateUsages = whenSet (getD bs 7 0) (candidateOf goals (region (candidateStart goals) (blockSize goals) bs));
-      nestedGoals = region (nestedStart goals) goals bs;
-    }
+    frameBy goals
+    (λ i. getD bs i 0)
+    (region usagesStart usagesSize bs)
+    (region headsStart (headsSize goals) bs)
+    (region (candidateStart goals) (blockSize goals) bs)
+    (region (nestedStart goals) goals bs)

@@ -7,6 +7,39 @@ ghost use Rattle.layout.specs.Frame.{candidateStart, nestedStart, frameS
 ghost use Rattle.layout.specs.Entry.{entrySize};
 ghost use Rattle.layout.specs.Work.{frameStart, entryStart, graphLength, mergedStart};
 
+// ---- the fields of a frame
+pub const FRAME_INPUT: usize = 0;
+
+pub const FRAME_STEP: usize = 1;
+
+pub const FRAME_AVAILABLE: usize = 2;
+
+pub const FRAME_REACHED: usize = 3;
+// 0 where there is no provisional result, else one more than its number.
+pub const FRAME_PROVISIONAL: usize = 4;
+
+pub const FRAME_OVERFLOW: usize = 5;
+// Whether there are usages: the frame is a cycle head.
+pub const FRAME_IS_HEAD: usize = 6;
+// Whether there are candidate usages: the frame tracks a candidate.
+pub const FRAME_TRACKS: usize = 7;
+// The fields end, and usages start.
+pub const FRAME_USAGES: usize = 8;
+
+pub const FRAME_HEADS: usize = 40;
+
+// ---- the fields of an entry
+pub const ENTRY_INPUT: usize = 0;
+
+pub const ENTRY_OVERFLOW: usize = 1;
+
+pub const ENTRY_PATH: usize = 2;
+
+pub const ENTRY_RESULT: usize = 3;
+
+pub const ENTRY_HEADS: usize = 8;
+
+// ---- sizes and starts
 pub fn heads_size(goals: usize) -> usize
     requires { ⌜ goals ≤ 64 ⌝ }
     ensures { λ r. ⌜ r ≡ headsSize goals ⌝ }

@@ -6,6 +6,7 @@ use definition::format::Header;
 use definition::paths::PathKind;
 use definition::usages::HeadUsages;
 use global_cache::slot;
+use layout::nested;
 use provisional_cache::entry;
 use stack::OnStack;
 use stack::frame::Depth;
@@ -89,7 +90,7 @@ fn candidate_is_applicable(
     requires { ⌜ Counted goals height entries (now graph) ⌝ }
     ensures { λ r. ⌜ r ≡ applicable goals height entries (now (graph .entry)) step (now (nested .entry)) ⌝ }
 {
-    if slot::is_empty(nested) {
+    if nested::is_empty(nested) {
         return true;
     }
     if stack::any_on_stack(graph, goals, height, nested) {

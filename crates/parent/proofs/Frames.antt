@@ -16,17 +16,16 @@ use Rattle.definition.specs.Paths.{extendWith, emptyPath, flagOf, kindOf}
 use Rattle.definition.specs.Usages.{addUsagesFromNested}
 use Rattle.definition.specs.Heads.{CycleHeads, insertHead}
 use Rattle.definition.specs.Nested.{NestedGoals, nestedEmpty, insertNested, extendFromChild}
-use Rattle.definition.specs.Stack.{Frame}
-use Rattle.definition.specs.Candidates.{withUsages}
+use Rattle.definition.specs.Stack.{Frame, withReached, withHeads, withOverflow, withUsages, withCandidateUsages, withNestedGoals}
 use Rattle.definition.specs.Parent.{orNoUsages, addRest, Ordinary, CycleOnStack, ProvisionalCacheHit}
 use Rattle.buffer.specs.Regions.{region, overwrite}
 use Rattle.buffer.proofs.Regions.{length-overwrite, region-same}
 use Rattle.layout.specs.Blocks.{usagesSize, usagesOf, headsSize, headsOf, blockSize, candidateOf}
-use Rattle.layout.specs.Frame.{usagesStart, headsStart, candidateStart, nestedStart, frameSize, truth, resultOf, whenSet, frameOf}
-use Rattle.layout.proofs.Frames.{frame-byte, frame-has-usages, frame-usages, frame-heads, frame-candidate, frame-nested, withByte, withNested, withHeads, withOwnUsages, withCandidateUsages}
+use Rattle.layout.specs.Frame.{frameReached, frameOverflow, frameTracks, headsStart, candidateStart, nestedStart, frameSize, truth, whenSet, frameOf}
+use Rattle.layout.proofs.Frames.{frame-reached, frame-overflow, frame-has-usages, frame-usages, frame-heads, frame-candidate, frame-nested}
 use Rattle.stack.specs.Results.{isSome}
 use Rattle.stack.proofs.Parts.{part, returned, part-length, part-back}
-use Rattle.parent.specs.Head.{addUsagesAt, trackedAt, joined, used, trackAt, joinAt, useOwn, addHeadAt, reachFrame, setNested}
+use Rattle.parent.specs.Head.{addUsagesAt, trackedAt, joined, used, trackAt, joinAt, useOwn, addHeadAt, reachFrame}
 
 -- ---- `track`
 tracked-none : (o : Option (List HeadUsages)) (i : ℕ) (u : HeadUsages) → isSome o ≡ false → o ≡ trackedAt o i u
@@ -34,7 +33,7 @@ tracked-none none i u e = refl
 tracked-none (some us) i u e = absurd (true≢false e)
 
 pub track-none : (f : Frame) (i : ℕ) (u : HeadUsages) (t : Bool) → t ≡ isSome (f .candidateUsages) → t ≡ false → f ≡ trackAt i u f
-track-none f i u t is e = ap (λ (o : Option (List HeadUsages)). withUsages f (f .heads) (f .usages) o) (tracked-none (f .candidateUsages) i u (sym is ∙ e))
+track-none f i u t is e = ap (withCandidateUsages f) (tracked-none (f .candidateUsages) i u (sym is ∙ e))
 
 tracked : (n : ℕ) (us : List HeadUsages) (i : ℕ) (u : HeadUsages) → whenSet n (addUsagesAt us i u) ≡ trackedAt (whenSet n us) i u
 tracked zero us i u = refl
@@ -51,8 +50,8 @@ track-frame goals bs ys a e i u long is-a is-e kept is-y =
     let is : candidateOf goals ys ≡ addUsagesAt us i u = is-y ∙ ap₂ (λ (k m : ℕ). addUsagesAt (candidateOf goals (region k m bs)) i u) is-a w in
     ap (frameOf goals) (part-back bs a e ys (omega arith) (omega arith) kept ∙ ap (λ (k : ℕ). overwrite bs k ys) is-a)
     ∙ frame-candidate goals bs long ys n
-    ∙ ap (λ (l : List HeadUsages). withCandidateUsages (frameOf goals bs) (whenSet (getD bs 7 0) l)) is
-    ∙ ap (withCandidateUsages (frameOf goals bs)) (tracked (getD bs 7 0) us i u)
+    ∙ ap (λ (l : List HeadUsages). withCandidateUsages (frameOf goals bs) (whenSet (getD bs frameTracks 0) l)) is
+    ∙ ap (withCandidateUsages (frameOf goals bs)) (tracked (getD bs frameTracks 0) us i u)
 
 -- ---- `join`
 pub join-frame : (goals : ℕ) (bs ys : List ℕ) (e i p : ℕ) (step : PathKind) (c : CycleHead) → length bs ≡ frameSize goals → e ≡ candidateStart goals → p ≡ extendWith (c .paths) step
@@ -78,15 +77,16 @@ use-frame goals bs ys before x u long is-b is-x kept is-y =
     let is : usagesOf (region 8 32 o) ≡ addUsagesFromNested (orNoUsages ((frameOf goals bs) .usages)) u = ap usagesOf there ∙ is-y ∙ is-x ∙ ap (λ (b : HeadUsages). addUsagesFromNested b u) is-b in
     ap (λ (l : List ℕ). frameOf goals (set l 6 1)) (part-back bs 8 40 ys (omega arith) (omega arith) kept)
     ∙ frame-has-usages goals o lo 1
-    ∙ ap₂ (λ (f : Frame) (v : HeadUsages). withOwnUsages f (some v)) (frame-usages goals bs long ys n) is
+    ∙ ap₂ (λ (f : Frame) (v : HeadUsages). withUsages f (some v)) (frame-usages goals bs long ys n) is
 
 -- ---- `add_head`
 module _ (step : PathKind) (own i : ℕ) (c : CycleHead) (f g h : Frame) (first : g ≡ trackAt i (c .usages) f) where
   abbrev choice : Bool → Bool → Frame
   choice t s =
-      withUsages f
-      (elim t [ true ↦ joined step i c (f .heads) | false ↦ f .heads ])
-      (elim s [ true ↦ used (c .usages) (f .usages) | false ↦ f .usages ])
+      withCandidateUsages
+      (withUsages
+      (withHeads f (elim t [ true ↦ joined step i c (f .heads) | false ↦ f .heads ]))
+      (elim s [ true ↦ used (c .usages) (f .usages) | false ↦ f .usages ]))
       (trackedAt (f .candidateUsages) i (c .usages))
 
   pub head-below : h ≡ joinAt step i c g → i < own → h ≡ addHeadAt step own i c f
@@ -114,25 +114,14 @@ unfolding frameOf
 reach-frame goals bs m l overflow reached long is-m is-l =
     let l1 : length (set bs 5 m) ≡ frameSize goals = length-set bs 5 m ∙ long in
     let e3 : l ≡ min (getD bs 3 0) reached = is-l ∙ ap (λ (x : ℕ). min x reached) (getD-set-other bs 5 3 m 0 (λ e. omega arith)) in
-    frame-byte goals (set bs 5 m) l1 3 l (omega arith)
-    ∙ ap (withByte 3 l) (frame-byte goals bs long 5 m (omega arith))
-    ∙ (λ t. record {
-      input = getD bs 0 0;
-      stepKindFromParent = kindOf (getD bs 1 0);
-      availableDepth = getD bs 2 0;
-      minReachedAvailableDepth = e3 t;
-      provisionalResult = resultOf (getD bs 4 0);
-      heads = headsOf goals (region headsStart (headsSize goals) bs);
-      encounteredOverflow = is-m t;
-      usages = whenSet (getD bs 6 0) (usagesOf (region usagesStart usagesSize bs));
-      candidateUsages = whenSet (getD bs 7 0) (candidateOf goals (region (candidateStart goals) (blockSize goals) bs));
-      nestedGoals = region (nestedStart goals) goals bs;
-    })
+    frame-reached goals (set bs frameOverflow m) l1 l
+    ∙ ap (λ (f : Frame). withReached f l) (frame-overflow goals bs long m)
+    ∙ (λ t. withOverflow (withReached (frameOf goals bs) (e3 t)) (is-m t))
 
 -- ---- the nested goals, changed by f
 pub nested-frame : (f : NestedGoals → NestedGoals) (goals : ℕ) (bs ys : List ℕ) (a : ℕ) → length bs ≡ frameSize goals → a ≡ nestedStart goals
     → length ys ≡ length (part bs a (a + goals)) → ys ≡ f (part bs a (a + goals))
-    → frameOf goals (returned bs a (a + goals) ys) ≡ setNested (frameOf goals bs) (f ((frameOf goals bs) .nestedGoals))
+    → frameOf goals (returned bs a (a + goals) ys) ≡ withNestedGoals (frameOf goals bs) (f ((frameOf goals bs) .nestedGoals))
 unfolding frameOf
 nested-frame f goals bs ys a long is-a kept is-y =
     let n : length ys ≡ goals = omega (arith, part-length bs a (a + goals) ys (omega arith) (omega arith) kept) in
@@ -140,23 +129,23 @@ nested-frame f goals bs ys a long is-a kept is-y =
     let is : ys ≡ f (region (nestedStart goals) goals bs) = is-y ∙ ap₂ (λ (k m : ℕ). f (region k m bs)) is-a e in
     ap (frameOf goals) (part-back bs a (a + goals) ys (omega arith) (omega arith) kept ∙ ap (λ (k : ℕ). overwrite bs k ys) is-a)
     ∙ frame-nested goals bs long ys n
-    ∙ ap (withNested (frameOf goals bs)) is
+    ∙ ap (withNestedGoals (frameOf goals bs)) is
 
 -- the frame's own goal
 abbrev pub withItself : Frame → Frame
-withItself f = setNested f (insertNested (f .nestedGoals) (f .input) emptyPath)
+withItself f = withNestedGoals f (insertNested (f .nestedGoals) (f .input) emptyPath)
 
-pub itself-frame : (f h : Frame) (g : ℕ) → g ≡ f .input → h ≡ setNested f (insertNested (f .nestedGoals) g 1) → h ≡ withItself f
-itself-frame f h g is e = e ∙ ap (λ (x : ℕ). setNested f (insertNested (f .nestedGoals) x 1)) is
+pub itself-frame : (f h : Frame) (g : ℕ) → g ≡ f .input → h ≡ withNestedGoals f (insertNested (f .nestedGoals) g 1) → h ≡ withItself f
+itself-frame f h g is e = e ∙ ap (λ (x : ℕ). withNestedGoals f (insertNested (f .nestedGoals) x 1)) is
 
 -- ---- after a nested goal; f, and what it becomes step by step
 module _ (step : PathKind) (overflow : Bool) (reached : ℕ) (f f1 : Frame) (first : f1 ≡ reachFrame overflow reached f) where
-  module _ (child : NestedGoals) (t : Bool) (is-t : t ≡ nestedEmpty child) (f2 : Frame) (next : f2 ≡ setNested f1 (extendFromChild (f1 .nestedGoals) step child)) where
+  module _ (child : NestedGoals) (t : Bool) (is-t : t ≡ nestedEmpty child) (f2 : Frame) (next : f2 ≡ withNestedGoals f1 (extendFromChild (f1 .nestedGoals) step child)) where
     abbrev after : Bool → Frame
-    after b = setNested (reachFrame overflow reached f) (elim b [ true ↦ insertNested (extendFromChild (f .nestedGoals) step child) (f .input) emptyPath | false ↦ extendFromChild (f .nestedGoals) step child ])
+    after b = withNestedGoals (reachFrame overflow reached f) (elim b [ true ↦ insertNested (extendFromChild (f .nestedGoals) step child) (f .input) emptyPath | false ↦ extendFromChild (f .nestedGoals) step child ])
 
-    so-far : f2 ≡ setNested (reachFrame overflow reached f) (extendFromChild (f .nestedGoals) step child)
-    so-far = next ∙ ap (λ (x : Frame). setNested x (extendFromChild (x .nestedGoals) step child)) first
+    so-far : f2 ≡ withNestedGoals (reachFrame overflow reached f) (extendFromChild (f .nestedGoals) step child)
+    so-far = next ∙ ap (λ (x : Frame). withNestedGoals x (extendFromChild (x .nestedGoals) step child)) first
 
     pub ordinary-empty : t ≡ true → f2 ≡ addRest step overflow (Ordinary child) reached f
     ordinary-empty e = so-far ∙ sym (ap after (ap not (sym is-t ∙ e)))
@@ -167,6 +156,6 @@ module _ (step : PathKind) (overflow : Bool) (reached : ℕ) (f f1 : Frame) (fir
   pub entry-added : (f2 : Frame) → f2 ≡ withItself f1 → f2 ≡ addRest step overflow ProvisionalCacheHit reached f
   entry-added f2 e = e ∙ ap withItself first
 
-  pub cycle-added : (goal p : ℕ) (f2 f3 : Frame) → p ≡ flagOf step → f2 ≡ setNested f1 (insertNested (f1 .nestedGoals) goal p) → f3 ≡ withItself f2 → f3 ≡ addRest step overflow (CycleOnStack goal) reached f
+  pub cycle-added : (goal p : ℕ) (f2 f3 : Frame) → p ≡ flagOf step → f2 ≡ withNestedGoals f1 (insertNested (f1 .nestedGoals) goal p) → f3 ≡ withItself f2 → f3 ≡ addRest step overflow (CycleOnStack goal) reached f
   cycle-added goal p f2 f3 is e last =
-      last ∙ ap withItself (e ∙ ap₂ (λ (x : Frame) (q : ℕ). setNested x (insertNested (x .nestedGoals) goal q)) first is)
+      last ∙ ap withItself (e ∙ ap₂ (λ (x : Frame) (q : ℕ). withNestedGoals x (insertNested (x .nestedGoals) goal q)) first is)

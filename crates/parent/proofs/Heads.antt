@@ -13,7 +13,7 @@ use Rattle.definition.specs.declared.paths.PathKind.{PathKind}
 use Rattle.definition.specs.declared.usages.HeadUsages.{HeadUsages}
 use Rattle.definition.specs.declared.heads.CycleHead.{CycleHead}
 use Rattle.definition.specs.Heads.{CycleHeads, forEachHead}
-use Rattle.definition.specs.Stack.{Frame}
+use Rattle.definition.specs.Stack.{Frame, withHeads, withUsages, withCandidateUsages}
 use Rattle.definition.specs.Parent.{trackUsages, addToCandidate, addToUsages, joinChild, addHeads}
 use Rattle.bits.proofs.Marks.{set-only}
 use Rattle.layout.proofs.Marks.{each-one, each-clear}
@@ -62,18 +62,7 @@ one-head step own ms i c f e =
     let eh = below-one step (f .heads) ms own i c e in
     let eu = usages-one (f .usages) ms own i c e in
     let ec = candidate-one (f .candidateUsages) ms i c e in
-    λ t. record {
-      input = f .input;
-      stepKindFromParent = f .stepKindFromParent;
-      availableDepth = f .availableDepth;
-      minReachedAvailableDepth = f .minReachedAvailableDepth;
-      provisionalResult = f .provisionalResult;
-      heads = eh t;
-      encounteredOverflow = f .encounteredOverflow;
-      usages = eu t;
-      candidateUsages = ec t;
-      nestedGoals = f .nestedGoals;
-    }
+    λ t. withCandidateUsages (withUsages (withHeads f (eh t)) (eu t)) (ec t)
 
 -- ---- no head
 taken-clear : (ms : CycleHeads) (n : ℕ) → ((i : ℕ) → getD ms i none ≡ none) → (i : ℕ) → getD (take n ms) i none ≡ none
@@ -97,15 +86,4 @@ no-head step own ms f h =
     let eh = each-clear (joinChild step) (f .heads) (take own ms) (taken-clear ms own h) in
     let eu = ap (addToUsages (f .usages)) (h own) in
     let ec = candidate-clear (f .candidateUsages) ms h in
-    λ t. record {
-      input = f .input;
-      stepKindFromParent = f .stepKindFromParent;
-      availableDepth = f .availableDepth;
-      minReachedAvailableDepth = f .minReachedAvailableDepth;
-      provisionalResult = f .provisionalResult;
-      heads = eh t;
-      encounteredOverflow = f .encounteredOverflow;
-      usages = eu t;
-      candidateUsages = ec t;
-      nestedGoals = f .nestedGoals;
-    }
+    λ t. withCandidateUsages (withUsages (withHeads f (eh t)) (eu t)) (ec t)

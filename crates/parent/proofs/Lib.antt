@@ -1,4 +1,3 @@
-pub mod Nested
 pub mod Frames
 pub mod Heads
 pub mod Top

@@ -1,13 +1,12 @@
 // The parent's frame, after a nested goal.
 use buffer::scalars;
 use definition::heads::CycleHead;
-use definition::paths;
 use definition::paths::PathKind;
 use definition::paths::PathsToNested;
 use definition::usages::HeadUsages;
-use global_cache::slot;
 use layout::candidate;
 use layout::heads;
+use layout::nested;
 use layout::offsets;
 use layout::records;
 use stack::frame;
@@ -17,12 +16,12 @@ ghost use Prim.Native.Nat.{_<_, min};
 ghost use lib.Bits.{bitOr};
 ghost use Rattle.definition.specs.Paths.{extendWith, emptyPath};
 ghost use Rattle.definition.specs.Nested.{insertNested, extendFromChild};
-ghost use Rattle.definition.specs.Parent.{addRest};
-ghost use Rattle.definition.specs.Parent.{Ordinary, CycleOnStack, ProvisionalCacheHit};
+ghost use Rattle.definition.specs.Stack.{withNestedGoals};
+ghost use Rattle.definition.specs.Parent.{addRest, Ordinary, CycleOnStack, ProvisionalCacheHit};
 ghost use Rattle.layout.specs.Blocks.{UsagesBlock, candidateOf};
 ghost use Rattle.layout.specs.Frame.{truth, frameOf};
 ghost use Rattle.stack.specs.Bytes.{FrameBytes};
-ghost use Rattle.parent.specs.Head.{addUsagesAt, trackAt, joinAt, useOwn, addHeadAt, reachFrame, setNested};
+ghost use Rattle.parent.specs.Head.{addUsagesAt, trackAt, joinAt, useOwn, addHeadAt, reachFrame};
 
 // ---- heads
 
@@ -44,8 +43,8 @@ fn track(f: &mut [u8], goals: usize, i: usize, usages: HeadUsages)
         return;
     }
     let a = offsets::candidate_start(goals);
-    let e = offsets::nested_start(goals);
-    add_usages(&mut f[a..e], goals, i, usages);
+    let end = offsets::nested_start(goals);
+    add_usages(&mut f[a..end], goals, i, usages);
 }
 
 // The head at index i, reached by one step more.
@@ -56,8 +55,14 @@ fn join(f: &mut [u8], goals: usize, step: PathKind, i: usize, head: CycleHead)
     let paths = PathsToNested { bits: head.paths };
     let extended = paths.extend_with(step);
     let usages = head.usages;
-    let e = offsets::candidate_start(goals);
-    heads::insert(&mut f[40..e], goals, i, extended.bits, usages);
+    let end = offsets::candidate_start(goals);
+    heads::insert(
+        &mut f[offsets::FRAME_HEADS..end],
+        goals,
+        i,
+        extended.bits,
+        usages,
+    );
 }
 
 // The parent itself is used as a head.
@@ -66,8 +71,11 @@ fn use_itself(f: &mut [u8], goals: usize, usages: HeadUsages)
     ensures { λ _. ⌜ frameOf goals (now (f .exit)) ≡ useOwn usages (frameOf goals (now (f .entry))) ⌝ }
 {
     let before = frame::own_usages(f, goals);
-    records::write_usages(&mut f[8..40], before.add_usages_from_nested(usages));
-    f[6] = 1;
+    records::write_usages(
+        &mut f[offsets::FRAME_USAGES..offsets::FRAME_HEADS],
+        before.add_usages_from_nested(usages),
+    );
+    f[offsets::FRAME_IS_HEAD] = 1;
 }
 
 // A head of the nested goal, at index i; the parent's own index is `own`.
@@ -112,53 +120,37 @@ fn reach(f: &mut [u8], goals: usize, overflow: bool, reached: usize)
     requires { ⌜ FrameBytes goals (now f) ⌝ }
     ensures { λ _. ⌜ frameOf goals (now (f .exit)) ≡ reachFrame overflow reached (frameOf goals (now (f .entry))) ⌝ }
 {
-    f[5] = marked(f[5], overflow);
-    f[3] = lesser(f[3], reached);
+    f[offsets::FRAME_OVERFLOW] = marked(f[offsets::FRAME_OVERFLOW], overflow);
+    f[offsets::FRAME_REACHED] = lesser(f[offsets::FRAME_REACHED], reached);
 }
 
 // Paths to a nested goal.
 fn insert_nested(f: &mut [u8], goals: usize, goal: usize, paths: u8)
     requires { ⌜ FrameBytes goals (now f) ⌝ }
-    ensures { λ _. ⌜ frameOf goals (now (f .exit)) ≡ setNested (frameOf goals (now (f .entry))) (insertNested ((frameOf goals (now (f .entry))) .nestedGoals) goal paths) ⌝ }
+    ensures { λ _. ⌜ frameOf goals (now (f .exit)) ≡ withNestedGoals (frameOf goals (now (f .entry))) (insertNested ((frameOf goals (now (f .entry))) .nestedGoals) goal paths) ⌝ }
 {
     let a = offsets::nested_start(goals);
-    let e = a + goals;
-    frame::insert_paths(&mut f[a..e], goal, paths);
+    let end = a + goals;
+    nested::insert(&mut f[a..end], goal, paths);
 }
 
 // The frame's own goal is among its nested goals.
 fn insert_itself(f: &mut [u8], goals: usize)
     requires { ⌜ FrameBytes goals (now f) ⌝ }
-    ensures { λ _. ⌜ frameOf goals (now (f .exit)) ≡ setNested (frameOf goals (now (f .entry))) (insertNested ((frameOf goals (now (f .entry))) .nestedGoals) ((frameOf goals (now (f .entry))) .input) emptyPath) ⌝ }
+    ensures { λ _. ⌜ frameOf goals (now (f .exit)) ≡ withNestedGoals (frameOf goals (now (f .entry))) (insertNested ((frameOf goals (now (f .entry))) .nestedGoals) ((frameOf goals (now (f .entry))) .input) emptyPath) ⌝ }
 {
     let goal = frame::input(f, goals);
     insert_nested(f, goals, goal, 1);
 }
 
-// extend_from_child, on the bytes of the nested goals. What the step replaces is worked out
-// before the loop.
-fn extend_nested(nested: &mut [u8], step: PathKind, child: &[u8])
-    ensures { λ _. ⌜ now (nested .exit) ≡ extendFromChild (now (nested .entry)) step (now (child .entry)) ⌝ }
-{
-    let weaker = step.weaker_flags();
-    let flag = step.flag();
-    let n = scalars::least(nested.len(), child.len());
-    let mut i: usize = 0;
-    while i < n {
-        let through = paths::replace_weaker(child[i], weaker, flag);
-        nested[i] = nested[i] | through;
-        i = i + 1;
-    }
-}
-
 // The nested goals, with those of a child.
 fn extend(f: &mut [u8], goals: usize, step: PathKind, child: &[u8])
     requires { ⌜ FrameBytes goals (now f) ⌝ }
-    ensures { λ _. ⌜ frameOf goals (now (f .exit)) ≡ setNested (frameOf goals (now (f .entry))) (extendFromChild ((frameOf goals (now (f .entry))) .nestedGoals) step (now (child .entry))) ⌝ }
+    ensures { λ _. ⌜ frameOf goals (now (f .exit)) ≡ withNestedGoals (frameOf goals (now (f .entry))) (extendFromChild ((frameOf goals (now (f .entry))) .nestedGoals) step (now (child .entry))) ⌝ }
 {
     let a = offsets::nested_start(goals);
-    let e = a + goals;
-    extend_nested(&mut f[a..e], step, child);
+    let end = a + goals;
+    nested::extend_from_child(&mut f[a..end], step, child);
 }
 
 // Beside the heads, after a goal that was evaluated or found in the global cache, with
@@ -176,7 +168,7 @@ pub fn add_ordinary(
 {
     reach(f, goals, overflow, reached);
     extend(f, goals, step, child);
-    if slot::is_empty(child) {
+    if nested::is_empty(child) {
         return;
     }
     insert_itself(f, goals);

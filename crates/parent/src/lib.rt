@@ -31,8 +31,8 @@ fn add_head(graph: &mut [u8], goals: usize, own: usize, step: PathKind, i: usize
     ensures { λ _. ⌜ TopWritten goals own (addHeadAt step own i head (frameAt goals own (now (graph .entry)))) (now (graph .entry)) (now (graph .exit)) ⌝ }
 {
     let a = offsets::frame_start(goals, own);
-    let e = a + offsets::frame_size(goals);
-    frame::add_head(&mut graph[a..e], goals, own, step, i, head);
+    let end = a + offsets::frame_size(goals);
+    frame::add_head(&mut graph[a..end], goals, own, step, i, head);
 }
 
 // The heads of the nested goal, in the block at `start` of the graph, behind the frame.
@@ -64,8 +64,8 @@ fn add_ordinary(
     ensures { λ _. ⌜ TopWritten goals own (addRest step overflow (Ordinary (now (nested .entry))) reached (frameAt goals own (now (graph .entry)))) (now (graph .entry)) (now (graph .exit)) ⌝ }
 {
     let a = offsets::frame_start(goals, own);
-    let e = a + offsets::frame_size(goals);
-    frame::add_ordinary(&mut graph[a..e], goals, step, overflow, nested, reached);
+    let end = a + offsets::frame_size(goals);
+    frame::add_ordinary(&mut graph[a..end], goals, step, overflow, nested, reached);
 }
 
 // The rest, after an entry.
@@ -81,8 +81,8 @@ fn add_entry(
     ensures { λ _. ⌜ TopWritten goals own (addRest step overflow ProvisionalCacheHit reached (frameAt goals own (now (graph .entry)))) (now (graph .entry)) (now (graph .exit)) ⌝ }
 {
     let a = offsets::frame_start(goals, own);
-    let e = a + offsets::frame_size(goals);
-    frame::add_entry(&mut graph[a..e], goals, step, overflow, reached);
+    let end = a + offsets::frame_size(goals);
+    frame::add_entry(&mut graph[a..end], goals, step, overflow, reached);
 }
 
 // The rest, after a goal on the stack.
@@ -98,8 +98,8 @@ fn add_cycle(
     ensures { λ _. ⌜ TopWritten goals own (addRest step false (CycleOnStack goal) reached (frameAt goals own (now (graph .entry)))) (now (graph .entry)) (now (graph .exit)) ⌝ }
 {
     let a = offsets::frame_start(goals, own);
-    let e = a + offsets::frame_size(goals);
-    frame::add_cycle(&mut graph[a..e], goals, step, goal, reached);
+    let end = a + offsets::frame_size(goals);
+    frame::add_cycle(&mut graph[a..end], goals, step, goal, reached);
 }
 
 // ---- the parent
@@ -139,7 +139,7 @@ pub fn update_from_entry(
     if height == 0 {
         return;
     }
-    let start = offsets::entry_start(goals, i) + 8;
+    let start = offsets::entry_start(goals, i) + offsets::ENTRY_HEADS;
     add_heads(graph, goals, height - 1, step, start);
     add_entry(graph, goals, height - 1, step, overflow, reached);
 }
@@ -186,7 +186,7 @@ pub fn update_from_frame(
     if height == 0 {
         return;
     }
-    let start = offsets::frame_start(goals, height) + 40;
+    let start = offsets::frame_start(goals, height) + offsets::FRAME_HEADS;
     add_heads(graph, goals, height - 1, step, start);
     add_ordinary(graph, goals, height - 1, step, overflow, child, reached);
 }

@@ -1,12 +1,14 @@
 -- What the writes of `start`, `reset` and `mark_overflow` make of a frame.
 use mathlib.Core.Path.{_≡_, refl, sym, ap, ap₂, _∙_}
 use mathlib.Core.Bool.{false}
-use mathlib.Core.Option.{none, some}
+use mathlib.Core.Option.{Option, none, some}
 use mathlib.Core.List.{List, [], _∷_}
 use Prim.Native.Nat.{ℕ, _+_, _-_, _≤_, _<_}
 use native.Mathlib.Nat.{zero-add}
 use native.Mathlib.Omega.{arith}
 use lib.ListN.{length, getD, set, replicate, length-set}
+use lib.Seq.{getD-set-same, getD-set-other}
+use Rattle.definition.specs.declared.usages.HeadUsages.{HeadUsages}
 use Rattle.definition.specs.declared.paths.PathKind.{PathKind}
 use Rattle.definition.specs.declared.paths.PathKind.the-variants.{Inductive, Unknown, Coinductive, ForcedAmbiguity}
 use Rattle.definition.specs.declared.answers.Answer.{Answer}
@@ -16,7 +18,7 @@ use Rattle.definition.specs.Answers.{answerNumber}
 use Rattle.definition.specs.Usages.{noUsages}
 use Rattle.definition.specs.Heads.{noHeads}
 use Rattle.definition.specs.Nested.{insertNested}
-use Rattle.definition.specs.Stack.{Frame}
+use Rattle.definition.specs.Stack.{Frame, withProvisionalResult, withHeads, withOverflow, withUsages, withCandidateUsages, withNestedGoals}
 use Rattle.definition.specs.Parent.{markOverflow}
 use Rattle.definition.specs.Task.{rerunFrame}
 use Rattle.definition.specs.Evaluate.{newFrame}
@@ -24,9 +26,9 @@ use Rattle.buffer.specs.Regions.{region, overwrite}
 use Rattle.buffer.proofs.Regions.{length-overwrite, region-same, region-before, region-after, byte-before, byte-in}
 use Rattle.buffer.proofs.Sized.{sized}
 use Rattle.layout.specs.Blocks.{usagesSize, usagesOf, headsSize, headsOf, blockSize, candidateOf}
-use Rattle.layout.specs.Frame.{usagesStart, headsStart, candidateStart, nestedStart, frameSize, truth, resultOf, whenSet, frameOf}
-use Rattle.layout.proofs.Frames.{frame-by, frame-byte, frame-nested, withNested}
-use Rattle.stack.proofs.Parts.{part, returned, part-length, part-back}
+use Rattle.layout.specs.Frame.{frameProvisional, frameOverflow, frameIsHead, frameTracks, usagesStart, headsStart, candidateStart, nestedStart, frameSize, resultOf, whenSet, frameOf}
+use Rattle.layout.proofs.Frames.{frame-by, frame-provisional, frame-overflow, frame-has-usages, frame-has-candidate, frame-usages, frame-nested}
+use Rattle.stack.proofs.Parts.{part, returned, part-length, part-back, returned-length}
 
 -- ---- numbers that are read back
 pub kind-back : (k : PathKind) → kindOf (kindNumber k) ≡ k
@@ -99,18 +101,7 @@ module _ (goals goal available : ℕ) (step : PathKind) (bs hs zs : List ℕ) (l
   started : headsOf goals hs ≡ noHeads goals → zs ≡ replicate goals 0 → frameOf goals three ≡ newFrame goals goal step available
   started clear zeros =
       frame-by goals three (λ j. getD (startFields goal step available) j 0) (region usagesStart usagesSize three) hs (region (candidateStart goals) (blockSize goals) three) zs bytes refl heads-there refl nested-there
-      ∙ (λ t. record {
-        input = goal;
-        stepKindFromParent = kind-back step t;
-        availableDepth = available;
-        minReachedAvailableDepth = available;
-        provisionalResult = none;
-        heads = clear t;
-        encounteredOverflow = false;
-        usages = none;
-        candidateUsages = none;
-        nestedGoals = zeros t;
-      })
+      ∙ (λ t. withNestedGoals (withHeads (newFrame goals goal (kind-back step t) available) (clear t)) (zeros t))
 
 -- by what the calls say
 module _ (goals goal available : ℕ) (step : PathKind) (bs fs hs zs : List ℕ) (c a : ℕ) (long : length bs ≡ frameSize goals) (is-c : c ≡ candidateStart goals) (is-a : a ≡ nestedStart goals) where
@@ -136,68 +127,50 @@ module _ (goals goal available : ℕ) (step : PathKind) (bs fs hs zs : List ℕ)
       ∙ started goals goal available step bs hs zs long wide narrow clear (zeros ∙ ap (λ (n : ℕ). replicate n 0) (sym kept-z ∙ narrow))
 
 -- ---- `reset`
-abbrev pub resetFields : Answer → List ℕ
-resetFields answer = (answerNumber answer + 1) ∷ 0 ∷ 1 ∷ 0 ∷ []
+module _ (goals n : ℕ) (bs : List ℕ) (answer : Answer) (long : length bs ≡ frameSize goals) (is-n : n ≡ answerNumber answer) where
+  -- the fields, one after the other
+  abbrev b1 : List ℕ
+  b1 = set bs frameProvisional (n + 1)
 
-pub reset-fields : (bs : List ℕ) → length bs ≡ 4 → (answer : Answer) (n : ℕ) → n ≡ answerNumber answer → set (set (set (set bs 0 (n + 1)) 1 0) 2 1) 3 0 ≡ resetFields answer
-reset-fields bs len answer n e =
-    sized 4 (λ l. set (set (set (set l 0 (n + 1)) 1 0) 2 1) 3 0 ≡ (n + 1) ∷ 0 ∷ 1 ∷ 0 ∷ []) (λ b0 b1 b2 b3. refl) bs len
-    ∙ ap (λ (k : ℕ). (k + 1) ∷ 0 ∷ 1 ∷ 0 ∷ []) e
+  abbrev b2 : List ℕ
+  b2 = set b1 frameOverflow 0
 
--- four bytes and the usages are written
-module _ (goals : ℕ) (bs us : List ℕ) (answer : Answer) (long : length bs ≡ frameSize goals) (usages : length us ≡ 32) where
-  abbrev four : List ℕ
-  four = overwrite bs 4 (resetFields answer)
+  abbrev b3 : List ℕ
+  b3 = set b2 frameIsHead 1
 
-  fit-four : 4 + length (resetFields answer) ≤ length bs
-  fit-four = omega arith
+  abbrev b4 : List ℕ
+  b4 = set b3 frameTracks 0
 
-  fit-usages : 8 + length us ≤ length four
-  fit-usages = omega (arith, length-overwrite bs 4 (resetFields answer) fit-four)
+  long1 : length b1 ≡ frameSize goals
+  long1 = length-set bs frameProvisional (n + 1) ∙ long
 
-  -- a region past both
-  past : (b n : ℕ) → 40 ≤ b → region b n (overwrite four 8 us) ≡ region b n bs
-  past b n h = region-after four 8 us fit-usages b n (omega arith) ∙ region-after bs 4 (resetFields answer) fit-four b n (omega arith)
+  long2 : length b2 ≡ frameSize goals
+  long2 = length-set b1 frameOverflow 0 ∙ long1
 
-  was-reset : usagesOf us ≡ noUsages → frameOf goals (overwrite four 8 us) ≡ rerunFrame (frameOf goals bs) answer
-  unfolding frameOf
-  was-reset empty =
-      let e0 = byte-before bs 4 (resetFields answer) fit-four 0 (omega arith) in
-      let e1 = byte-before bs 4 (resetFields answer) fit-four 1 (omega arith) in
-      let e2 = byte-before bs 4 (resetFields answer) fit-four 2 (omega arith) in
-      let e3 = byte-before bs 4 (resetFields answer) fit-four 3 (omega arith) in
-      let e4 = ap resultOf (byte-in bs 4 (resetFields answer) fit-four 0 (omega arith)) ∙ result-back answer in
-      let e5 = byte-in bs 4 (resetFields answer) fit-four 1 (omega arith) in
-      let e6 = byte-in bs 4 (resetFields answer) fit-four 2 (omega arith) in
-      let e7 = byte-in bs 4 (resetFields answer) fit-four 3 (omega arith) in
-      frame-by goals (overwrite four 8 us) (λ j. getD four j 0) us (region headsStart (headsSize goals) bs) (region (candidateStart goals) (blockSize goals) bs) (region (nestedStart goals) goals bs)
-      (λ j lt. byte-before four 8 us fit-usages j lt)
-      (ap (λ (n : ℕ). region 8 n (overwrite four 8 us)) (sym usages) ∙ region-same four 8 us fit-usages)
-      (past headsStart (headsSize goals) (omega arith))
-      (past (candidateStart goals) (blockSize goals) (omega arith))
-      (past (nestedStart goals) goals (omega arith))
-      ∙ (λ t. record {
-        input = e0 t;
-        stepKindFromParent = kindOf (e1 t);
-        availableDepth = e2 t;
-        minReachedAvailableDepth = e3 t;
-        provisionalResult = e4 t;
-        heads = headsOf goals (region headsStart (headsSize goals) bs);
-        encounteredOverflow = truth (e5 t);
-        usages = whenSet (e6 t) (empty t);
-        candidateUsages = whenSet (e7 t) (candidateOf goals (region (candidateStart goals) (blockSize goals) bs));
-        nestedGoals = region (nestedStart goals) goals bs;
-      })
+  long3 : length b3 ≡ frameSize goals
+  long3 = length-set b2 frameIsHead 1 ∙ long2
 
-pub reset-frame : (goals : ℕ) (bs fs us : List ℕ) (answer : Answer) → length bs ≡ frameSize goals → fs ≡ resetFields answer
-    → length us ≡ length (part (returned bs 4 8 fs) 8 40) → usagesOf us ≡ noUsages
-    → frameOf goals (returned (returned bs 4 8 fs) 8 40 us) ≡ rerunFrame (frameOf goals bs) answer
-reset-frame goals bs fs us answer long is-f kept empty =
-    let x1 : List ℕ = returned bs 4 8 fs in
-    let e1 : x1 ≡ overwrite bs 4 (resetFields answer) = ap (λ (l : List ℕ). returned bs 4 8 l) is-f in
-    let l1 : length x1 ≡ frameSize goals = ap length e1 ∙ length-overwrite bs 4 (resetFields answer) (omega arith) ∙ long in
-    ap (frameOf goals) (part-back x1 8 40 us (omega arith) (omega arith) kept ∙ ap (λ (l : List ℕ). overwrite l 8 us) e1)
-    ∙ was-reset goals bs us answer long (part-length x1 8 40 us (omega arith) (omega arith) kept) empty
+  long4 : length b4 ≡ frameSize goals
+  long4 = length-set b3 frameTracks 0 ∙ long3
+
+  is-head : getD b4 frameIsHead 0 ≡ 1
+  is-head = getD-set-other b3 frameTracks frameIsHead 0 0 (λ e. omega arith) ∙ getD-set-same b2 frameIsHead 1 0 (omega (arith, long2))
+
+  -- the usages are written behind them
+  pub reset-length : (us : List ℕ) → length us ≡ length (part b4 usagesStart headsStart) → length (returned b4 usagesStart headsStart us) ≡ length bs
+  reset-length us kept = returned-length b4 usagesStart headsStart us (omega arith) (omega (arith, long4)) kept ∙ long4 ∙ sym long
+
+  pub reset-frame : (us : List ℕ) → length us ≡ length (part b4 usagesStart headsStart) → usagesOf us ≡ noUsages
+      → frameOf goals (returned b4 usagesStart headsStart us) ≡ rerunFrame (frameOf goals bs) answer
+  reset-frame us kept none-used =
+      ap (frameOf goals) (part-back b4 usagesStart headsStart us (omega arith) (omega (arith, long4)) kept)
+      ∙ frame-usages goals b4 long4 us (part-length b4 usagesStart headsStart us (omega arith) (omega (arith, long4)) kept)
+      ∙ ap₂ (λ (k : ℕ) (u : HeadUsages). withUsages (frameOf goals b4) (whenSet k u)) is-head none-used
+      ∙ ap (λ (f : Frame). withUsages f (some noUsages)) (frame-has-candidate goals b3 long3 0)
+      ∙ ap (λ (f : Frame). withUsages (withCandidateUsages f none) (some noUsages)) (frame-has-usages goals b2 long2 1)
+      ∙ ap (λ (f : Frame). withUsages (withCandidateUsages f none) (some noUsages)) (frame-overflow goals b1 long1 0)
+      ∙ ap (λ (f : Frame). withCandidateUsages (withUsages (withOverflow f false) (some noUsages)) none) (frame-provisional goals bs long (n + 1))
+      ∙ ap (λ (o : Option Answer). withCandidateUsages (withUsages (withOverflow (withProvisionalResult (frameOf goals bs) o) false) (some noUsages)) none) (ap (λ (k : ℕ). resultOf (k + 1)) is-n ∙ result-back answer)
 
 -- ---- `mark_overflow`
 pub mark-frame : (goals : ℕ) (bs b1 ys : List ℕ) (a : ℕ) → length bs ≡ frameSize goals → b1 ≡ set bs 5 1 → a ≡ nestedStart goals → length ys ≡ length (part b1 a (a + goals))
@@ -211,5 +184,5 @@ mark-frame goals bs b1 ys a long marked is-a kept goal is-goal is-y =
     let is : ys ≡ insertNested (region (nestedStart goals) goals b1) (getD b1 0 0) 1 = is-y ∙ ap₂ (λ (k m : ℕ). insertNested (region k m b1) goal 1) is-a e ∙ ap (λ (g : ℕ). insertNested (region (nestedStart goals) goals b1) g 1) is-goal in
     ap (frameOf goals) (part-back b1 a (a + goals) ys (omega arith) (omega arith) kept ∙ ap (λ (k : ℕ). overwrite b1 k ys) is-a)
     ∙ frame-nested goals b1 l1 ys n
-    ∙ ap (withNested (frameOf goals b1)) is
-    ∙ ap (λ (f : Frame). withNested f (insertNested (f .nestedGoals) (f .input) 1)) (ap (frameOf goals) marked ∙ frame-byte goals bs long 5 1 (omega arith))
+    ∙ ap (withNestedGoals (frameOf goals b1)) is
+    ∙ ap (λ (f : Frame). withNestedGoals f (insertNested (f .nestedGoals) (f .input) 1)) (ap (frameOf goals) marked ∙ frame-overflow goals bs long 1)

@@ -1,4 +1,5 @@
 pub mod Parts
+pub mod Blocks
 pub mod Fields
 pub mod Values
 pub mod Records

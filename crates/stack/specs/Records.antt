@@ -3,20 +3,20 @@ use mathlib.Core.Bool.{Bool, true, false}
 use mathlib.Core.List.{List, [], _∷_}
 use Prim.Native.Nat.{ℕ}
 use lib.ListN.{getD}
-use Rattle.layout.specs.Frame.{truth}
+use Rattle.layout.specs.Frame.{frameInput, frameStep, frameAvailable, frameReached, frameProvisional, frameOverflow, frameIsHead, frameTracks, truth}
 use Rattle.stack.specs.declared.small.FrameRecord.{FrameRecord}
 
 abbrev pub recordOf : List ℕ → FrameRecord
 recordOf bs =
     record {
-      input = getD bs 0 0;
-      step = getD bs 1 0;
-      available = getD bs 2 0;
-      reached = getD bs 3 0;
-      provisional = getD bs 4 0;
-      overflow = truth (getD bs 5 0);
-      head = getD bs 6 0;
-      tracks = getD bs 7 0;
+      input = getD bs frameInput 0;
+      step = getD bs frameStep 0;
+      available = getD bs frameAvailable 0;
+      reached = getD bs frameReached 0;
+      provisional = getD bs frameProvisional 0;
+      overflow = truth (getD bs frameOverflow 0);
+      head = getD bs frameIsHead 0;
+      tracks = getD bs frameTracks 0;
     }
 
 abbrev pub flagByte : Bool → ℕ

@@ -1,13 +1,11 @@
-// One frame's bytes: 0 input, 1 step, 2 available depth, 3 least depth reached, 4
-// provisional result (0 none, else one more than its number), 5 overflow, 6 usages
-// present, 7 candidate usages present, 8 usages, then heads, candidate usages and nested
-// goals.
+// One frame's bytes: `layout::offsets` says where its fields and blocks stand.
 use crate::small;
 use buffer::scalars;
 use definition::answers::Answer;
 use definition::paths::PathKind;
 use definition::usages::HeadUsages;
 use layout::heads;
+use layout::nested;
 use layout::offsets;
 use layout::records;
 ghost use mathlib.Core.Path.{_≡_};
@@ -16,14 +14,14 @@ ghost use Prim.Native.Nat.{ℕ, _+_, _<_};
 ghost use lib.ListN.{length};
 ghost use Rattle.definition.specs.declared.format.Header.{Header};
 ghost use Rattle.definition.specs.Paths.{kindNumber};
-ghost use Rattle.definition.specs.Answers.{answerNumber};
-ghost use Rattle.definition.specs.Nested.{insertNested};
 ghost use Rattle.definition.specs.Stack.{Stack, requiredDepthOf};
 ghost use Rattle.definition.specs.Parent.{orNoUsages, markOverflow};
 ghost use Rattle.definition.specs.Task.{rerunFrame};
 ghost use Rattle.definition.specs.Evaluate.{newFrame};
 ghost use Rattle.definition.specs.Lookup.{allowedDepthForNested};
-ghost use Rattle.layout.specs.Frame.{frameOf};
+ghost use Rattle.buffer.specs.Regions.{region};
+ghost use Rattle.layout.specs.Blocks.{headsSize};
+ghost use Rattle.layout.specs.Frame.{headsStart, frameOf};
 ghost use Rattle.stack.specs.Bytes.{FrameBytes};
 ghost use Rattle.stack.specs.Results.{isSome, provisionalOf, depthOf};
 ghost use Rattle.stack.specs.declared.frame.Depth.the-variants.{Allowed};
@@ -46,21 +44,21 @@ pub fn input(frame: &[u8], goals: usize) -> usize
     requires { ⌜ FrameBytes goals (now frame) ⌝ }
     ensures { λ r. ⌜ (r ≡ (frameOf goals (now (frame .entry))) .input) × (r < 256) ⌝ }
 {
-    scalars::wide(frame[0])
+    scalars::wide(frame[offsets::FRAME_INPUT])
 }
 
 pub fn step_kind(frame: &[u8], goals: usize) -> PathKind
     requires { ⌜ FrameBytes goals (now frame) ⌝ }
     ensures { λ r. ⌜ r ≡ (frameOf goals (now (frame .entry))) .stepKindFromParent ⌝ }
 {
-    PathKind::from_number(frame[1])
+    PathKind::from_number(frame[offsets::FRAME_STEP])
 }
 
 pub fn available(frame: &[u8], goals: usize) -> usize
     requires { ⌜ FrameBytes goals (now frame) ⌝ }
     ensures { λ r. ⌜ (r ≡ (frameOf goals (now (frame .entry))) .availableDepth) × (r < 256) ⌝ }
 {
-    scalars::wide(frame[2])
+    scalars::wide(frame[offsets::FRAME_AVAILABLE])
 }
 
 // The least available depth that a nested goal reached.
@@ -68,14 +66,14 @@ pub fn reached(frame: &[u8], goals: usize) -> usize
     requires { ⌜ FrameBytes goals (now frame) ⌝ }
     ensures { λ r. ⌜ (r ≡ (frameOf goals (now (frame .entry))) .minReachedAvailableDepth) × (r < 256) ⌝ }
 {
-    scalars::wide(frame[3])
+    scalars::wide(frame[offsets::FRAME_REACHED])
 }
 
 pub fn provisional_result(frame: &[u8], goals: usize) -> Provisional
     requires { ⌜ FrameBytes goals (now frame) ⌝ }
     ensures { λ r. ⌜ provisionalOf r ≡ (frameOf goals (now (frame .entry))) .provisionalResult ⌝ }
 {
-    let n = frame[4];
+    let n = frame[offsets::FRAME_PROVISIONAL];
     if n == 0 {
         return Provisional::NoResult;
     }
@@ -86,7 +84,7 @@ pub fn overflow(frame: &[u8], goals: usize) -> bool
     requires { ⌜ FrameBytes goals (now frame) ⌝ }
     ensures { λ r. ⌜ r ≡ (frameOf goals (now (frame .entry))) .encounteredOverflow ⌝ }
 {
-    frame[5] != 0
+    frame[offsets::FRAME_OVERFLOW] != 0
 }
 
 // Whether it has usages as a cycle head.
@@ -94,7 +92,7 @@ pub fn is_head(frame: &[u8], goals: usize) -> bool
     requires { ⌜ FrameBytes goals (now frame) ⌝ }
     ensures { λ r. ⌜ r ≡ isSome ((frameOf goals (now (frame .entry))) .usages) ⌝ }
 {
-    frame[6] != 0
+    frame[offsets::FRAME_IS_HEAD] != 0
 }
 
 // Whether it tracks the usages of a candidate.
@@ -102,7 +100,7 @@ pub fn tracks(frame: &[u8], goals: usize) -> bool
     requires { ⌜ FrameBytes goals (now frame) ⌝ }
     ensures { λ r. ⌜ r ≡ isSome ((frameOf goals (now (frame .entry))) .candidateUsages) ⌝ }
 {
-    frame[7] != 0
+    frame[offsets::FRAME_TRACKS] != 0
 }
 
 // The usages as a cycle head, none where it is no head.
@@ -110,10 +108,29 @@ pub fn own_usages(frame: &[u8], goals: usize) -> HeadUsages
     requires { ⌜ FrameBytes goals (now frame) ⌝ }
     ensures { λ r. ⌜ r ≡ orNoUsages ((frameOf goals (now (frame .entry))) .usages) ⌝ }
 {
-    if frame[6] == 0 {
+    if frame[offsets::FRAME_IS_HEAD] == 0 {
         return HeadUsages::none();
     }
-    records::read_usages(&frame[8..40])
+    records::read_usages(&frame[offsets::FRAME_USAGES..offsets::FRAME_HEADS])
+}
+
+// The block of heads.
+pub fn heads(frame: &[u8], goals: usize) -> &[u8]
+    requires { ⌜ FrameBytes goals (now frame) ⌝ }
+    ensures { λ r. ⌜ now r ≡ region headsStart (headsSize goals) (now (frame .entry)) ⌝ }
+{
+    let end = offsets::candidate_start(goals);
+    &frame[offsets::FRAME_HEADS..end]
+}
+
+// The nested goals.
+pub fn nested(frame: &[u8], goals: usize) -> &[u8]
+    requires { ⌜ FrameBytes goals (now frame) ⌝ }
+    ensures { λ r. ⌜ now r ≡ (frameOf goals (now (frame .entry))) .nestedGoals ⌝ }
+{
+    let start = offsets::nested_start(goals);
+    let end = start + goals;
+    &frame[start..end]
 }
 
 // StackEntry::required_depth
@@ -154,14 +171,14 @@ fn start_fields(b: &mut [u8], goal: usize, step: PathKind, available: usize)
     requires { ⌜ (length (now b) ≡ 8) × ((goal < 256) × (available < 256)) ⌝ }
     ensures { λ _. ⌜ now (b .exit) ≡ goal ∷ kindNumber step ∷ available ∷ available ∷ 0 ∷ 0 ∷ 0 ∷ 0 ∷ [] ⌝ }
 {
-    b[0] = scalars::low(goal);
-    b[1] = step.number();
-    b[2] = scalars::low(available);
-    b[3] = scalars::low(available);
-    b[4] = 0;
-    b[5] = 0;
-    b[6] = 0;
-    b[7] = 0;
+    b[offsets::FRAME_INPUT] = scalars::low(goal);
+    b[offsets::FRAME_STEP] = step.number();
+    b[offsets::FRAME_AVAILABLE] = scalars::low(available);
+    b[offsets::FRAME_REACHED] = scalars::low(available);
+    b[offsets::FRAME_PROVISIONAL] = 0;
+    b[offsets::FRAME_OVERFLOW] = 0;
+    b[offsets::FRAME_IS_HEAD] = 0;
+    b[offsets::FRAME_TRACKS] = 0;
 }
 
 // A new frame.
@@ -169,23 +186,12 @@ pub fn start(frame: &mut [u8], goals: usize, goal: usize, step: PathKind, availa
     requires { ⌜ FrameBytes goals (now frame) × ((goal < 256) × (available < 256)) ⌝ }
     ensures { λ _. ⌜ frameOf goals (now (frame .exit)) ≡ newFrame goals goal step available ⌝ }
 {
-    start_fields(&mut frame[0..8], goal, step, available);
+    start_fields(&mut frame[0..offsets::FRAME_USAGES], goal, step, available);
     let c = offsets::candidate_start(goals);
-    heads::clear(&mut frame[40..c], goals);
+    heads::clear(&mut frame[offsets::FRAME_HEADS..c], goals);
     let a = offsets::nested_start(goals);
-    let e = a + goals;
-    buffer::fill_zero(&mut frame[a..e]);
-}
-
-// The fields that a rerun starts with.
-fn reset_fields(b: &mut [u8], answer: Answer)
-    requires { ⌜ length (now b) ≡ 4 ⌝ }
-    ensures { λ _. ⌜ now (b .exit) ≡ (answerNumber answer + 1) ∷ 0 ∷ 1 ∷ 0 ∷ [] ⌝ }
-{
-    b[0] = answer.number() + 1;
-    b[1] = 0;
-    b[2] = 1;
-    b[3] = 0;
+    let end = a + goals;
+    buffer::fill_zero(&mut frame[a..end]);
 }
 
 // Before the next iteration: the provisional result is the last one's; heads and nested
@@ -194,16 +200,14 @@ pub fn reset(frame: &mut [u8], goals: usize, answer: Answer)
     requires { ⌜ FrameBytes goals (now frame) ⌝ }
     ensures { λ _. ⌜ frameOf goals (now (frame .exit)) ≡ rerunFrame (frameOf goals (now (frame .entry))) answer ⌝ }
 {
-    reset_fields(&mut frame[4..8], answer);
-    records::write_usages(&mut frame[8..40], HeadUsages::none());
-}
-
-// Paths to a goal, among the bytes of nested goals.
-pub fn insert_paths(nested: &mut [u8], goal: usize, paths: u8)
-    ensures { λ _. ⌜ now (nested .exit) ≡ insertNested (now (nested .entry)) goal paths ⌝ }
-{
-    let before = buffer::get(nested, goal);
-    buffer::put(nested, goal, before | paths);
+    frame[offsets::FRAME_PROVISIONAL] = answer.number() + 1;
+    frame[offsets::FRAME_OVERFLOW] = 0;
+    frame[offsets::FRAME_IS_HEAD] = 1;
+    frame[offsets::FRAME_TRACKS] = 0;
+    records::write_usages(
+        &mut frame[offsets::FRAME_USAGES..offsets::FRAME_HEADS],
+        HeadUsages::none(),
+    );
 }
 
 // The frame met overflow; its own goal is among its nested goals then.
@@ -211,9 +215,9 @@ pub fn mark_overflow(frame: &mut [u8], goals: usize)
     requires { ⌜ FrameBytes goals (now frame) ⌝ }
     ensures { λ _. ⌜ frameOf goals (now (frame .exit)) ≡ markOverflow (frameOf goals (now (frame .entry))) ⌝ }
 {
-    small::mark_bytes(&mut frame[0..8]);
+    small::mark_bytes(&mut frame[0..offsets::FRAME_USAGES]);
     let goal = input(frame, goals);
     let a = offsets::nested_start(goals);
-    let e = a + goals;
-    insert_paths(&mut frame[a..e], goal, 1);
+    let end = a + goals;
+    nested::insert(&mut frame[a..end], goal, 1);
 }

@@ -36,8 +36,8 @@ pub fn frame_at(graph: &[u8], goals: usize, i: usize) -> &[u8]
     ensures { λ r. ⌜ now r ≡ frameBytes goals i (now (graph .entry)) ⌝ }
 {
     let a = offsets::frame_start(goals, i);
-    let e = a + offsets::frame_size(goals);
-    &graph[a..e]
+    let end = a + offsets::frame_size(goals);
+    &graph[a..end]
 }
 
 // A new frame on top.
@@ -53,8 +53,8 @@ pub fn push(
     ensures { λ _. ⌜ (stackOf goals (height + 1) (now (graph .exit)) ≡ newFrame goals goal step available ∷ stackOf goals height (now (graph .entry))) × ((n : ℕ) → entriesOf goals n (now (graph .exit)) ≡ entriesOf goals n (now (graph .entry))) ⌝ }
 {
     let a = offsets::frame_start(goals, height);
-    let e = a + offsets::frame_size(goals);
-    frame::start(&mut graph[a..e], goals, goal, step, available);
+    let end = a + offsets::frame_size(goals);
+    frame::start(&mut graph[a..end], goals, goal, step, available);
 }
 
 // The frame at index `own`, on top again, before its next iteration.
@@ -63,8 +63,8 @@ pub fn reset_for_rerun(graph: &mut [u8], goals: usize, own: usize, answer: Answe
     ensures { λ _. ⌜ (stackOf goals (own + 1) (now (graph .exit)) ≡ rerunFrame (frameAt goals own (now (graph .entry))) answer ∷ stackOf goals own (now (graph .entry))) × ((n : ℕ) → entriesOf goals n (now (graph .exit)) ≡ entriesOf goals n (now (graph .entry))) ⌝ }
 {
     let a = offsets::frame_start(goals, own);
-    let e = a + offsets::frame_size(goals);
-    frame::reset(&mut graph[a..e], goals, answer);
+    let end = a + offsets::frame_size(goals);
+    frame::reset(&mut graph[a..end], goals, answer);
 }
 
 // handle_overflow: the top frame met overflow.
@@ -76,8 +76,8 @@ pub fn mark_top_overflow(graph: &mut [u8], goals: usize, height: usize)
         return;
     }
     let a = offsets::frame_start(goals, height - 1);
-    let e = a + offsets::frame_size(goals);
-    frame::mark_overflow(&mut graph[a..e], goals);
+    let end = a + offsets::frame_size(goals);
+    frame::mark_overflow(&mut graph[a..end], goals);
 }
 
 // Stack::find, from the top on.

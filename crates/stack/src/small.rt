@@ -1,7 +1,9 @@
 // The small fields of a frame, its first eight bytes, as a record that is lent and
 // changed in place.
+use layout::offsets;
 ghost use mathlib.Core.Path.{_≡_};
 ghost use lib.ListN.{length, set};
+ghost use Rattle.layout.specs.Frame.{frameOverflow};
 ghost use Rattle.stack.specs.Records.{recordOf, bytesOf, flagByte, overflowed};
 
 pub struct FrameRecord {
@@ -20,14 +22,14 @@ pub fn load(b: &[u8]) -> FrameRecord
     ensures { λ r. ⌜ r ≡ recordOf (now (b .entry)) ⌝ }
 {
     FrameRecord {
-        input: b[0],
-        step: b[1],
-        available: b[2],
-        reached: b[3],
-        provisional: b[4],
-        overflow: b[5] != 0,
-        head: b[6],
-        tracks: b[7],
+        input: b[offsets::FRAME_INPUT],
+        step: b[offsets::FRAME_STEP],
+        available: b[offsets::FRAME_AVAILABLE],
+        reached: b[offsets::FRAME_REACHED],
+        provisional: b[offsets::FRAME_PROVISIONAL],
+        overflow: b[offsets::FRAME_OVERFLOW] != 0,
+        head: b[offsets::FRAME_IS_HEAD],
+        tracks: b[offsets::FRAME_TRACKS],
     }
 }
 
@@ -44,14 +46,14 @@ pub fn store(b: &mut [u8], f: FrameRecord)
     requires { ⌜ length (now b) ≡ 8 ⌝ }
     ensures { λ _. ⌜ now (b .exit) ≡ bytesOf f ⌝ }
 {
-    b[0] = f.input;
-    b[1] = f.step;
-    b[2] = f.available;
-    b[3] = f.reached;
-    b[4] = f.provisional;
-    b[5] = flag(f.overflow);
-    b[6] = f.head;
-    b[7] = f.tracks;
+    b[offsets::FRAME_INPUT] = f.input;
+    b[offsets::FRAME_STEP] = f.step;
+    b[offsets::FRAME_AVAILABLE] = f.available;
+    b[offsets::FRAME_REACHED] = f.reached;
+    b[offsets::FRAME_PROVISIONAL] = f.provisional;
+    b[offsets::FRAME_OVERFLOW] = flag(f.overflow);
+    b[offsets::FRAME_IS_HEAD] = f.head;
+    b[offsets::FRAME_TRACKS] = f.tracks;
 }
 
 // The mark itself, on a record that is lent.
@@ -73,7 +75,7 @@ pub fn marked(r: FrameRecord) -> FrameRecord
 // The mark on a frame's first eight bytes.
 pub fn mark_bytes(b: &mut [u8])
     requires { ⌜ length (now b) ≡ 8 ⌝ }
-    ensures { λ _. ⌜ now (b .exit) ≡ set (now (b .entry)) 5 1 ⌝ }
+    ensures { λ _. ⌜ now (b .exit) ≡ set (now (b .entry)) frameOverflow 1 ⌝ }
 {
     let f = marked(load(b));
     store(b, f);

@@ -10,8 +10,8 @@ merged-start-requires c κs = search needs
 block-size-requires : tie.Need-block-size-requires
 block-size-requires c κs = search needs
 
-add-e : tie.Need-add-e
-add-e c = search needs
+add-end : tie.Need-add-end
+add-end c = search needs
 
 sub-add : tie.Need-sub-add
 sub-add c = search needs
@@ -37,7 +37,7 @@ add-at-spec =
     (tie.spec
     merged-start-requires
     block-size-requires
-    add-e
+    add-end
     sub-add
     part-add-start
     part-add-end

@@ -11,8 +11,8 @@ frame-start-requires c κs = search needs
 frame-size-requires : tie.Need-frame-size-requires
 frame-size-requires c κs = search needs
 
-add-e : tie.Need-add-e
-add-e c = search needs
+add-end : tie.Need-add-end
+add-end c = search needs
 
 sub-finish : tie.Need-sub-finish
 sub-finish c = search needs
@@ -38,7 +38,7 @@ finish-single-candidate-spec =
     (tie.spec
     frame-start-requires
     frame-size-requires
-    add-e
+    add-end
     sub-finish
     part-finish-start
     part-finish-end

@@ -10,8 +10,8 @@ frame-start-requires c κs = search needs
 frame-size-requires : tie.Need-frame-size-requires
 frame-size-requires c κs = search needs
 
-add-e : tie.Need-add-e
-add-e c = search needs
+add-end : tie.Need-add-end
+add-end c = search needs
 
 sub-ignore-head : tie.Need-sub-ignore-head
 sub-ignore-head c = search needs
@@ -37,7 +37,7 @@ ignore-head-spec =
     (tie.spec
     frame-start-requires
     frame-size-requires
-    add-e
+    add-end
     sub-ignore-head
     part-ignore-head-start
     part-ignore-head-end

@@ -10,8 +10,8 @@ frame-start-requires c κs = search needs
 frame-size-requires : tie.Need-frame-size-requires
 frame-size-requires c κs = search needs
 
-add-e : tie.Need-add-e
-add-e c = search needs
+add-end : tie.Need-add-end
+add-end c = search needs
 
 sub-ignore-own : tie.Need-sub-ignore-own
 sub-ignore-own c = search needs
@@ -37,7 +37,7 @@ ignore-own-spec =
     (tie.spec
     frame-start-requires
     frame-size-requires
-    add-e
+    add-end
     sub-ignore-own
     part-ignore-own-start
     part-ignore-own-end

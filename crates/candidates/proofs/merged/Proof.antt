@@ -9,8 +9,8 @@ merged-start-requires c κs = search needs
 block-size-requires : tie.Need-block-size-requires
 block-size-requires c κs = search needs
 
-add-e : tie.Need-add-e
-add-e c = search needs
+add-end : tie.Need-add-end
+add-end c = search needs
 
 sub-result : tie.Need-sub-result
 sub-result c = search needs
@@ -30,7 +30,7 @@ merged-spec =
     (tie.spec
     merged-start-requires
     block-size-requires
-    add-e
+    add-end
     sub-result
     part-result-start
     part-result-end

@@ -12,8 +12,8 @@ merged-start-requires c κs = search needs
 block-size-requires : tie.Need-block-size-requires
 block-size-requires c κs = search needs
 
-add-e : tie.Need-add-e
-add-e c = search needs
+add-end : tie.Need-add-end
+add-end c = search needs
 
 sub-clear : tie.Need-sub-clear
 sub-clear c = search needs
@@ -39,7 +39,7 @@ start-spec =
     (tie.spec
     merged-start-requires
     block-size-requires
-    add-e
+    add-end
     sub-clear
     part-clear-start
     part-clear-end

@@ -9,8 +9,8 @@ frame-start-requires c κs = search needs
 frame-size-requires : tie.Need-frame-size-requires
 frame-size-requires c κs = search needs
 
-add-e : tie.Need-add-e
-add-e c = search needs
+add-end : tie.Need-add-end
+add-end c = search needs
 
 sub-result : tie.Need-sub-result
 sub-result c = search needs
@@ -30,7 +30,7 @@ top-spec =
     (tie.spec
     frame-start-requires
     frame-size-requires
-    add-e
+    add-end
     sub-result
     part-result-start
     part-result-end

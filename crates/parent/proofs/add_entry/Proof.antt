@@ -12,8 +12,8 @@ frame-start-requires c κs = search needs
 frame-size-requires : tie.Need-frame-size-requires
 frame-size-requires c κs = search needs
 
-add-e : tie.Need-add-e
-add-e c = search needs
+add-end : tie.Need-add-end
+add-end c = search needs
 
 sub-add-entry : tie.Need-sub-add-entry
 sub-add-entry c = search needs
@@ -39,7 +39,7 @@ add-entry-spec =
     (tie.spec
     frame-start-requires
     frame-size-requires
-    add-e
+    add-end
     sub-add-entry
     part-add-entry-start
     part-add-entry-end

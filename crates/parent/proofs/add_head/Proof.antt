@@ -12,8 +12,8 @@ frame-start-requires c κs = search needs
 frame-size-requires : tie.Need-frame-size-requires
 frame-size-requires c κs = search needs
 
-add-e : tie.Need-add-e
-add-e c = search needs
+add-end : tie.Need-add-end
+add-end c = search needs
 
 sub-add-head : tie.Need-sub-add-head
 sub-add-head c = search needs
@@ -39,7 +39,7 @@ add-head-spec =
     (tie.spec
     frame-start-requires
     frame-size-requires
-    add-e
+    add-end
     sub-add-head
     part-add-head-start
     part-add-head-end

@@ -23,8 +23,8 @@ frame-start-requires c κs = search needs
 frame-size-requires : tie.Need-frame-size-requires
 frame-size-requires c κs = search needs
 
-add-e : tie.Need-add-e
-add-e c = search needs
+add-end : tie.Need-add-end
+add-end c = search needs
 
 sub-mark-overflow : tie.Need-sub-mark-overflow
 sub-mark-overflow c = search needs
@@ -53,7 +53,7 @@ mark-top-overflow-spec =
     sub-frame-start
     frame-start-requires
     frame-size-requires
-    add-e
+    add-end
     sub-mark-overflow
     part-mark-overflow-start
     part-mark-overflow-end

@@ -10,8 +10,8 @@ frame-start-requires c κs = search needs
 frame-size-requires : tie.Need-frame-size-requires
 frame-size-requires c κs = search needs
 
-add-e : tie.Need-add-e
-add-e c = search needs
+add-end : tie.Need-add-end
+add-end c = search needs
 
 sub-start : tie.Need-sub-start
 sub-start c = search needs
@@ -38,7 +38,7 @@ push-spec =
     (tie.spec
     frame-start-requires
     frame-size-requires
-    add-e
+    add-end
     sub-start
     part-start-start
     part-start-end

@@ -15,8 +15,8 @@ frame-start-requires c κs = search needs
 frame-size-requires : tie.Need-frame-size-requires
 frame-size-requires c κs = search needs
 
-add-e : tie.Need-add-e
-add-e c = search needs
+add-end : tie.Need-add-end
+add-end c = search needs
 
 sub-reset : tie.Need-sub-reset
 sub-reset c = search needs
@@ -43,7 +43,7 @@ reset-for-rerun-spec =
     (tie.spec
     frame-start-requires
     frame-size-requires
-    add-e
+    add-end
     sub-reset
     part-reset-start
     part-reset-end

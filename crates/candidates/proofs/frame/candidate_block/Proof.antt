@@ -1,4 +1,4 @@
-use Rattle.candidates.proofs.Fields as fields
+use Rattle.stack.proofs.Blocks as blocks
 use borrow.Author.Needs.{needs}
 use Rattle.candidates.proofs.frame.candidate_block.Statement.{statement}
 use Rattle.candidates.proofs.frame.candidate_block.Tie as tie
@@ -19,7 +19,7 @@ part-result-end : tie.Need-part-result-end
 part-result-end c = search needs
 
 returns : tie.Need-returns
-returns c = let a = c .before .before .before .before .args in fields.candidate-part (a .goals) (a .f .now) (c .before .before .candidate-start .result) (c .before .nested-start .result) (c .before .before .candidate-start .ensures) (c .before .nested-start .ensures)
+returns c = let a = c .before .before .before .before .args in blocks.candidate-part (a .goals) (a .f .now) (c .before .before .candidate-start .result) (c .before .nested-start .result) (c .before .before .candidate-start .ensures) (c .before .nested-start .ensures)
 
 pub candidate-block-spec : {M : Type 1} → statement M
 candidate-block-spec =

@@ -1,3 +1,4 @@
+use Rattle.stack.proofs.Blocks as blocks
 use borrow.Author.Tests.{not-true, not-false}
 use Rattle.candidates.proofs.Fields as fields
 use borrow.Author.Needs.{needs}
@@ -14,7 +15,7 @@ candidate-block-requires : tie.Need-candidate-block-requires
 candidate-block-requires c κs = search needs
 
 mask-requires : tie.Need-mask-requires
-mask-requires c κs = let s = c .before .before .before .before in fields.candidate-block (s .args .goals) (s .args .f .now) (c .candidate-block .result .now) (s .pre) (c .candidate-block .ensures)
+mask-requires c κs = let s = c .before .before .before .before in blocks.candidate-block (s .args .goals) (s .args .f .now) (c .candidate-block .result .now) (s .pre) (c .candidate-block .ensures)
 
 returns-2 : tie.Need-returns-2
 returns-2 c = let s = c .before .before .before .before .before in fields.names-some (s .args .goals) (s .args .f .now) (c .before .before .before .tracks .result) (c .before .before .before .tracks .ensures) (not-false (c .before .before .before .tracks .result) (c .before .before .if1 .left)) (c .before .candidate-block .result .now) (c .mask .result) (c .before .candidate-block .ensures) (c .mask .ensures)

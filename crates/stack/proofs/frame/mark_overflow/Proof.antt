@@ -23,26 +23,26 @@ input-requires c κs = search needs
 nested-start-requires : tie.Need-nested-start-requires
 nested-start-requires c κs = search needs
 
-add-e : tie.Need-add-e
-add-e c = search needs
+add-end : tie.Need-add-end
+add-end c = search needs
 
-sub-insert-paths : tie.Need-sub-insert-paths
-sub-insert-paths c = search needs
+sub-insert : tie.Need-sub-insert
+sub-insert c = search needs
 
-part-insert-paths-start : tie.Need-part-insert-paths-start
-part-insert-paths-start c = search needs
+part-insert-start : tie.Need-part-insert-start
+part-insert-start c = search needs
 
-part-insert-paths-end : tie.Need-part-insert-paths-end
-part-insert-paths-end c = search needs
+part-insert-end : tie.Need-part-insert-end
+part-insert-end c = search needs
 
-insert-paths-requires : tie.Need-insert-paths-requires
-insert-paths-requires c κs = search needs
+insert-requires : tie.Need-insert-requires
+insert-requires c κs = search needs
 
 same-length : tie.Need-same-length
 same-length c = search needs
 
 returns : tie.Need-returns
-returns c = let s = c .before .before .before .before .before .before .before .before .before .before .before .before in let bs = s .args .frame .now in let m = c .before .before .before .before .before .before .before .before .before .mark-bytes in let a = c .before .before .before .before in let p = c .before .before .insert-paths in mark-frame (s .args .goals) bs (returned bs 0 8 (m .last .0)) (p .last .0) (a .nested-start .result) (s .pre .long) (mark-returned bs (m .last .0) (m .ensures)) (a .nested-start .ensures) (p .kept .0) (a .before .input .result) (a .before .input .ensures .0) (p .ensures)
+returns c = let s = c .before .before .before .before .before .before .before .before .before .before .before .before in let bs = s .args .frame .now in let m = c .before .before .before .before .before .before .before .before .before .mark-bytes in let a = c .before .before .before .before in let p = c .before .before .insert in mark-frame (s .args .goals) bs (returned bs 0 8 (m .last .0)) (p .last .0) (a .nested-start .result) (s .pre .long) (mark-returned bs (m .last .0) (m .ensures)) (a .nested-start .ensures) (p .kept .0) (a .before .input .result) (a .before .input .ensures .0) (p .ensures)
 
 pub mark-overflow-spec : {M : Type 1} → statement M
 mark-overflow-spec =
@@ -54,10 +54,10 @@ mark-overflow-spec =
     mark-bytes-requires
     input-requires
     nested-start-requires
-    add-e
-    sub-insert-paths
-    part-insert-paths-start
-    part-insert-paths-end
-    insert-paths-requires
+    add-end
+    sub-insert
+    part-insert-start
+    part-insert-end
+    insert-requires
     same-length
     returns)

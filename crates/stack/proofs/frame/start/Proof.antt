@@ -33,8 +33,8 @@ clear-requires c κs = search needs
 nested-start-requires : tie.Need-nested-start-requires
 nested-start-requires c κs = search needs
 
-add-e : tie.Need-add-e
-add-e c = search needs
+add-end : tie.Need-add-end
+add-end c = search needs
 
 sub-fill-zero : tie.Need-sub-fill-zero
 sub-fill-zero c = search needs
@@ -68,7 +68,7 @@ start-spec =
     part-clear-end
     clear-requires
     nested-start-requires
-    add-e
+    add-end
     sub-fill-zero
     part-fill-zero-start
     part-fill-zero-end

@@ -7,9 +7,9 @@ use borrow.Author.Needs.{needs}
 use Rattle.definition.specs.declared.paths.PathKind.{PathKind}
 use Rattle.definition.specs.Paths.{weakerFlags, flagOf}
 use Rattle.definition.specs.Nested.{extendFromChild}
-use Rattle.parent.proofs.Nested.{extendedFrom, extend-more, extend-all}
-use Rattle.parent.proofs.frame.extend_nested.Statement.{statement}
-use Rattle.parent.proofs.frame.extend_nested.Tie as tie
+use Rattle.layout.proofs.NestedExtended.{extendedFrom, extend-more, extend-all}
+use Rattle.layout.proofs.nested.extend_from_child.Statement.{statement}
+use Rattle.layout.proofs.nested.extend_from_child.Tie as tie
 
 abbrev Inv-loop : tie.InvT-loop
 Inv-loop nested₀ child weaker flag n i₀ nested i =
@@ -71,8 +71,8 @@ returns c =
     (c .before .before .least .ensures ∙ ap (λ (n : ℕ). min n (length (s .args .child .now))) (sym (l .inv .1)))
     (c .loop-test .left)
 
-pub extend-nested-spec : {M : Type 1} → statement M
-extend-nested-spec =
+pub extend-from-child-spec : {M : Type 1} → statement M
+extend-from-child-spec =
     tie.close
     (tie.spec
     Inv-loop

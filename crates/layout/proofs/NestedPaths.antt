@@ -38,7 +38,7 @@ or-low k a b =
           ]
     ]
 
--- ---- `flags_of`: the flags so far, and those of the bytes that are left
+-- ---- `all_paths`: the flags so far, and those of the bytes that are left
 pub flags-first : (s : List ℕ) (k : ℕ) → (leb 0 (2 ^ k - 1) && allAtMost (2 ^ k - 1) s) ≡ allAtMost (2 ^ k - 1) s
 flags-first s k = ap (λ (t : Bool). t && allAtMost (2 ^ k - 1) s) (leb·zero (2 ^ k - 1))
 

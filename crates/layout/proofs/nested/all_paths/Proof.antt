@@ -5,19 +5,19 @@ use native.Mathlib.Omega.{arith}
 use lib.Dec.{leb}
 use lib.ListN.{length, drop}
 use Rattle.definition.specs.CacheForm.{allAtMost}
-use Rattle.global_cache.proofs.Flags.{flags-first, flags-more, flags-all}
-use Rattle.global_cache.proofs.slot.flags_of.Statement.{statement}
-use Rattle.global_cache.proofs.slot.flags_of.Tie as tie
+use Rattle.layout.proofs.NestedPaths.{flags-first, flags-more, flags-all}
+use Rattle.layout.proofs.nested.all_paths.Statement.{statement}
+use Rattle.layout.proofs.nested.all_paths.Tie as tie
 
 abbrev Inv-loop : tie.InvT-loop
-Inv-loop s flags₀ i₀ flags i =
-    (i ≤ length s) × ((k : ℕ) → (leb flags (2 ^ k - 1) && allAtMost (2 ^ k - 1) (drop i s)) ≡ allAtMost (2 ^ k - 1) s)
+Inv-loop nested flags₀ i₀ flags i =
+    (i ≤ length nested) × ((k : ℕ) → (leb flags (2 ^ k - 1) && allAtMost (2 ^ k - 1) (drop i nested)) ≡ allAtMost (2 ^ k - 1) nested)
 
 abbrev μ-loop : tie.MeasureT-loop
-μ-loop s flags₀ i₀ flags i = length s - i
+μ-loop nested flags₀ i₀ flags i = length nested - i
 
 loop-holds : tie.Need-loop-holds Inv-loop μ-loop
-loop-holds c = (omega arith, flags-first (c .args .s .now))
+loop-holds c = (omega arith, flags-first (c .args .nested .now))
 
 shared-slice-read-flags : tie.Need-shared-slice-read-flags Inv-loop μ-loop
 shared-slice-read-flags c = omega arith
@@ -31,13 +31,13 @@ loop-less c = omega arith
 loop-again : tie.Need-loop-again Inv-loop μ-loop
 loop-again c =
     let l = c .before .before in
-    (omega arith, flags-more (l .before .args .s .now) (l .loop .flags) (l .loop .i) (l .loop .inv .1) (omega arith))
+    (omega arith, flags-more (l .before .args .nested .now) (l .loop .flags) (l .loop .i) (l .loop .inv .1) (omega arith))
 
 returns : tie.Need-returns Inv-loop μ-loop
-returns c = flags-all (c .before .before .args .s .now) (c .before .loop .flags) (c .before .loop .i) (c .before .loop .inv .1) (c .loop-test .left)
+returns c = flags-all (c .before .before .args .nested .now) (c .before .loop .flags) (c .before .loop .i) (c .before .loop .inv .1) (c .loop-test .left)
 
-pub flags-of-spec : {M : Type 1} → statement M
-flags-of-spec =
+pub all-paths-spec : {M : Type 1} → statement M
+all-paths-spec =
     tie.close
     (tie.spec
     Inv-loop

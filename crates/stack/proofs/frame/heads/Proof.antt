@@ -1,7 +1,7 @@
-use Rattle.candidates.proofs.Fields as fields
+use Rattle.stack.proofs.Blocks.{head-part}
 use borrow.Author.Needs.{needs}
-use Rattle.candidates.proofs.frame.head_block.Statement.{statement}
-use Rattle.candidates.proofs.frame.head_block.Tie as tie
+use Rattle.stack.proofs.frame.heads.Statement.{statement}
+use Rattle.stack.proofs.frame.heads.Tie as tie
 
 candidate-start-requires : tie.Need-candidate-start-requires
 candidate-start-requires c κs = search needs
@@ -16,10 +16,10 @@ part-result-end : tie.Need-part-result-end
 part-result-end c = search needs
 
 returns : tie.Need-returns
-returns c = let a = c .before .before .before .args in fields.head-part (a .goals) (a .f .now) (c .before .candidate-start .result) (c .before .candidate-start .ensures)
+returns c = let a = c .before .before .before .args in head-part (a .goals) (a .frame .now) (c .before .candidate-start .result) (c .before .candidate-start .ensures)
 
-pub head-block-spec : {M : Type 1} → statement M
-head-block-spec =
+pub heads-spec : {M : Type 1} → statement M
+heads-spec =
     tie.close
     (tie.spec
     candidate-start-requires

@@ -3,8 +3,8 @@ use Prim.Native.Nat.{ℕ}
 use lib.Bits.{bitOr}
 use lib.ListN.{set}
 use borrow.Author.Needs.{needs}
-use Rattle.stack.proofs.frame.insert_paths.Statement.{statement}
-use Rattle.stack.proofs.frame.insert_paths.Tie as tie
+use Rattle.layout.proofs.nested.insert.Statement.{statement}
+use Rattle.layout.proofs.nested.insert.Tie as tie
 
 get-requires : tie.Need-get-requires
 get-requires c κs = search needs
@@ -18,5 +18,5 @@ same-length c = search needs
 returns : tie.Need-returns
 returns c = let a = c .before .before .before .before .before .before .before .args in c .before .before .put .ensures ∙ ap (λ (b : ℕ). set (a .nested .now) (a .goal) (bitOr b (a .paths))) (c .before .before .before .before .get .ensures)
 
-pub insert-paths-spec : {M : Type 1} → statement M
-insert-paths-spec = tie.close (tie.spec get-requires put-requires same-length returns)
+pub insert-spec : {M : Type 1} → statement M
+insert-spec = tie.close (tie.spec get-requires put-requires same-length returns)

@@ -1,4 +1,4 @@
--- The loop of `extend_nested`.
+-- The loop of `extend_from_child`.
 use mathlib.Core.Path.{_≡_, refl, sym, ap, ap₂, _∙_}
 use mathlib.Core.List.{List, [], _∷_, _++_, append-nil}
 use Prim.Native.Nat.{ℕ, zero, suc, _+_, _≤_, _<_, min}

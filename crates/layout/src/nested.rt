@@ -1,0 +1,53 @@
+// Nested goals: a byte for each goal, the paths to it, 0 where it is not nested.
+use buffer::scalars;
+use definition::paths;
+use definition::paths::PathKind;
+ghost use mathlib.Core.Path.{_≡_};
+ghost use Prim.Native.Nat.{ℕ, _-_, _^_};
+ghost use lib.Dec.{leb};
+ghost use Rattle.definition.specs.Nested.{nestedEmpty, insertNested, extendFromChild};
+ghost use Rattle.definition.specs.CacheForm.{allAtMost};
+
+// Paths to a goal.
+pub fn insert(nested: &mut [u8], goal: usize, paths: u8)
+    ensures { λ _. ⌜ now (nested .exit) ≡ insertNested (now (nested .entry)) goal paths ⌝ }
+{
+    let before = buffer::get(nested, goal);
+    buffer::put(nested, goal, before | paths);
+}
+
+// The nested goals of a child, by one step more. What the step replaces is worked out
+// before the loop.
+pub fn extend_from_child(nested: &mut [u8], step: PathKind, child: &[u8])
+    ensures { λ _. ⌜ now (nested .exit) ≡ extendFromChild (now (nested .entry)) step (now (child .entry)) ⌝ }
+{
+    let weaker = step.weaker_flags();
+    let flag = step.flag();
+    let n = scalars::least(nested.len(), child.len());
+    let mut i: usize = 0;
+    while i < n {
+        let through = paths::replace_weaker(child[i], weaker, flag);
+        nested[i] = nested[i] | through;
+        i = i + 1;
+    }
+}
+
+// The paths to all of them together: they tell the bound 2 ^ k - 1 of every byte.
+pub fn all_paths(nested: &[u8]) -> u8
+    ensures { λ r. ⌜ ((k : ℕ) → leb r (2 ^ k - 1) ≡ allAtMost (2 ^ k - 1) (now (nested .entry))) ⌝ }
+{
+    let mut flags: u8 = 0;
+    let mut i: usize = 0;
+    while i < nested.len() {
+        flags = flags | nested[i];
+        i = i + 1;
+    }
+    flags
+}
+
+// Whether no goal is nested.
+pub fn is_empty(nested: &[u8]) -> bool
+    ensures { λ r. ⌜ r ≡ nestedEmpty (now (nested .entry)) ⌝ }
+{
+    all_paths(nested) == 0
+}
