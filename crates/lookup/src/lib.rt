@@ -12,7 +12,7 @@ use stack::OnStack;
 use stack::frame::Depth;
 use stack::frame::Provisional;
 ghost use mathlib.Core.Path.{_≡_};
-ghost use Prim.Native.Nat.{_-_, _*_, _<_, _≤_};
+ghost use Prim.Native.Nat.{_*_, _<_, _≤_};
 ghost use Rattle.definition.specs.Lookup.{cycleResult};
 ghost use Rattle.stack.specs.Bytes.{GraphBytes};
 ghost use Rattle.stack.specs.Results.{provisionalOf};
@@ -78,7 +78,10 @@ pub fn lookup_provisional_cache(
 
 // ---- lookup_global_cache
 
-// Whether a slot with these nested goals applies here.
+// Whether a slot with these nested goals applies here. Its result was found where none of
+// them was on the stack. If one is now, an evaluation would close a cycle there; if an entry
+// would answer one of them, the evaluation would take the entry's result, which leans on the
+// stack as well. Either may change the answer, so that the slot does not count.
 fn candidate_is_applicable(
     graph: &[u8],
     goals: usize,
@@ -198,7 +201,8 @@ fn cycle_result(provisional: Provisional, kind: PathKind) -> Answer
     }
 }
 
-// The goal is on the stack, at index `head`.
+// The goal is on the stack, at index `head`: a cycle. It counts in the kind of the whole way
+// round, not in that of its last step.
 fn close_cycle(
     graph: &mut [u8],
     h: Header,

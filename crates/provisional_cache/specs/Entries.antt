@@ -9,7 +9,7 @@ use lib.ListN.{length}
 use Rattle.definition.specs.declared.paths.PathKind.{PathKind}
 use Rattle.definition.specs.declared.heads.CycleHead.{CycleHead}
 use Rattle.definition.specs.declared.answers.Answer.{Answer}
-use Rattle.definition.specs.Graph.{Entry}
+use Rattle.definition.specs.Graph.{Entry, withEntryHeads, withPathFromHead}
 use Rattle.definition.specs.Paths.{extend}
 use Rattle.definition.specs.Heads.{CycleHeads, removeHead, insertHead}
 use Rattle.buffer.specs.Regions.{region}
@@ -33,35 +33,25 @@ entryAt goals i bs = entryOf goals (entryBytes goals i bs)
 abbrev pub entryFound : ℕ → ℕ → ℕ → List ℕ → Option Entry
 entryFound goals n i bs = elim (ltb i n) [ true ↦ some (entryAt goals i bs) | false ↦ none ]
 
--- an entry with other small fields
-abbrev pub withFields : Entry → ℕ → Bool → PathKind → Answer → Entry
-withFields e input overflow path result = record { input = input; encounteredOverflow = overflow; heads = e .heads; pathFromHead = path; result = result }
-
--- an entry with another path from its highest head
-abbrev pub withPath : Entry → PathKind → Entry
-withPath e path =
-    record { input = e .input; encounteredOverflow = e .encounteredOverflow; heads = e .heads; pathFromHead = path; result = e .result }
-
--- an entry with other heads
-abbrev pub withHeads : Entry → CycleHeads → Entry
-withHeads e hs =
-    record { input = e .input; encounteredOverflow = e .encounteredOverflow; heads = hs; pathFromHead = e .pathFromHead; result = e .result }
-
--- its head at index i is taken out
-abbrev pub withoutHead : Entry → ℕ → Entry
-withoutHead e i = withHeads e (removeHead (e .heads) i)
-
--- its head at index i is joined with another
-abbrev pub withJoinedHead : Entry → ℕ → CycleHead → Entry
-withJoinedHead e i head = withHeads e (insertHead (e .heads) i (head .paths) (head .usages))
-
--- its path from its highest head goes on by a path of a kind
-abbrev pub withLongerPath : Entry → PathKind → Entry
-withLongerPath e kind = withPath e (extend (e .pathFromHead) kind)
-
 -- an entry by its parts
 abbrev pub entryOn : ℕ → Bool → CycleHeads → PathKind → Answer → Entry
 entryOn input overflow heads path result = record { input = input; encounteredOverflow = overflow; heads = heads; pathFromHead = path; result = result }
+
+-- an entry with other small fields
+abbrev pub withFields : Entry → ℕ → Bool → PathKind → Answer → Entry
+withFields e input overflow path result = entryOn input overflow (e .heads) path result
+
+-- its head at index i is taken out
+abbrev pub withoutHead : Entry → ℕ → Entry
+withoutHead e i = withEntryHeads e (removeHead (e .heads) i)
+
+-- its head at index i is joined with another
+abbrev pub withJoinedHead : Entry → ℕ → CycleHead → Entry
+withJoinedHead e i head = withEntryHeads e (insertHead (e .heads) i (head .paths) (head .usages))
+
+-- its path from its highest head goes on by a path of a kind
+abbrev pub withLongerPath : Entry → PathKind → Entry
+withLongerPath e kind = withPathFromHead e (extend (e .pathFromHead) kind)
 
 -- the frames' bytes are as before, hence every stack
 pub record FramesKept (goals : ℕ) (old new : List ℕ) : Type 0 where

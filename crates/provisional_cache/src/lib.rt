@@ -5,6 +5,7 @@ use definition::paths::PathKind;
 use definition::paths::PathsToNested;
 use layout::heads;
 use layout::offsets;
+use stack::frame;
 ghost use mathlib.Core.Path.{_≡_};
 ghost use Prim.Native.Nat.{_+_, _*_, _≤_, _<_};
 ghost use lib.ListN.{length};
@@ -12,9 +13,9 @@ ghost use Rattle.buffer.specs.Regions.{region, overwrite};
 ghost use Rattle.definition.specs.Lookup.{noneOrAbove, entryMatches, entryApplies, anyEntryApplies};
 ghost use Rattle.layout.specs.Blocks.{headsSize};
 ghost use Rattle.layout.specs.Frame.{headsStart};
-ghost use Rattle.layout.specs.Entry.{entryOf};
+ghost use Rattle.layout.specs.Entry.{entryHeadsStart, entryOf};
 ghost use Rattle.layout.specs.Work.{entryStart, stackOf, entriesOf};
-ghost use Rattle.stack.specs.Bytes.{FrameBytes, GraphBytes, frameBytes, frameAt};
+ghost use Rattle.stack.specs.Bytes.{GraphBytes, frameBytes, frameAt};
 ghost use Rattle.provisional_cache.specs.Entries.{EntryBytes, entryBytes, entryOn};
 ghost use Rattle.provisional_cache.specs.Matches.{lowestHead, hidden, FirstMatch};
 ghost use Rattle.provisional_cache.specs.Reruns.{Compacted, Cleared};
@@ -38,15 +39,6 @@ pub fn entry_at(graph: &[u8], goals: usize, i: usize) -> &[u8]
     &graph[a..end]
 }
 
-// The block of heads of a frame.
-pub fn frame_heads(frame: &[u8], goals: usize) -> &[u8]
-    requires { ⌜ FrameBytes goals (now frame) ⌝ }
-    ensures { λ r. ⌜ now r ≡ region headsStart (headsSize goals) (now (frame .entry)) ⌝ }
-{
-    let end = 40 + offsets::heads_size(goals);
-    &frame[40..end]
-}
-
 // is_none_or(|lowest| lowest > head), of the lowest head of the top frame
 fn none_or_above(graph: &[u8], goals: usize, height: usize, head: usize) -> bool
     requires { ⌜ GraphBytes goals (now graph) × (height ≤ goals) ⌝ }
@@ -55,14 +47,17 @@ fn none_or_above(graph: &[u8], goals: usize, height: usize, head: usize) -> bool
     if height == 0 {
         return true;
     }
-    let hs = frame_heads(stack::frame_at(graph, goals, height - 1), goals);
+    let hs = frame::heads(stack::frame_at(graph, goals, height - 1), goals);
     if heads::is_empty(hs, goals) {
         return true;
     }
     head < bits::lowest(heads::mask(hs, goals))
 }
 
-// Whether the entry encountered overflow and is not to be used for that.
+// Whether the entry met overflow and is hidden for that. After an overflow a slot of the
+// global cache may lean on goals that its nested goals do not name, and `any_applies` cannot
+// look for them. So such an entry answers only inside its own cycle: where the top frame
+// depends on the entry's highest head already, or on one below it.
 fn is_hidden(entry: &[u8], graph: &[u8], goals: usize, height: usize, head: usize) -> bool
     requires { ⌜ EntryBytes goals (now entry) × (GraphBytes goals (now graph) × (height ≤ goals)) ⌝ }
     ensures { λ r. ⌜ r ≡ hidden goals height (now (graph .entry)) head (entryOf goals (now (entry .entry))) ⌝ }
@@ -73,7 +68,8 @@ fn is_hidden(entry: &[u8], graph: &[u8], goals: usize, height: usize, head: usiz
     false
 }
 
-// Whether the entry answers the goal as it is reached here.
+// Whether the entry answers the goal as it is reached here: its result is right only for
+// paths of one kind from its highest head to the goal.
 fn is_match(
     entry: &[u8],
     graph: &[u8],
@@ -97,7 +93,9 @@ fn is_match(
     path.same(stack::cycle_path_kind(graph, goals, height, step, head))
 }
 
-// The first of the entries that answers the goal, or their number where none does.
+// The first of the entries that answers the goal, or their number where none does. Entries
+// of one goal under different heads may all fit; which one is taken decides what the parent
+// learns, so it is the one that was inserted first, as in mod.rs.
 pub fn first_match(
     graph: &[u8],
     goals: usize,
@@ -120,7 +118,8 @@ pub fn first_match(
     entries
 }
 
-// Whether the entry would apply to one of the nested goals.
+// Whether the entry would apply to one of the nested goals. One that met overflow would not:
+// it is hidden outside its cycle.
 fn applies(
     entry: &[u8],
     graph: &[u8],
@@ -199,7 +198,9 @@ pub fn keep_if(graph: &mut [u8], goals: usize, keep: bool, i: usize, kept: usize
     kept + 1
 }
 
-// clear_dependent_provisional_results_for_rerun: how many entries are left
+// clear_dependent_provisional_results_for_rerun: how many entries are left. The frame at
+// index `rerun` has a new provisional result, so that entries that were given the old one are
+// wrong. An entry that only came by the frame, and used no result of it, is kept.
 pub fn clear_for_rerun(graph: &mut [u8], goals: usize, rerun: usize, entries: usize) -> usize
     requires { ⌜ GraphBytes goals (now graph) × ((rerun < goals) × (entries ≤ 2 * goals)) ⌝ }
     ensures { λ r. ⌜ Cleared goals rerun entries (now (graph .entry)) (now (graph .exit)) r ⌝ }
@@ -230,11 +231,11 @@ fn copy_up(s: &mut [u8], from: usize, to: usize, n: usize)
 fn copy_heads(graph: &mut [u8], goals: usize, height: usize, i: usize)
     requires { ⌜ GraphBytes goals (now graph) × ((height < goals) × (i < 2 * goals)) ⌝ }
     ensures { λ _. ⌜ now (graph .exit)
-        ≡ overwrite (now (graph .entry)) (entryStart goals i + 8)
+        ≡ overwrite (now (graph .entry)) (entryStart goals i + entryHeadsStart)
         (region headsStart (headsSize goals) (frameBytes goals height (now (graph .entry)))) ⌝ }
 {
-    let a = offsets::frame_start(goals, height) + 40;
-    let b = offsets::entry_start(goals, i) + 8;
+    let a = offsets::frame_start(goals, height) + offsets::FRAME_HEADS;
+    let b = offsets::entry_start(goals, i) + offsets::ENTRY_HEADS;
     copy_up(graph, a, b, offsets::heads_size(goals));
 }
 
@@ -265,7 +266,7 @@ fn path_from_head(graph: &[u8], goals: usize, height: usize, step: PathKind) -> 
     requires { ⌜ GraphBytes goals (now graph) × (height < goals) ⌝ }
     ensures { λ r. ⌜ r ≡ pathFromHighest goals height step (now (graph .entry)) ⌝ }
 {
-    let hs = frame_heads(stack::frame_at(graph, goals, height), goals);
+    let hs = frame::heads(stack::frame_at(graph, goals, height), goals);
     let highest = heads::highest(hs, goals);
     stack::cycle_path_kind(graph, goals, height, step, highest)
 }

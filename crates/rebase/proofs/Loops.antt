@@ -13,13 +13,13 @@ use Rattle.definition.specs.declared.heads.CycleHead.{CycleHead}
 use Rattle.definition.specs.Paths.{extend, iterPaths}
 use Rattle.definition.specs.Heads.{CycleHeads, joinHead, forEachHead}
 use Rattle.definition.specs.Stack.{Stack, Frame, cyclePathKind}
-use Rattle.definition.specs.Graph.{Entry}
+use Rattle.definition.specs.Graph.{Entry, withEntryHeads}
 use Rattle.definition.specs.ProvisionalCache.{everyPhKeeps, pathsKeepKind}
 use Rattle.bits.specs.Masks.{flags, firstPlace, placeOr}
 use Rattle.layout.specs.Blocks.{present}
 use Rattle.layout.proofs.Marks.{keep, Within, start-all, start-within, turn-small, turn-head, turn-kept, turn-rest, turn-within, end-none, each-one, each-clear}
 use Rattle.stack.specs.Bytes.{frameAt}
-use Rattle.provisional_cache.specs.Entries.{entryAt, withHeads, withJoinedHead}
+use Rattle.provisional_cache.specs.Entries.{entryAt, withJoinedHead}
 use Rattle.rebase.specs.Popped.{PoppedHead}
 use Rattle.rebase.specs.Heads.{gainedHead, gainHead, gainedEntry}
 use Rattle.rebase.specs.Rebased.{OthersKept, EntryWritten}
@@ -112,7 +112,7 @@ module _ (goals popped k : ℕ) (used : Bool) (ep : ℕ) (old : List ℕ) where
     pub small : left < 2 ^ 64
     pub within : Within left ((frameAt goals popped old) .heads)
     pub others : OthersKept goals k old new
-    pub entry : entryAt goals k new ≡ withHeads (entryAt goals k old) ((entryAt goals k new) .heads)
+    pub entry : entryAt goals k new ≡ withEntryHeads (entryAt goals k old) ((entryAt goals k new) .heads)
     pub rest : forEachHead (gainHead used ep) ((entryAt goals k new) .heads) (keep (flags 64 left) ((frameAt goals popped old) .heads)) ≡ forEachHead (gainHead used ep) ((entryAt goals k old) .heads) ((frameAt goals popped old) .heads)
 
   pub gaining-start : (left n : ℕ) → left < 2 ^ 64 → flags 64 left ≡ present cs ++ replicate n false → Gaining old left
@@ -156,7 +156,7 @@ module _ (goals popped k : ℕ) (used : Bool) (ep : ℕ) (old : List ℕ) where
             others = others-then goals k old now new (inv .others) (joined .others);
             entry =
                 joined .entry
-                ∙ ap₂ withHeads (inv .entry) (sym (ap (λ (x : Entry). x .heads) (joined .entry)));
+                ∙ ap₂ withEntryHeads (inv .entry) (sym (ap (λ (x : Entry). x .heads) (joined .entry)));
             rest =
                 ap₂ (forEachHead (gainHead used ep)) (new-heads (t .0) (t .1)) (turn-rest cs left i pos (inv .small) (inv .within) is left′ is-left)
                 ∙ each-one (gainHead used ep) hs ms i (t .0) (turn-kept cs left i pos (inv .small) (inv .within) is ∙ t .1)
@@ -166,4 +166,4 @@ module _ (goals popped k : ℕ) (used : Bool) (ep : ℕ) (old : List ℕ) where
   pub gaining-done : (now : List ℕ) (left : ℕ) → Gaining now left → left ≤ 0 → entryAt goals k now ≡ gainedEntry goals popped k used ep old
   gaining-done now left inv h =
       inv .entry
-      ∙ ap (withHeads (entryAt goals k old)) (sym (each-clear (gainHead used ep) ((entryAt goals k now) .heads) (keep (flags 64 left) cs) (end-none cs left h)) ∙ inv .rest)
+      ∙ ap (withEntryHeads (entryAt goals k old)) (sym (each-clear (gainHead used ep) ((entryAt goals k now) .heads) (keep (flags 64 left) cs) (end-none cs left h)) ∙ inv .rest)

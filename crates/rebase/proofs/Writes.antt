@@ -14,10 +14,11 @@ use Rattle.layout.specs.Work.{entriesStart, entryStart, stackOf}
 use Rattle.layout.proofs.Frames.{length-heads}
 use Rattle.layout.proofs.Graphs.{entry-room, entries-before, entries-behind}
 use Rattle.stack.specs.Bytes.{GraphBytes, frameBytes, frameAt}
+use Rattle.stack.proofs.Blocks.{heads-block}
 use Rattle.stack.proofs.Graph.{frame-bytes}
 use Rattle.stack.proofs.Parts.{part, returned}
 use Rattle.provisional_cache.specs.Entries.{entryBytes, entryAt}
-use Rattle.provisional_cache.proofs.Entries.{entry-bytes, part-is, entry-back, entry-whole, entry-heads-block, frame-heads-block}
+use Rattle.provisional_cache.proofs.Entries.{entry-bytes, part-is, entry-back, entry-whole, entry-heads-block}
 use Rattle.provisional_cache.proofs.Loops.{frames-same, frames-then}
 use Rattle.provisional_cache.proofs.Writes.{frame-kept, frames-whole}
 use Rattle.rebase.specs.Rebased.{OthersKept, EntryWritten}
@@ -76,7 +77,7 @@ unfolding entryOf
 entry-block goals k bs hs e = ap (headsOf goals) e
 
 pub popped-heads-block : (goals popped : ℕ) (bs hs : List ℕ) → GraphBytes goals bs → popped < goals → hs ≡ region headsStart (headsSize goals) (frameBytes goals popped bs) → HeadsBlock goals hs
-popped-heads-block goals popped bs hs g lt e = frame-heads-block goals (frameBytes goals popped bs) hs (frame-bytes goals bs (frameBytes goals popped bs) popped g lt refl) e
+popped-heads-block goals popped bs hs g lt e = heads-block goals (frameBytes goals popped bs) hs (frame-bytes goals bs (frameBytes goals popped bs) popped g lt refl) e
 
 pub entry-heads-at : (goals k : ℕ) (bs hs : List ℕ) → GraphBytes goals bs → k < 2 * goals → hs ≡ region entryHeadsStart (headsSize goals) (entryBytes goals k bs) → HeadsBlock goals hs
 entry-heads-at goals k bs hs g lt e = entry-heads-block goals (entryBytes goals k bs) hs (entry-bytes goals bs (entryBytes goals k bs) k g lt refl) e

@@ -9,10 +9,10 @@ use Rattle.definition.specs.declared.answers.RebaseReason.{RebaseReason}
 use Rattle.definition.specs.Paths.{extendWithPaths, emptyPath}
 use Rattle.definition.specs.Usages.{noUsages}
 use Rattle.definition.specs.Heads.{CycleHeads, joinHead, forEachHead}
-use Rattle.definition.specs.Graph.{Entry}
+use Rattle.definition.specs.Graph.{Entry, withEntryHeads}
 use Rattle.definition.specs.ProvisionalCache.{reasonKeeps}
 use Rattle.stack.specs.Bytes.{frameAt}
-use Rattle.provisional_cache.specs.Entries.{entryAt, withHeads, withoutHead}
+use Rattle.provisional_cache.specs.Entries.{entryAt, withoutHead}
 use Rattle.rebase.specs.Popped.{headsKeep}
 
 -- whether an entry that used the popped frame in this way stays: ep are the paths to it
@@ -30,7 +30,7 @@ gainHead used ep c h = joinHead h ((gainedHead used ep c) .paths) ((gainedHead u
 
 -- an entry that gains the heads cs
 abbrev pub withGained : Bool → ℕ → Entry → CycleHeads → Entry
-withGained used ep e cs = withHeads e (forEachHead (gainHead used ep) (e .heads) cs)
+withGained used ep e cs = withEntryHeads e (forEachHead (gainHead used ep) (e .heads) cs)
 
 -- entry k gains the heads of the popped frame
 abbrev pub gainedEntry : ℕ → ℕ → ℕ → Bool → ℕ → List ℕ → Entry

@@ -7,11 +7,11 @@ use Prim.Native.Nat.{ℕ, _+_, _≤_}
 use lib.ListN.{drop}
 use Rattle.definition.specs.declared.answers.RebaseReason.{RebaseReason}
 use Rattle.definition.specs.Heads.{CycleHeads, usagesAt, pathsAt}
-use Rattle.definition.specs.Graph.{Entry}
+use Rattle.definition.specs.Graph.{Entry, withEntryHeads}
 use Rattle.definition.specs.ProvisionalCache.{rebasedHeads, underNewHead, rebaseEntry, rebaseEntries}
 use Rattle.layout.specs.Work.{stackOf, entriesOf}
 use Rattle.stack.specs.Bytes.{frameAt}
-use Rattle.provisional_cache.specs.Entries.{entryAt, withHeads, FramesKept}
+use Rattle.provisional_cache.specs.Entries.{entryAt, FramesKept}
 
 -- the entry, where it is kept
 abbrev pub keptEntry : Bool → Entry → Option Entry
@@ -36,7 +36,7 @@ pub record EntryRebased (goals k : ℕ) (e : Option Entry) (keep : Bool) (old ne
 
 abbrev pub underHeads : Entry → Option CycleHeads → Option Entry
 underHeads e none = none
-underHeads e (some hs) = some (withHeads e hs)
+underHeads e (some hs) = some (withEntryHeads e hs)
 
 -- entry k with its heads after the popped frame
 abbrev pub entryUnderHeads : ℕ → ℕ → RebaseReason → ℕ → List ℕ → Option Entry

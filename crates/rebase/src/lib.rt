@@ -1,6 +1,10 @@
 // rebase_provisional_cache_entries of mod.rs: an entry e whose highest head p, the frame
 // at index `popped`, leaves the stack. The heads of p are the h; ep, ph, hp and he are
 // paths between them.
+//
+// The result of e leans on p, and p leaned on its heads. With p gone, e is kept as if p were
+// evaluated again as a goal nested in e. So e takes over the heads of p: whoever uses e then
+// depends on them, and its result goes to no global cache before they are settled.
 use definition::answers::Answer;
 use definition::answers::RebaseReason;
 use definition::heads::CycleHead;
@@ -10,6 +14,7 @@ use definition::usages::HeadUsages;
 use layout::heads;
 use layout::offsets;
 use provisional_cache::entry;
+use stack::frame;
 ghost use mathlib.Core.Path.{_≡_};
 ghost use mathlib.Core.Bool.{false};
 ghost use mathlib.Core.List.{_++_};
@@ -40,7 +45,7 @@ fn popped_heads(graph: &[u8], goals: usize, popped: usize) -> &[u8]
     ensures { λ r. ⌜ now r
         ≡ region headsStart (headsSize goals) (frameBytes goals popped (now (graph .entry))) ⌝ }
 {
-    provisional_cache::frame_heads(stack::frame_at(graph, goals, popped), goals)
+    frame::heads(stack::frame_at(graph, goals, popped), goals)
 }
 
 // The indices of the heads of p.
@@ -65,7 +70,7 @@ fn path_to_popped(graph: &[u8], goals: usize, popped: usize, i: usize) -> PathKi
     requires { ⌜ GraphBytes goals (now graph) × (popped < goals) ⌝ }
     ensures { λ r. ⌜ r ≡ pathToPopped goals popped (now (graph .entry)) i ⌝ }
 {
-    let step = stack::frame::step_kind(stack::frame_at(graph, goals, popped), goals);
+    let step = frame::step_kind(stack::frame_at(graph, goals, popped), goals);
     stack::cycle_path_kind(graph, goals, popped, step, i)
 }
 
@@ -90,7 +95,9 @@ fn head_keeps(
     paths::every_ph_keeps(hp, hp.extend(path), eps, phs)
 }
 
-// Whether the paths from each head of p keep their kind.
+// Whether the paths from each head of p keep their kind. As a goal nested in e, p closes its
+// cycles by way of e. What a cycle is given depends on its kind: p would come to the same
+// result there only if each cycle by way of e has the kind that it had without e.
 fn paths_keep_kind(
     graph: &[u8],
     goals: usize,
@@ -112,7 +119,10 @@ fn paths_keep_kind(
     true
 }
 
-// Whether the reason lets an entry with this result and these usages of p stay.
+// Whether the reason lets an entry with this result and these usages of p stay. The entry was
+// given the provisional result of p, which is what p came to only at a fixpoint. At the first
+// one that was the initial result of a kind, so the entry must have used p in that kind alone.
+// Without a fixpoint an entry stays only where p is ambiguous, and it is so in the same way.
 fn reason_keeps(reason: RebaseReason, result: Answer, usages: HeadUsages) -> bool
     ensures { λ r. ⌜ r ≡ reasonKeeps reason result usages ⌝ }
 {
@@ -271,7 +281,8 @@ fn replace_head(
     gain_heads(graph, goals, popped, k, used, eps);
 }
 
-// Its heads after p; false where it is dropped.
+// Its heads after p; false where it is dropped. Where it was given no result of p, it stays
+// whatever p comes to, and depends on the heads of p without having used them.
 fn rebase_heads(
     graph: &mut [u8],
     goals: usize,

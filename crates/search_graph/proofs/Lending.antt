@@ -6,9 +6,6 @@ use Prim.Native.Nat.{ℕ, _+_}
 use lib.ListN.{length}
 use Rattle.definition.specs.declared.paths.PathKind.{PathKind}
 use Rattle.definition.specs.declared.format.Header.{Header}
-use Rattle.definition.specs.Graph.{Graph}
-use Rattle.definition.specs.Graph as graph
-use Rattle.definition.specs.Task as task
 use Rattle.definition.specs.Evaluate.{evaluateGoalWith, newFrame, afterTask}
 use Rattle.layout.specs.Work.{graphLength, stackOf, entriesOf, graphOf}
 use Rattle.stack.proofs.Parts.{part, returned}

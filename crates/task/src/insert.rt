@@ -5,7 +5,6 @@ use definition::paths::PathKind;
 use definition::replies::Refusal;
 use evaluation::Outcome;
 use layout::heads;
-use layout::offsets;
 use stack::frame;
 ghost use mathlib.Core.Path.{_≡_};
 ghost use Prim.Native.Nat.{_<_};
@@ -19,9 +18,7 @@ pub fn nested_at(graph: &[u8], goals: usize, height: usize) -> &[u8]
     requires { ⌜ GraphBytes goals (now graph) × (height < goals) ⌝ }
     ensures { λ r. ⌜ now r ≡ (frameAt goals height (now (graph .entry))) .nestedGoals ⌝ }
 {
-    let a = offsets::frame_start(goals, height) + offsets::nested_start(goals);
-    let end = a + goals;
-    &graph[a..end]
+    frame::nested(stack::frame_at(graph, goals, height), goals)
 }
 
 // Whether the frame has no heads.
@@ -29,8 +26,10 @@ fn is_headless(graph: &[u8], goals: usize, height: usize) -> bool
     requires { ⌜ GraphBytes goals (now graph) × (height < goals) ⌝ }
     ensures { λ r. ⌜ r ≡ headsEmpty ((frameAt goals height (now (graph .entry))) .heads) ⌝ }
 {
-    let f = stack::frame_at(graph, goals, height);
-    heads::is_empty(provisional_cache::frame_heads(f, goals), goals)
+    heads::is_empty(
+        frame::heads(stack::frame_at(graph, goals, height), goals),
+        goals,
+    )
 }
 
 fn in_global_cache(
@@ -92,7 +91,8 @@ fn in_provisional_cache(
     }
 }
 
-// insert_global_cache where the frame has no heads, else insert_provisional_cache.
+// insert_global_cache where the frame has no heads, else insert_provisional_cache: a result
+// that leans on frames below holds only as long as they are on the stack.
 pub fn result(
     cache: &mut [u8],
     graph: &mut [u8],

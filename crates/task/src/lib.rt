@@ -10,7 +10,7 @@ use evaluation::Outcome;
 use evaluation::TaskOutcome;
 use stack::frame;
 ghost use mathlib.Core.Path.{_≡_};
-ghost use Prim.Native.Nat.{_-_, _*_, _≤_, _<_};
+ghost use Prim.Native.Nat.{_*_, _≤_, _<_};
 ghost use lib.ListN.{length};
 ghost use Rattle.stack.specs.Bytes.{GraphBytes};
 ghost use Rattle.task.specs.Places.{IterationEnded, TaskEnded};
@@ -47,7 +47,9 @@ fn rebased(
     TaskOutcome::Evaluated(answer, overflow, left)
 }
 
-// Another iteration, unless none is left.
+// Another iteration, unless none is left. Entries that used the frame's last provisional
+// result go, for it has another one now. The frame keeps what is read only once its goal is
+// done: its heads, nested goals and the depth reached. Its overflow and usages start afresh.
 fn again(
     graph: &mut [u8],
     goals: usize,
@@ -79,6 +81,8 @@ fn again(
     Iteration::Again(overflow, kept)
 }
 
+// What follows the iteration. That an iteration met overflow counts for the goal, though the
+// frame forgets it in a rerun.
 fn popped(
     graph: &mut [u8],
     goals: usize,
