@@ -15,11 +15,14 @@ use Rattle.lookup.specs.Lookups.{found}
 -- at a depth
 pub record AnsweredAt (h : Header) (height n goal : ℕ) (step : PathKind) (available : ℕ) (cache old new : List ℕ) (r : Found) : Type 0 where
   pub is : (root : ℕ) (compute : ℕ → Graph → Outcome)
-      → evaluateAtDepth h compute (graphOf (h .goals) root height n old cache) goal step available ≡ found h compute goal step r (graphOf (h .goals) root height n new cache)
+      → evaluateAtDepth h compute (graphOf (h .goals) root height n old cache) goal step available
+      ≡ found h compute goal step r (graphOf (h .goals) root height n new cache)
   pub low : (d : ℕ) → r ≡ Push d → d < 256
 
 -- at the depth that is allowed
-pub record Answered (h : Header) (root height n goal : ℕ) (step : PathKind) (lower : Bool) (cache old new : List ℕ) (r : Found) : Type 0 where
+pub record Answered (h : Header) (root height n goal : ℕ) (step : PathKind) (lower : Bool)
+    (cache old new : List ℕ) (r : Found) : Type 0 where
   pub is : (compute : ℕ → Graph → Outcome)
-      → evaluateGoalWith h compute (graphOf (h .goals) root height n old cache) goal step lower ≡ found h compute goal step r (graphOf (h .goals) root height n new cache)
+      → evaluateGoalWith h compute (graphOf (h .goals) root height n old cache) goal step lower
+      ≡ found h compute goal step r (graphOf (h .goals) root height n new cache)
   pub low : (d : ℕ) → r ≡ Push d → d < 256

@@ -28,11 +28,13 @@ hitOf Nothing g = none
 abbrev pub EntryUsed : ℕ → ℕ → PathKind → ℕ → ℕ → List ℕ → List ℕ → Answer → Type 0
 EntryUsed goals height step available i old new r =
     (root n : ℕ) (cache : List ℕ)
-    → some (Done (graphOf goals root height n new cache) r) ≡ useEntry (graphOf goals root height n old cache) step available (some (entryAt goals i old))
+    → some (Done (graphOf goals root height n new cache) r)
+    ≡ useEntry (graphOf goals root height n old cache) step available (some (entryAt goals i old))
 
 pub record EntriesTried (h : Header) (height n goal : ℕ) (step : PathKind) (available : ℕ) (old new : List ℕ) (r : Hit) : Type 0 where
   pub is : (root : ℕ) (cache : List ℕ)
-      → hitOf r (graphOf (h .goals) root height n new cache) ≡ lookupProvisionalCache h (graphOf (h .goals) root height n old cache) goal step available
+      → hitOf r (graphOf (h .goals) root height n new cache)
+      ≡ lookupProvisionalCache h (graphOf (h .goals) root height n old cache) goal step available
   pub missed : r ≡ Nothing → new ≡ old
 
 -- ---- the global cache
@@ -46,7 +48,8 @@ SlotUsed h height step available slot overflow old new r =
 
 pub record SlotsTried (h : Header) (height n goal : ℕ) (step : PathKind) (available : ℕ) (cache old new : List ℕ) (r : Hit) : Type 0 where
   pub is : (root : ℕ)
-      → hitOf r (graphOf (h .goals) root height n new cache) ≡ lookupGlobalCache h (graphOf (h .goals) root height n old cache) goal step available
+      → hitOf r (graphOf (h .goals) root height n new cache)
+      ≡ lookupGlobalCache h (graphOf (h .goals) root height n old cache) goal step available
   pub missed : r ≡ Nothing → new ≡ old
 
 -- ---- the stack
@@ -56,9 +59,11 @@ abbrev pub CycleClosed : Header → ℕ → ℕ → PathKind → ℕ → ℕ →
 CycleClosed h height goal step available head provisional old new r =
     (root n : ℕ) (cache : List ℕ)
     → Done (graphOf (h .goals) root height n new cache) r
-    ≡ closeCycle h (graphOf (h .goals) root height n old cache) goal step available (record { index = head; provisionalResult = provisionalOf provisional })
+    ≡ closeCycle h (graphOf (h .goals) root height n old cache) goal step available
+    (record { index = head; provisionalResult = provisionalOf provisional })
 
 pub record StackTried (h : Header) (height goal : ℕ) (step : PathKind) (available : ℕ) (old new : List ℕ) (r : Hit) : Type 0 where
   pub is : (root n : ℕ) (cache : List ℕ)
-      → hitOf r (graphOf (h .goals) root height n new cache) ≡ checkCycleOnStack h (graphOf (h .goals) root height n old cache) goal step available
+      → hitOf r (graphOf (h .goals) root height n new cache)
+      ≡ checkCycleOnStack h (graphOf (h .goals) root height n old cache) goal step available
   pub missed : r ≡ Nothing → new ≡ old

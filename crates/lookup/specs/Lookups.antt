@@ -49,7 +49,8 @@ overflowApplies goals height n bs step s = slotHeld s && applicable goals height
 
 -- whether the success slot is held, needs no more than the available depth and applies
 abbrev pub successApplies : ℕ → ℕ → ℕ → List ℕ → PathKind → ℕ → List ℕ → Bool
-successApplies goals height n bs step available s = slotHeld s && leb (slotDepth s) available && applicable goals height n bs step (slotNested s)
+successApplies goals height n bs step available s =
+    slotHeld s && leb (slotDepth s) available && applicable goals height n bs step (slotNested s)
 
 -- the goal's outcome: its answer, or that of a new frame
 unfoldable pub found : Header → (ℕ → Graph → Outcome) → ℕ → PathKind → Found → Graph → Outcome

@@ -35,7 +35,8 @@ entryFound goals n i bs = elim (ltb i n) [ true ↦ some (entryAt goals i bs) | 
 
 -- an entry by its parts
 abbrev pub entryOn : ℕ → Bool → CycleHeads → PathKind → Answer → Entry
-entryOn input overflow heads path result = record { input = input; encounteredOverflow = overflow; heads = heads; pathFromHead = path; result = result }
+entryOn input overflow heads path result =
+    record { input = input; encounteredOverflow = overflow; heads = heads; pathFromHead = path; result = result }
 
 -- an entry with other small fields
 abbrev pub withFields : Entry → ℕ → Bool → PathKind → Answer → Entry

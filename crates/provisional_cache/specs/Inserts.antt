@@ -28,9 +28,11 @@ pub record Appended (goals n : ℕ) (e : Entry) (old new : List ℕ) : Type 0 wh
   pub entries : entriesOf goals (n + 1) new ≡ entriesOf goals n old ++ (e ∷ [])
   pub frames : FramesKept goals old new
 
-pub record Inserted (goals height n goal : ℕ) (step : PathKind) (overflow : Bool) (answer : Answer) (old new : List ℕ) (r : Insertion) : Type 0 where
+pub record Inserted (goals height n goal : ℕ) (step : PathKind) (overflow : Bool) (answer : Answer)
+    (old new : List ℕ) (r : Insertion) : Type 0 where
   pub full : 2 * goals ≤ n → r ≡ Full
   pub untouched : 2 * goals ≤ n → new ≡ old
   pub kept : n < 2 * goals → r ≡ Kept
-  pub entries : n < 2 * goals → entriesOf goals (n + 1) new ≡ entriesOf goals n old ++ (inserted goals height goal step overflow answer old ∷ [])
+  pub entries : n < 2 * goals
+      → entriesOf goals (n + 1) new ≡ entriesOf goals n old ++ (inserted goals height goal step overflow answer old ∷ [])
   pub frames : FramesKept goals old new

@@ -21,7 +21,8 @@ PoppedHead goals popped bs i c = getD ((frameAt goals popped bs) .heads) i none 
 abbrev pub pathToPopped : ℕ → ℕ → List ℕ → ℕ → PathKind
 pathToPopped goals popped bs i = cyclePathKind (stackOf goals popped bs) ((frameAt goals popped bs) .stepKindFromParent) i
 
--- whether the paths from its head c at index i keep their kind where they go by way of an entry: `path` is the entry's, ep are the paths to it
+-- whether the paths from its head c at index i keep their kind where they go by way of an entry:
+-- `path` is the entry's, ep are the paths to it
 abbrev pub headKeeps : ℕ → ℕ → List ℕ → PathKind → ℕ → ℕ → CycleHead → Bool
 headKeeps goals popped bs path ep i c =
     everyPhKeeps (pathToPopped goals popped bs i) (extend (pathToPopped goals popped bs i) path) (iterPaths ep) (iterPaths (c .paths))

@@ -42,11 +42,13 @@ underHeads e (some hs) = some (withEntryHeads e hs)
 abbrev pub entryUnderHeads : ℕ → ℕ → RebaseReason → ℕ → List ℕ → Option Entry
 entryUnderHeads goals popped reason k bs =
     underHeads (entryAt goals k bs)
-    (rebasedHeads (stackOf goals popped bs) (frameAt goals popped bs) reason (entryAt goals k bs) (usagesAt ((entryAt goals k bs) .heads) popped) (pathsAt ((entryAt goals k bs) .heads) popped))
+    (rebasedHeads (stackOf goals popped bs) (frameAt goals popped bs) reason (entryAt goals k bs)
+    (usagesAt ((entryAt goals k bs) .heads) popped) (pathsAt ((entryAt goals k bs) .heads) popped))
 
 -- with its path from its highest head
 abbrev pub entryUnderNewHead : ℕ → ℕ → ℕ → List ℕ → Option Entry
-entryUnderNewHead goals popped k bs = underNewHead (stackOf goals popped bs) (frameAt goals popped bs) (entryAt goals k bs) ((entryAt goals k bs) .heads)
+entryUnderNewHead goals popped k bs =
+    underNewHead (stackOf goals popped bs) (frameAt goals popped bs) (entryAt goals k bs) ((entryAt goals k bs) .heads)
 
 -- with both
 abbrev pub rebasedEntry : ℕ → ℕ → RebaseReason → ℕ → List ℕ → Option Entry

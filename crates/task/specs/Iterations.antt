@@ -16,19 +16,23 @@ use Rattle.evaluation.specs.Outcomes.{outcomeOf, taskOutcomeOf, FewTaskEntries}
 use Rattle.task.specs.declared.Iteration.{Iteration}
 use Rattle.task.specs.Turns.{rerunBy, turn, turned, FewTurned}
 
-pub record TaskRebased (goals own n : ℕ) (reason : RebaseReason) (overflow : Bool) (answer : Answer) (old new : List ℕ) (r : TaskOutcome) : Type 0 where
+pub record TaskRebased (goals own n : ℕ) (reason : RebaseReason) (overflow : Bool) (answer : Answer)
+    (old new : List ℕ) (r : TaskOutcome) : Type 0 where
   pub is : (root : ℕ) (cache : List ℕ)
-      → taskOutcomeOf goals root own new cache r ≡ task.rebased (graphOf goals root own n old cache) (frameAt goals own old) reason overflow answer
+      → taskOutcomeOf goals root own new cache r
+      ≡ task.rebased (graphOf goals root own n old cache) (frameAt goals own old) reason overflow answer
   pub few : FewTaskEntries goals r
 
 pub record RunAgain (goals own n left : ℕ) (overflow : Bool) (answer : Answer) (old new : List ℕ) (r : Iteration) : Type 0 where
   pub is : (root : ℕ) (cache : List ℕ) (next : Bool → Graph → task.TaskOutcome)
-      → rerunBy left next overflow (graphOf goals root own n old cache) (frameAt goals own old) answer ≡ turned goals root (own + 1) next new cache r
+      → rerunBy left next overflow (graphOf goals root own n old cache) (frameAt goals own old) answer
+      ≡ turned goals root (own + 1) next new cache r
   pub few : FewTurned goals left r
 
 pub record FramePopped (goals own n left : ℕ) (overflow : Bool) (answer : Answer) (old new : List ℕ) (r : Iteration) : Type 0 where
   pub is : (root : ℕ) (cache : List ℕ) (next : Bool → Graph → task.TaskOutcome)
-      → task.endIteration (rerunBy left next) (overflow || (frameAt goals own old) .encounteredOverflow) (graphOf goals root own n old cache) (frameAt goals own old) answer
+      → task.endIteration (rerunBy left next) (overflow || (frameAt goals own old) .encounteredOverflow)
+      (graphOf goals root own n old cache) (frameAt goals own old) answer
       ≡ turned goals root (own + 1) next new cache r
   pub few : FewTurned goals left r
 
