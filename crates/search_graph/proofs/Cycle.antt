@@ -14,8 +14,9 @@ use Rattle.definition.specs.Part.{Book, partAt}
 use Rattle.definition.specs.Graph.{Graph, withStack}
 use Rattle.definition.specs.Graph as graph
 use Rattle.definition.specs.Task.{evaluateGoalInTask}
+use Rattle.definition.specs.Task as task
 use Rattle.definition.specs.Evaluate.{evalPart, computeGoal, newFrame, afterTask, evaluateNewFrame, evaluateGoalWith, evaluateGoal}
-use Rattle.layout.specs.Work.{graphOf}
+use Rattle.layout.specs.Work.{mergedOf}
 use Rattle.book.specs.Parts.{partIn}
 use Rattle.book.specs.Read.{bookIn}
 use Rattle.global_cache.specs.Cache.{CacheBytes}
@@ -31,7 +32,7 @@ use Rattle.task.specs.declared.Iteration.{Iteration}
 use Rattle.task.specs.declared.Iteration.the-variants.{End, Again}
 use Rattle.task.specs.Turns.{turn, turned, FewTurned}
 use Rattle.task.proofs.Turns.{turn-is}
-use Rattle.search_graph.specs.Calls.{Running, evaluator, Comes, TaskComes}
+use Rattle.search_graph.specs.Calls.{Running, graphHeld, evaluator, goalFrom, taskFrom, Comes, TaskComes}
 use Rattle.search_graph.specs.Between.{LookedUp, Pushed, IterationEnded, Finished}
 
 -- ---- the measure: goals off the stack, then iterations left, then bytes left
@@ -75,57 +76,67 @@ evaluates : (b : Book) (off : ℕ) (g : Graph) (goal : ℕ) (step : PathKind) (l
 evaluates b zero g goal step lower = refl
 evaluates b (suc off) g goal step lower = refl
 
-module _ (book starts cache work : List ℕ) (h : Header) (root height n goal : ℕ) (step : PathKind) (lower : Bool)
-    (run : Running book starts cache work h root height n) (work1 : List ℕ) (r : Found)
+-- the definition's compute_goal with `height` frames on the stack
+abbrev computer : List ℕ → Header → ℕ → ℕ → Graph → graph.Outcome
+computer book h height = computeBy (bookIn book) (h .goals - height)
+
+module _ {book starts cache work : List ℕ} {h : Header} {root height n goal : ℕ} {step : PathKind} {lower : Bool}
+    (run : Running book starts cache work h root height n) {work1 : List ℕ} {r : Found}
     (looked : LookedUp h root height n goal step lower work work1 cache r) where
-  finds : evaluator book h height (graphOf (h .goals) root height n (graphIn (h .goals) work) cache) goal step lower
-      ≡ found h (computeBy (bookIn book) (h .goals - height)) goal step r (graphOf (h .goals) root height n (graphIn (h .goals) work1) cache)
+  finds : goalFrom book h root height n work cache goal step lower
+      ≡ found h (computer book h height) goal step r (graphHeld (h .goals) root height n work1 cache)
   finds =
-      evaluates (bookIn book) (h .goals - height) (graphOf (h .goals) root height n (graphIn (h .goals) work) cache) goal step lower
-      ∙ ap (λ (x : Header). evaluateGoalWith x (computeBy (bookIn book) (h .goals - height)) (graphOf (h .goals) root height n (graphIn (h .goals) work) cache) goal step lower) (run .read .header)
-      ∙ looked .is (computeBy (bookIn book) (h .goals - height))
+      evaluates (bookIn book) (h .goals - height) (graphHeld (h .goals) root height n work cache) goal step lower
+      ∙ ap (λ (x : Header). evaluateGoalWith x (computer book h height) (graphHeld (h .goals) root height n work cache) goal step lower)
+      (run .read .header)
+      ∙ looked .is (computer book h height)
 
   pub known : (a : Answer) → r ≡ Known a
-      → Comes (h .goals) root height height (evaluator book h height (graphOf (h .goals) root height n (graphIn (h .goals) work) cache) goal step lower) work work1 cache (Done a n)
+      → Comes (h .goals) root height height (goalFrom book h root height n work cache goal step lower) work work1 cache (Done a n)
   unfolding outcomeOf found
   known a e =
       record {
-        is = sym (finds ∙ ap (λ (x : Found). found h (computeBy (bookIn book) (h .goals - height)) goal step x (graphOf (h .goals) root height n (graphIn (h .goals) work1) cache)) e);
+        is = sym (finds ∙ ap (λ (x : Found). found h (computer book h height) goal step x (graphHeld (h .goals) root height n work1 cache)) e);
         few = run .entries;
         merged = λ i lt. looked .merged i;
       }
 
-  module _ (d : ℕ) (e : r ≡ Push d) where
-    pushes : evaluator book h height (graphOf (h .goals) root height n (graphIn (h .goals) work) cache) goal step lower
-        ≡ evaluateNewFrame h (computeBy (bookIn book) (h .goals - height)) (graphOf (h .goals) root height n (graphIn (h .goals) work1) cache) goal step d
+  module _ {d : ℕ} (e : r ≡ Push d) where
+    pushes : goalFrom book h root height n work cache goal step lower
+        ≡ evaluateNewFrame h (computer book h height) (graphHeld (h .goals) root height n work1 cache) goal step d
     unfolding found
-    pushes = finds ∙ ap (λ (x : Found). found h (computeBy (bookIn book) (h .goals - height)) goal step x (graphOf (h .goals) root height n (graphIn (h .goals) work1) cache)) e
+    pushes = finds ∙ ap (λ (x : Found). found h (computer book h height) goal step x (graphHeld (h .goals) root height n work1 cache)) e
 
     -- every goal is on the stack
     pub full : h .goals ≤ height
-        → Comes (h .goals) root height height (evaluator book h height (graphOf (h .goals) root height n (graphIn (h .goals) work) cache) goal step lower) work work1 cache (Stopped Unreachable)
+        → Comes (h .goals) root height height (goalFrom book h root height n work cache goal step lower) work work1 cache (Stopped Unreachable)
     unfolding outcomeOf
     full le =
-        let z : h .goals - height ≡ 0 = omega arith in
+        let none-off : h .goals - height ≡ 0 = omega arith in
         record {
-          is = sym (pushes ∙ ap (λ (o : ℕ). evaluateNewFrame h (computeBy (bookIn book) o) (graphOf (h .goals) root height n (graphIn (h .goals) work1) cache) goal step d) z ∙ stops (pred (h .limit)) _);
+          is = sym
+              (pushes
+              ∙ ap (λ (off : ℕ). evaluateNewFrame h (computeBy (bookIn book) off) (graphHeld (h .goals) root height n work1 cache) goal step d)
+              none-off
+              ∙ stops (pred (h .limit)) _);
           few = tt;
           merged = λ i lt. looked .merged i;
         }
       where
-        stops : (left : ℕ) (g : Graph) → afterTask h goal step d (evaluateGoalInTask (λ g1. graph.Stopped Unreachable) left false g) ≡ graph.Stopped Unreachable
+        stops : (left : ℕ) (g : Graph)
+            → afterTask h goal step d (evaluateGoalInTask (λ g1. graph.Stopped Unreachable) left false g) ≡ graph.Stopped Unreachable
         stops zero g = refl
         stops (suc left) g = refl
 
     -- a new frame: its iterations, and what follows them
-    module _ (lt : height < h .goals) (known-goal : goal < h .goals) (work2 : List ℕ) (push : Pushed (h .goals) height goal step d work1 work2)
-        (p : List ℕ) (starts-at : p ≡ drop (getD starts goal 0) book) (left : ℕ) (less : left ≡ pred (h .limit))
-        (work3 cache3 : List ℕ) (o : TaskOutcome)
-        (ran : TaskComes (h .goals) root (height + 1 - 1)
-        (evaluateGoalInTask (evalPart (evaluator book h (height + 1)) (h .goals) (partIn (h .goals) false p)) left false (graphOf (h .goals) root (height + 1) n (graphIn (h .goals) work2) cache)) work2 work3 cache3 o)
-        (work4 cache4 : List ℕ) (x : Outcome) (end : Finished h height goal step d o work3 work4 cache3 cache4 x) where
+    module _ (lt : height < h .goals) (known-goal : goal < h .goals) {work2 : List ℕ} (push : Pushed (h .goals) height goal step d work1 work2)
+        {p : List ℕ} (starts-at : p ≡ drop (getD starts goal 0) book) {left : ℕ} (less : left ≡ pred (h .limit))
+        {work3 cache3 : List ℕ} {o : TaskOutcome}
+        (ran : TaskComes (h .goals) root (height + 1 - 1) (taskFrom book p h root (height + 1) n left work2 cache) work2 work3 cache3 o)
+        {work4 cache4 : List ℕ} {x : Outcome} (end : Finished h height goal step d o work3 work4 cache3 cache4 x) where
       the-part : partAt (bookIn book .parts) goal ≡ some (partIn (h .goals) false p)
-      the-part = run .read .started goal known-goal .part ∙ ap (λ (bs : List ℕ). some (partIn (h .goals) false bs)) (sym starts-at)
+      the-part =
+          run .read .started goal known-goal .part ∙ ap (λ (bs : List ℕ). some (partIn (h .goals) false bs)) (sym starts-at)
 
       one-off : h .goals - height ≡ suc (h .goals - (height + 1))
       one-off = omega arith
@@ -133,21 +144,27 @@ module _ (book starts cache work : List ℕ) (h : Header) (root height n goal : 
       popped : height + 1 - 1 ≡ height
       popped = omega arith
 
-      computes : (λ (g : Graph). computeBy (bookIn book) (h .goals - height) goal g) ≡ evalPart (evaluator book h (height + 1)) (h .goals) (partIn (h .goals) false p)
+      computes : (λ (g : Graph). computer book h height goal g)
+          ≡ evalPart (evaluator book h (height + 1)) (h .goals) (partIn (h .goals) false p)
       computes =
           ap (λ (m : ℕ). λ (g : Graph). computeBy (bookIn book) m goal g) one-off
-          ∙ (λ i. λ (g : Graph). elim (the-part i) [ none ↦ graph.Stopped Unreachable | some q ↦ evalPart (evaluator book h (height + 1)) (bookIn book .header .goals) q g ])
+          ∙ (λ i. λ (g : Graph).
+          elim (the-part i) [
+            | none ↦ graph.Stopped Unreachable
+            | some q ↦ evalPart (evaluator book h (height + 1)) (bookIn book .header .goals) q g
+          ])
           ∙ ap (λ (x : Header). evalPart (evaluator book h (height + 1)) (x .goals) (partIn (h .goals) false p)) (run .read .header)
 
       tasks : taskOutcomeOf (h .goals) root height (graphIn (h .goals) work3) cache3 o
-          ≡ evaluateGoalInTask (computeBy (bookIn book) (h .goals - height) goal) (pred (h .limit)) false
-          (withStack (graphOf (h .goals) root height n (graphIn (h .goals) work1) cache) (newFrame (h .goals) goal step d ∷ (graphOf (h .goals) root height n (graphIn (h .goals) work1) cache) .stack))
+          ≡ evaluateGoalInTask (computer book h height goal) (pred (h .limit)) false
+          (withStack (graphHeld (h .goals) root height n work1 cache)
+          (newFrame (h .goals) goal step d ∷ graphHeld (h .goals) root height n work1 cache .stack))
       tasks =
           ap (λ (m : ℕ). taskOutcomeOf (h .goals) root m (graphIn (h .goals) work3) cache3 o) (sym popped)
           ∙ ran .is
           ∙ (λ i. evaluateGoalInTask (sym computes i) (less i) false (push .is root n cache i))
 
-      pub framed : Comes (h .goals) root height height (evaluator book h height (graphOf (h .goals) root height n (graphIn (h .goals) work) cache) goal step lower) work work4 cache4 x
+      pub framed : Comes (h .goals) root height height (goalFrom book h root height n work cache goal step lower) work work4 cache4 x
       framed =
           record {
             is = end .is root ∙ ap (afterTask h goal step d) tasks ∙ sym pushes;
@@ -155,32 +172,55 @@ module _ (book starts cache work : List ℕ) (h : Header) (root height n goal : 
             merged = λ i low. end .merged i ∙ ran .merged i (rw popped low) ∙ push .merged i ∙ looked .merged i;
           }
 
--- ---- rerun
-module _ (goals root height left : ℕ) (overflow : Bool) (f : Graph → graph.Outcome) (g : Graph) (work work1 cache1 : List ℕ) (o : Outcome)
-    (read : Comes goals root height (height - 1) (f g) work work1 cache1 o)
-    (work2 : List ℕ) (r : Iteration) (ended : IterationEnded goals height left overflow o work1 work2 r) where
-  ends : evaluateGoalInTask f left overflow g ≡ turned goals root height (evaluateGoalInTask f (left - 1)) (graphIn goals work2) cache1 r
-  ends = turn-is f left overflow g ∙ ap (turn left (evaluateGoalInTask f (left - 1)) overflow) (sym (read .is)) ∙ ended .is root cache1 (evaluateGoalInTask f (left - 1))
+-- ---- rerun: a turn of its loop. The iterations from here on make the whole; `first` is the workspace before the loop
+pub record Turn (f : Graph → graph.Outcome) (goals root height most : ℕ) (whole : task.TaskOutcome) (first work cache : List ℕ)
+    (left : ℕ) (overflow : Bool) (n : ℕ) : Type 0 where
+  pub low : left ≤ most
+  pub few : n ≤ 2 * goals
+  pub value : evaluateGoalInTask f left overflow (graphHeld goals root height n work cache) ≡ whole
+  pub merged : (i : ℕ) → i < height - 1 → mergedOf goals i work ≡ mergedOf goals i first
 
-  pub rerun-ends : (t : TaskOutcome) → r ≡ End t → TaskComes goals root (height - 1) (evaluateGoalInTask f left overflow g) work work2 cache1 t
+pub turn-starts : {f : Graph → graph.Outcome} {goals root height : ℕ} {work cache : List ℕ} {left : ℕ} {overflow : Bool} {n : ℕ} → n ≤ 2 * goals
+    → Turn f goals root height left (evaluateGoalInTask f left overflow (graphHeld goals root height n work cache)) work work cache left overflow n
+turn-starts few =
+    record { low = omega arith; few = few; value = refl; merged = λ i lt. refl }
+
+module _ {f : Graph → graph.Outcome} {goals root height most : ℕ} {whole : task.TaskOutcome} {first work cache : List ℕ}
+    {left : ℕ} {overflow : Bool} {n : ℕ} (here : Turn f goals root height most whole first work cache left overflow n)
+    {work1 cache1 : List ℕ} {o : Outcome}
+    (read : Comes goals root height (height - 1) (f (graphHeld goals root height n work cache)) work work1 cache1 o)
+    {work2 : List ℕ} {r : Iteration} (ended : IterationEnded goals height left overflow o work1 work2 r) where
+  goes-on : turned goals root height (evaluateGoalInTask f (left - 1)) (graphIn goals work2) cache1 r ≡ whole
+  goes-on =
+      sym (ended .is root cache1 (evaluateGoalInTask f (left - 1)))
+      ∙ ap (turn left (evaluateGoalInTask f (left - 1)) overflow) (read .is)
+      ∙ sym (turn-is f left overflow (graphHeld goals root height n work cache))
+      ∙ here .value
+
+  merged-on : (i : ℕ) → i < height - 1 → mergedOf goals i work2 ≡ mergedOf goals i first
+  merged-on i lt = ended .merged i ∙ read .merged i lt ∙ here .merged i lt
+
+  pub turn-ends : (t : TaskOutcome) → r ≡ End t → TaskComes goals root (height - 1) whole first work2 cache1 t
   unfolding turned
-  rerun-ends t e =
+  turn-ends t e =
       record {
-        is = sym (ends ∙ ap (turned goals root height (evaluateGoalInTask f (left - 1)) (graphIn goals work2) cache1) e);
+        is = sym (ap (turned goals root height (evaluateGoalInTask f (left - 1)) (graphIn goals work2) cache1) e) ∙ goes-on;
         few = subst (FewTurned goals left) e (ended .few);
-        merged = λ i lt. ended .merged i ∙ read .merged i lt;
+        merged = merged-on;
       }
 
-  pub rerun-again : (met : Bool) (n : ℕ) → r ≡ Again met n → (work3 cache3 : List ℕ) (t : TaskOutcome)
-      → TaskComes goals root (height - 1) (evaluateGoalInTask f (left - 1) met (graphOf goals root height n (graphIn goals work2) cache1)) work2 work3 cache3 t
-      → TaskComes goals root (height - 1) (evaluateGoalInTask f left overflow g) work work3 cache3 t
+  -- an iteration is left
+  pub turn-left : (met : Bool) (m : ℕ) → r ≡ Again met m → 0 < left
+  turn-left met m e = subst (FewTurned goals left) e (ended .few) .1
+
+  pub turn-again : (met : Bool) (m : ℕ) → r ≡ Again met m → Turn f goals root height most whole first work2 cache1 (left - 1) met m
   unfolding turned
-  rerun-again met n e work3 cache3 t again =
+  turn-again met m e =
+      let some = turn-left met m e in
+      let before = here .low in
       record {
-        is = again .is ∙ sym (ends ∙ ap (turned goals root height (evaluateGoalInTask f (left - 1)) (graphIn goals work2) cache1) e);
-        few = again .few;
-        merged = λ i lt. again .merged i lt ∙ ended .merged i ∙ read .merged i lt;
+        low = omega arith;
+        few = subst (FewTurned goals left) e (ended .few) .0;
+        value = sym (ap (turned goals root height (evaluateGoalInTask f (left - 1)) (graphIn goals work2) cache1) e) ∙ goes-on;
+        merged = merged-on;
       }
-
-  pub rerun-few : (met : Bool) (n : ℕ) → r ≡ Again met n → (n ≤ 2 * goals) × (0 < left)
-  rerun-few met n e = subst (FewTurned goals left) e (ended .few)

@@ -4,11 +4,14 @@ use mathlib.Core.Bool.{Bool, true, false}
 use mathlib.Core.List.{List}
 use Prim.Native.Nat.{ℕ, _*_, _-_, _≤_, _<_}
 use lib.ListN.{length}
+use Rattle.definition.specs.declared.paths.PathKind.{PathKind}
 use Rattle.definition.specs.declared.format.Header.{Header}
+use Rattle.definition.specs.Graph.{Graph}
 use Rattle.definition.specs.Graph as graph
 use Rattle.definition.specs.Task as task
-use Rattle.definition.specs.Evaluate.{Evaluator, evaluateGoal}
-use Rattle.layout.specs.Work.{mergedOf}
+use Rattle.definition.specs.Evaluate.{Evaluator, evalPart, evaluateGoal}
+use Rattle.layout.specs.Work.{graphOf, mergedOf}
+use Rattle.book.specs.Parts.{partIn}
 use Rattle.book.specs.Read.{IsBook, bookIn}
 use Rattle.global_cache.specs.Cache.{CacheBytes}
 use Rattle.evaluation.specs.declared.Outcome.{Outcome}
@@ -29,6 +32,27 @@ pub record Running (book starts cache work : List ℕ) (h : Header) (root height
 -- the definition's evaluate_goal with `height` frames on the stack
 abbrev pub evaluator : List ℕ → Header → ℕ → Evaluator
 evaluator book h height = evaluateGoal (bookIn book) (h .goals - height)
+
+-- the graph that the workspace and the cache hold
+abbrev pub graphHeld : ℕ → ℕ → ℕ → ℕ → List ℕ → List ℕ → Graph
+graphHeld goals root height n work cache = graphOf goals root height n (graphIn goals work) cache
+
+-- the definition's evaluate_goal of a goal, from these bytes
+abbrev pub goalFrom : List ℕ → Header → ℕ → ℕ → ℕ → List ℕ → List ℕ → ℕ → PathKind → Bool → graph.Outcome
+goalFrom book h root height n work cache goal step lower =
+    evaluator book h height (graphHeld (h .goals) root height n work cache) goal step lower
+
+-- its compute_goal of the part that the bytes p start with
+abbrev pub computed : List ℕ → List ℕ → Bool → Header → ℕ → Graph → graph.Outcome
+computed book p inPick h height = evalPart (evaluator book h height) (h .goals) (partIn (h .goals) inPick p)
+
+abbrev pub partFrom : List ℕ → List ℕ → Bool → Header → ℕ → ℕ → ℕ → List ℕ → List ℕ → graph.Outcome
+partFrom book p inPick h root height n work cache = computed book p inPick h height (graphHeld (h .goals) root height n work cache)
+
+-- its evaluate_goal_in_task of the goal whose part that is, with `left` iterations after the first
+abbrev pub taskFrom : List ℕ → List ℕ → Header → ℕ → ℕ → ℕ → ℕ → List ℕ → List ℕ → task.TaskOutcome
+taskFrom book p h root height n left work cache =
+    task.evaluateGoalInTask (computed book p false h height) left false (graphHeld (h .goals) root height n work cache)
 
 -- an outcome is the definition's, and the merged usages below an index are as they were
 pub record Comes (goals root height low : ℕ) (whole : graph.Outcome) (old new cache : List ℕ) (r : Outcome) : Type 0 where

@@ -17,12 +17,8 @@ use lookup::Found;
 use task::Iteration;
 ghost use mathlib.Core.Bool.{false};
 ghost use Prim.Native.Nat.{_-_, _≤_, _<_};
-ghost use Rattle.definition.specs.Task.{evaluateGoalInTask};
-ghost use Rattle.definition.specs.Evaluate.{evalPart};
-ghost use Rattle.book.specs.Parts.{Reads, partIn};
-ghost use Rattle.layout.specs.Work.{graphOf};
-ghost use Rattle.evaluation.specs.Workspace.{graphIn};
-ghost use Rattle.search_graph.specs.Calls.{Running, evaluator, Comes, TaskComes, keptBelow};
+ghost use Rattle.book.specs.Parts.{Reads};
+ghost use Rattle.search_graph.specs.Calls.{Running, Comes, goalFrom, TaskComes, taskFrom, partFrom, keptBelow};
 
 // evaluate_goal, with `height` frames on the stack and `entries` provisional entries.
 pub fn evaluate(
@@ -40,7 +36,9 @@ pub fn evaluate(
 ) -> Outcome
     requires { ⌜ Running (now book) (now starts) (now cache) (now work) h root height entries ⌝ }
     requires { ⌜ goal < h .goals ⌝ }
-    ensures { λ r. ⌜ Comes (h .goals) root height height (evaluator (now (book .entry)) h height (graphOf (h .goals) root height entries (graphIn (h .goals) (now (work .entry))) (now (cache .entry))) goal step lower) (now (work .entry)) (now (work .exit)) (now (cache .exit)) r ⌝ }
+    ensures { λ r. ⌜ Comes (h .goals) root height height
+        (goalFrom (now (book .entry)) h root height entries (now (work .entry)) (now (cache .entry)) goal step lower)
+        (now (work .entry)) (now (work .exit)) (now (cache .exit)) r ⌝ }
 {
     let found = between::look_up(cache, work, h, root, height, entries, goal, step, lower);
     match found {
@@ -64,7 +62,6 @@ pub fn evaluate(
                 height + 1,
                 entries,
                 left,
-                false,
             );
             between::finish(o, cache, work, h, height, goal, step, available)
         }
@@ -72,7 +69,7 @@ pub fn evaluate(
 }
 
 // evaluate_goal_in_task: the iterations of the goal on top of the stack, of which `left`
-// more than this one are allowed.
+// more than the first are allowed. A loop, so that iterations take no stack.
 fn rerun(
     book: &[u8],
     starts: &[u16],
@@ -84,40 +81,29 @@ fn rerun(
     height: usize,
     entries: usize,
     left: usize,
-    overflow: bool,
 ) -> TaskOutcome
     requires { ⌜ Running (now book) (now starts) (now cache) (now work) h root height entries ⌝ }
     requires { ⌜ (1 ≤ height) × ((left < 99) × Reads (h .goals) false (now p)) ⌝ }
-    ensures { λ r. ⌜ TaskComes (h .goals) root (height - 1) (evaluateGoalInTask (evalPart (evaluator (now (book .entry)) h height) (h .goals) (partIn (h .goals) false (now (p .entry)))) left overflow (graphOf (h .goals) root height entries (graphIn (h .goals) (now (work .entry))) (now (cache .entry)))) (now (work .entry)) (now (work .exit)) (now (cache .exit)) r ⌝ }
+    ensures { λ r. ⌜ TaskComes (h .goals) root (height - 1)
+        (taskFrom (now (book .entry)) (now (p .entry)) h root height entries left (now (work .entry)) (now (cache .entry)))
+        (now (work .entry)) (now (work .exit)) (now (cache .exit)) r ⌝ }
 {
-    let o = read_part(
-        book,
-        starts,
-        p,
-        cache,
-        work,
-        h,
-        root,
-        height,
-        entries,
-        false,
-    );
-    let next = between::end_iteration(o, work, h.goals, height, left, overflow);
-    match next {
-        Iteration::End(t) => t,
-        Iteration::Again(met, kept) => rerun(
-            book,
-            starts,
-            p,
-            cache,
-            work,
-            h,
-            root,
-            height,
-            kept,
-            left - 1,
-            met,
-        ),
+    let mut more = left;
+    let mut overflow = false;
+    let mut kept = entries;
+    loop {
+        let o = read_part(book, starts, p, cache, work, h, root, height, kept, false);
+        let next = between::end_iteration(o, work, h.goals, height, more, overflow);
+        match next {
+            Iteration::End(t) => {
+                return t;
+            }
+            Iteration::Again(met, n) => {
+                overflow = met;
+                kept = n;
+                more = more - 1;
+            }
+        }
     }
 }
 
@@ -136,7 +122,9 @@ fn read_part(
 ) -> Outcome
     requires { ⌜ Running (now book) (now starts) (now cache) (now work) h root height entries ⌝ }
     requires { ⌜ (1 ≤ height) × Reads (h .goals) in_pick (now p) ⌝ }
-    ensures { λ r. ⌜ Comes (h .goals) root height (keptBelow in_pick height) (evalPart (evaluator (now (book .entry)) h height) (h .goals) (partIn (h .goals) in_pick (now (p .entry))) (graphOf (h .goals) root height entries (graphIn (h .goals) (now (work .entry))) (now (cache .entry)))) (now (work .entry)) (now (work .exit)) (now (cache .exit)) r ⌝ }
+    ensures { λ r. ⌜ Comes (h .goals) root height (keptBelow in_pick height)
+        (partFrom (now (book .entry)) (now (p .entry)) in_pick h root height entries (now (work .entry)) (now (cache .entry)))
+        (now (work .entry)) (now (work .exit)) (now (cache .exit)) r ⌝ }
 {
     let code = part::code(p);
     let shape = between::shape_of(code);

@@ -14,10 +14,10 @@ use Rattle.book.proofs.Walk.{a-line}
 use Rattle.evaluation.specs.Workspace.{graphIn}
 use Rattle.delegate.specs.Groups.{isPick, rest}
 use Rattle.delegate.proofs.Plain.{entered-plain}
-use Rattle.search_graph.specs.Calls.{evaluator, Comes, keptBelow}
-use Rattle.search_graph.proofs.Cycle.{rank, lower, fewer, work-next, cache-next, running-next, known, full, framed, rerun-ends, rerun-again, rerun-few}
+use Rattle.search_graph.specs.Calls.{evaluator, computed, taskFrom, Comes, keptBelow}
+use Rattle.search_graph.proofs.Cycle.{rank, lower, fewer, work-next, cache-next, running-next, known, full, framed, Turn, turn-starts, turn-ends, turn-left, turn-again}
 use Rattle.search_graph.proofs.Walks.{call-code, called, undecided, plain, inside-plain, in-part, pick-part, comes-as, part-shorter, Walk, walk-starts, walk-whole, walk-reads, walk-stops, walk-next, walk-ends, call-comes, undecided-comes}
-use borrow.Fn.Kinds.{In}
+use borrow.Fn.Kinds.{In, Out}
 use borrow.Fn.PlainCycle.{Measures, is, falls, and}
 use Rattle.search_graph.proofs.evaluate.Reads as evaluate
 use Rattle.search_graph.proofs.evaluate.Kinds as evaluate-kinds
@@ -85,104 +85,113 @@ abbrev read-part-claims : ℕ → read-part-lts.Claims
 read-part-claims t = (code-reads.Asked, code-reads.Learnt, shape-of-reads.Asked, shape-of-reads.Learnt, first-reads.Asked, first-reads.Learnt, evaluate-below t, evaluate.Post, start-reads.Asked, start-reads.Learnt, count-reads.Asked, count-reads.Learnt, read-part-below t, read-part.Post, weigh-reads.Asked, weigh-reads.Learnt, next-reads.Asked, next-reads.Learnt, close-reads.Asked, close-reads.Learnt, begin-reads.Asked, begin-reads.Learnt, before-reads.Asked, before-reads.Learnt, after-reads.Asked, after-reads.Learnt, end-reads.Asked, end-reads.Learnt)
 
 abbrev rerun-claims : ℕ → rerun-lts.Claims
-rerun-claims t = (read-part-below t, read-part.Post, end-iteration-reads.Asked, end-iteration-reads.Learnt, rerun-below t, rerun.Post)
+rerun-claims t = (read-part-below t, read-part.Post, end-iteration-reads.Asked, end-iteration-reads.Learnt)
 
--- src/lib.rt:45:9
+-- ---- evaluate: its places, each from one after it
+module _ {C : evaluate-lts.Claims} {A : In 4 evaluate-kinds.ps} {P : Out 4 evaluate-kinds.ps evaluate-kinds.r} where
+  abbrev evaluate-start : evaluate-lts.After-look-up C A P → evaluate-lts.Start C A P
+  evaluate-start c = c .before .before .before .before .before .before .before
+
+  abbrev evaluate-looked : evaluate-lts.After-known-told2 C A P → evaluate-lts.After-look-up C A P
+  evaluate-looked c = c .before .before .before .before .before
+
+  abbrev evaluate-room : evaluate-lts.After-push C A P → evaluate-lts.Else1 C A P
+  evaluate-room c = c .before .before
+
+  abbrev evaluate-pushed : evaluate-lts.After-one-less C A P → evaluate-lts.After-push C A P
+  evaluate-pushed c = c .before .before .before .before
+
+  abbrev evaluate-less : evaluate-lts.After-rerun C A P → evaluate-lts.After-one-less C A P
+  evaluate-less c = c .before .before .before
+
+  abbrev evaluate-ran : evaluate-lts.After-finish C A P → evaluate-lts.After-rerun C A P
+  evaluate-ran c = c .before .before .before .before .before .before .before
+
 evaluate-look-up-requires : (t : ℕ) → evaluate-lts.Need-look-up-requires (evaluate-claims t) (evaluate-at t) evaluate.Post
 evaluate-look-up-requires t c κs = search needs
 
--- src/lib.rt:47:22
 evaluate-enum-known-found : (t : ℕ) → evaluate-lts.Need-enum-known-found (evaluate-claims t) (evaluate-at t) evaluate.Post
 evaluate-enum-known-found t c = search needs
 
--- src/lib.rt:48:21
 evaluate-enum-known-found-2 : (t : ℕ) → evaluate-lts.Need-enum-known-found-2 (evaluate-claims t) (evaluate-at t) evaluate.Post
 evaluate-enum-known-found-2 t c = search needs
 
--- src/lib.rt:51:17
 evaluate-same-length : (t : ℕ) → evaluate-lts.Need-same-length (evaluate-claims t) (evaluate-at t) evaluate.Post
 evaluate-same-length t c = search needs
 
--- src/lib.rt:51:17
 evaluate-same-length-2 : (t : ℕ) → evaluate-lts.Need-same-length-2 (evaluate-claims t) (evaluate-at t) evaluate.Post
 evaluate-same-length-2 t c = search needs
 
--- src/lib.rt:51:17
 evaluate-returns : (t : ℕ) → evaluate-lts.Need-returns (evaluate-claims t) (evaluate-at t) evaluate.Post
-evaluate-returns t c =
-    let s = c .before .before .before .before .before .before .before .before .before .before .before .before .before in let a = s .args in let run = s .pre .1 .0 in let up = c .before .before .before .before .before .before .look-up in
-    full (a .book .now) (a .starts .now) (a .cache .now) (a .work .now) (a .h) (a .root) (a .height) (a .entries) (a .goal) (a .step) (a .lower) run (up .last .1 .0) (up .result) (up .ensures) _ (c .before .before .found2 .given .1) (c .if1 .taken)
+evaluate-returns t c = let told = c .before in let up = evaluate-looked told in let s = evaluate-start up in
+    full (s .pre .1 .0) (up .look-up .ensures) (told .before .found2 .given .1) (c .if1 .taken)
 
--- src/lib.rt:53:13
 evaluate-push-requires : (t : ℕ) → evaluate-lts.Need-push-requires (evaluate-claims t) (evaluate-at t) evaluate.Post
-evaluate-push-requires t c κs =
-    let s = c .before .before .before .before .before .before .before .before .before .before .before .before .before .before in let a = s .args in let run = s .pre .1 .0 in let up = c .before .before .before .before .before .before .before .look-up in
-    let lt = c .before .if1 .left in let known = s .pre .1 .1 in let few = run .bytes .few in
-    (work-next _ (run .bytes) (up .kept .1 .0), (omega arith, (omega arith, up .ensures .low _ (c .before .before .before .found2 .given .1))))
+evaluate-push-requires t c κs = let room = c .before in let told = room .before in let up = evaluate-looked told in let s = evaluate-start up in
+    let run = s .pre .1 .0 in let lt = room .if1 .left in let known = s .pre .1 .1 in let few = run .bytes .few in (
+      work-next _ (run .bytes) (up .look-up .kept .1 .0),
+      (omega arith, (omega arith, up .look-up .ensures .low _ (told .before .found2 .given .1))),
+    )
 
--- src/lib.rt:54:17
 evaluate-of-goal-requires : (t : ℕ) → evaluate-lts.Need-of-goal-requires (evaluate-claims t) (evaluate-at t) evaluate.Post
-evaluate-of-goal-requires t c κs =
-    let s = c .before .before .before .before .before .before .before .before .before .before .before .before .before .before .before .before .before in let a = s .args in let run = s .pre .1 .0 in let up = c .before .before .before .before .before .before .before .before .before .before .look-up in
-    let places = run .places in let known = s .pre .1 .1 in (omega arith, run .read .started (a .goal) (s .pre .1 .1) .within)
+evaluate-of-goal-requires t c κs = let room = evaluate-room (c .before .before) in let s = evaluate-start (evaluate-looked (room .before)) in
+    let run = s .pre .1 .0 in let places = run .places in let known = s .pre .1 .1 in
+    (omega arith, run .read .started (s .args .goal) known .within)
 
--- src/lib.rt:55:17
 evaluate-one-less-requires : (t : ℕ) → evaluate-lts.Need-one-less-requires (evaluate-claims t) (evaluate-at t) evaluate.Post
 evaluate-one-less-requires t c κs = search needs
 
--- src/lib.rt:64:17
 evaluate-add-rerun : (t : ℕ) → evaluate-lts.Need-add-rerun (evaluate-claims t) (evaluate-at t) evaluate.Post
 evaluate-add-rerun t c = search needs
 
--- src/lib.rt:56:17
 evaluate-rerun-requires : (t : ℕ) → evaluate-lts.Need-rerun-requires (evaluate-claims t) (evaluate-at t) evaluate.Post
-evaluate-rerun-requires t c κs =
-    let s = c .before .before .before .before .before .before .before .before .before .before .before .before .before .before .before .before .before .before .before .before .before in let a = s .args in let run = s .pre .1 .0 in let up = c .before .before .before .before .before .before .before .before .before .before .before .before .before .before .look-up in
-    let lt = c .before .before .before .before .before .before .before .before .if1 .left in let ranged = run .read .in-range in let limit = ranged .limit-fits in let less = c .before .before .one-less .ensures in
-    let part = c .before .before .before .of-goal in (
-      lower ((a .h .goals - a .height) * 128 + 0) ((a .h .goals - (a .height + 1)) * 128 + (c .before .before .one-less .result + 1)) 0 0 t (s .pre .0) (omega arith) (omega arith),
+evaluate-rerun-requires t c κs = let less = c .before .before in let pushed = evaluate-pushed less in let room = evaluate-room pushed in
+    let up = evaluate-looked (room .before) in let s = evaluate-start up in let a = s .args in let run = s .pre .1 .0 in
+    let lt = room .if1 .left in let ranged = run .read .in-range in let limit = ranged .limit-fits in let is-less = less .one-less .ensures in (
+      lower ((a .h .goals - a .height) * 128 + 0) ((a .h .goals - (a .height + 1)) * 128 + (less .one-less .result + 1)) 0 0 t (s .pre .0)
+          (omega arith) (omega arith),
       (
-        running-next _ _ (a .height + 1) (a .entries) run refl (c .before .before .before .before .before .before .push .kept .0 ∙ up .kept .1 .0) (omega arith) (run .entries),
-        (omega arith, (omega arith, rw (part .ensures) (run .read .started (a .goal) (s .pre .1 .1) .reads))),
+        running-next _ _ (a .height + 1) (a .entries) run refl (pushed .push .kept .0 ∙ up .look-up .kept .1 .0) (omega arith) (run .entries),
+        (omega arith, (omega arith, rw (less .before .of-goal .ensures) (run .read .started (a .goal) (s .pre .1 .1) .reads))),
       ),
     )
 
--- src/lib.rt:69:13
 evaluate-finish-requires : (t : ℕ) → evaluate-lts.Need-finish-requires (evaluate-claims t) (evaluate-at t) evaluate.Post
-evaluate-finish-requires t c κs =
-    let s = c .before .before .before .before .before .before .before .before .before .before .before .before .before .before .before .before .before .before .before .before .before .before .before .before .before .before .before .before in let a = s .args in let run = s .pre .1 .0 in let up = c .before .before .before .before .before .before .before .before .before .before .before .before .before .before .before .before .before .before .before .before .before .look-up in
-    let ran = c .before .before .before .before .before .before .rerun in let lt = c .before .before .before .before .before .before .before .before .before .before .before .before .before .before .before .if1 .left in
-    record { bytes = work-next _ (run .bytes) (ran .kept .1 .1 .1 .1 .0 ∙ c .before .before .before .before .before .before .before .before .before .before .before .before .before .push .kept .0 ∙ up .kept .1 .0); slots = cache-next _ (run .slots) (ran .kept .1 .1 .1 .0); stack = omega arith; known = s .pre .1 .1; few = ran .ensures .few }
+evaluate-finish-requires t c κs = let ran = c .before .before .before .before .before .before in let pushed = evaluate-pushed (evaluate-less ran) in
+    let room = evaluate-room pushed in let up = evaluate-looked (room .before) in let s = evaluate-start up in let run = s .pre .1 .0 in
+    let lt = room .if1 .left in
+    record {
+      bytes = work-next _ (run .bytes) (ran .rerun .kept .1 .1 .1 .1 .0 ∙ pushed .push .kept .0 ∙ up .look-up .kept .1 .0);
+      slots = cache-next _ (run .slots) (ran .rerun .kept .1 .1 .1 .0);
+      stack = omega arith;
+      known = s .pre .1 .1;
+      few = ran .rerun .ensures .few;
+    }
 
--- src/lib.rt:28:1
 evaluate-same-length-3 : (t : ℕ) → evaluate-lts.Need-same-length-3 (evaluate-claims t) (evaluate-at t) evaluate.Post
 evaluate-same-length-3 t c = search needs
 
--- src/lib.rt:28:1
 evaluate-same-length-4 : (t : ℕ) → evaluate-lts.Need-same-length-4 (evaluate-claims t) (evaluate-at t) evaluate.Post
 evaluate-same-length-4 t c = search needs
 
--- src/lib.rt:28:1
 evaluate-returns-2 : (t : ℕ) → evaluate-lts.Need-returns-2 (evaluate-claims t) (evaluate-at t) evaluate.Post
-evaluate-returns-2 t c =
-    let s = c .before .before .before .before .before .before .before .before .before .before .before .before in let a = s .args in let run = s .pre .1 .0 in let up = c .before .before .before .before .before .look-up in
-    known (a .book .now) (a .starts .now) (a .cache .now) (a .work .now) (a .h) (a .root) (a .height) (a .entries) (a .goal) (a .step) (a .lower) run (up .last .1 .0) (up .result) (up .ensures) _ (c .before .found .given .1)
+evaluate-returns-2 t c = let up = c .before .before .before .before .before in
+    known (evaluate-start up .pre .1 .0) (up .look-up .ensures) _ (c .before .found .given .1)
 
--- src/lib.rt:28:1
 evaluate-same-length-5 : (t : ℕ) → evaluate-lts.Need-same-length-5 (evaluate-claims t) (evaluate-at t) evaluate.Post
 evaluate-same-length-5 t c = search needs
 
--- src/lib.rt:28:1
 evaluate-same-length-6 : (t : ℕ) → evaluate-lts.Need-same-length-6 (evaluate-claims t) (evaluate-at t) evaluate.Post
-evaluate-same-length-6 t c =
-    let up = c .before .before .before .before .before .before .before .before .before .before .before .before .before .before .before .before .before .before .before .before .before .before .before .before .before .before .look-up in c .before .before .before .before .finish .kept .1 .1 .0 ∙ c .before .before .before .before .before .before .before .before .before .before .before .rerun .kept .1 .1 .1 .1 .0 ∙ c .before .before .before .before .before .before .before .before .before .before .before .before .before .before .before .before .before .before .push .kept .0 ∙ up .kept .1 .0
+evaluate-same-length-6 t c = let done = c .before .before .before .before in let ran = evaluate-ran done in let pushed = evaluate-pushed (evaluate-less ran) in
+    let up = evaluate-looked (evaluate-room pushed .before) in
+    done .finish .kept .1 .1 .0 ∙ ran .rerun .kept .1 .1 .1 .1 .0 ∙ pushed .push .kept .0 ∙ up .look-up .kept .1 .0
 
--- src/lib.rt:28:1
 evaluate-returns-3 : (t : ℕ) → evaluate-lts.Need-returns-3 (evaluate-claims t) (evaluate-at t) evaluate.Post
-evaluate-returns-3 t c =
-    let s = c .before .before .before .before .before .before .before .before .before .before .before .before .before .before .before .before .before .before .before .before .before .before .before .before .before .before .before .before .before .before .before .before .before in let a = s .args in let run = s .pre .1 .0 in let up = c .before .before .before .before .before .before .before .before .before .before .before .before .before .before .before .before .before .before .before .before .before .before .before .before .before .before .look-up in
-    let lt = c .before .before .before .before .before .before .before .before .before .before .before .before .before .before .before .before .before .before .before .before .if1 .left in let ran = c .before .before .before .before .before .before .before .before .before .before .before .rerun in let done = c .before .before .before .before .finish in
-    framed (a .book .now) (a .starts .now) (a .cache .now) (a .work .now) (a .h) (a .root) (a .height) (a .entries) (a .goal) (a .step) (a .lower) run (up .last .1 .0) (up .result) (up .ensures) _ (c .before .before .before .before .before .before .before .before .before .before .before .before .before .before .before .before .before .before .before .before .before .before .found2 .given .1) (omega arith) (s .pre .1 .1) (c .before .before .before .before .before .before .before .before .before .before .before .before .before .before .before .before .before .before .push .last .0) (c .before .before .before .before .before .before .before .before .before .before .before .before .before .before .before .before .before .before .push .ensures) (c .before .before .before .before .before .before .before .before .before .before .before .before .before .before .before .of-goal .result .now) (c .before .before .before .before .before .before .before .before .before .before .before .before .before .before .before .of-goal .ensures) (c .before .before .before .before .before .before .before .before .before .before .before .before .before .before .one-less .result) (c .before .before .before .before .before .before .before .before .before .before .before .before .before .before .one-less .ensures) (ran .last .1 .1 .1 .1 .0) (ran .last .1 .1 .1 .0) (ran .result) (ran .ensures) (done .last .1 .1 .0) (done .last .1 .0) (done .result) (done .ensures)
+evaluate-returns-3 t c = let done = c .before .before .before .before in let ran = evaluate-ran done in let less = evaluate-less ran in
+    let pushed = evaluate-pushed less in let room = evaluate-room pushed in let told = room .before in
+    let up = evaluate-looked told in let s = evaluate-start up in let lt = room .if1 .left in
+    framed (s .pre .1 .0) (up .look-up .ensures) (told .before .found2 .given .1) (omega arith) (s .pre .1 .1) (pushed .push .ensures)
+    (less .before .of-goal .ensures) (less .one-less .ensures) (ran .rerun .ensures) (done .finish .ensures)
 
 abbrev read-part-Inv-loop : read-part-lts.InvT-loop
 read-part-Inv-loop book starts p cache₀ work₀ h root height entries in-pick code group₀ t₀ k₀ cache work group t k =
@@ -848,67 +857,86 @@ read-part-returns-6 t c =
     walk-whole (evaluator (a .book .now) (a .h) (a .height)) (a .h .goals) (a .root) (a .height) (a .entries) (a .in-pick) (a .p .now) _ (a .work .now) (a .cache .now) (c .before .before .before .before .before .before .before .before .before .before .begin .last .1 .0) (c .before .before .before .before .before .before .before .before .before .before .begin .result) (run .entries) (c .before .before .before .before .before .before .before .before .before .before .begin .ensures) true refl (c .before .before .before .before .before .before .count2 .result) (take (length (a .p .now) - 16) (drop 16 (a .p .now))) (pick-part (a .h .goals) (a .in-pick) (a .p .now) reads (c .before .before .before .before .before .before .before .before .before .before .before .before .before .before .before .code .result) (c .before .before .before .before .before .before .before .before .before .before .before .before .before .before .before .code .ensures) (c .before .before .before .before .before .before .before .before .before .before .before .before .before .before .shape-of .result) (c .before .before .before .before .before .before .before .before .before .before .before .before .before .before .shape-of .ensures) (c .before .before .before .before .before .before .before .before .before .before .before .before .enum-told3 .given .1) (c .before .before .before .before .before .before .count2 .result) (c .before .before .before .before .before .before .count2 .ensures .0)) _ _ _
     (walk-ends _ _ _ _ _ _ _ _ _ _ _ _ _ _ _ some-frame (run .stack) walk (c .before .before .before .before .loop2-test .left) (c .before .before .end .last .1 .0) (c .before .before .end .result) (c .before .before .end .ensures))
 
--- src/lib.rt:93:9
-rerun-read-part-requires : (t : ℕ) → rerun-lts.Need-read-part-requires (rerun-claims t) (rerun-at t) rerun.Post
-rerun-read-part-requires t c κs = search needs
+-- ---- rerun
+module _ {C : rerun-lts.Claims} {A : In 5 rerun-kinds.ps} {P : Out 5 rerun-kinds.ps rerun-kinds.r}
+    {I : rerun-lts.InvT-loop} {μ : rerun-lts.MeasureT-loop} where
+  abbrev rerun-start : rerun-lts.At-loop C A P I μ → rerun-lts.Start C A P I μ
+  rerun-start c = c .before .before .before .before .before .before
 
--- src/lib.rt:105:9
-rerun-end-iteration-requires : (t : ℕ) → rerun-lts.Need-end-iteration-requires (rerun-claims t) (rerun-at t) rerun.Post
-rerun-end-iteration-requires t c κs = search needs
+  abbrev rerun-turn : rerun-lts.After-read-part C A P I μ → rerun-lts.At-loop C A P I μ
+  rerun-turn c = c .before .before .before
 
--- src/lib.rt:107:24
-rerun-enum-known-next : (t : ℕ) → rerun-lts.Need-enum-known-next (rerun-claims t) (rerun-at t) rerun.Post
-rerun-enum-known-next t c = search needs
+  abbrev rerun-read : rerun-lts.After-end-iteration C A P I μ → rerun-lts.After-read-part C A P I μ
+  rerun-read c = c .before .before .before .before .before .before
 
--- src/lib.rt:108:26
-rerun-enum-known-next-2 : (t : ℕ) → rerun-lts.Need-enum-known-next-2 (rerun-claims t) (rerun-at t) rerun.Post
-rerun-enum-known-next-2 t c = search needs
+abbrev rerun-Inv-loop : rerun-lts.InvT-loop
+rerun-Inv-loop book starts p cache₀ work₀ h root height entries left more₀ overflow₀ kept₀ cache work more overflow kept =
+    Turn (computed book p false h height) (h .goals) root height left (taskFrom book p h root height entries left work₀ cache₀) work₀ work cache
+    more overflow kept
+    × ((length work ≡ length work₀) × (length cache ≡ length cache₀))
 
--- src/lib.rt:118:13
-rerun-sub-rerun : (t : ℕ) → rerun-lts.Need-sub-rerun (rerun-claims t) (rerun-at t) rerun.Post
-rerun-sub-rerun t c =
-    let s = c .before .before .before .before .before .before .before .before .before .before .before .before .before .before .before .before .before .before .before .before .before in let a = s .args in let run = s .pre .1 .0 in let read = c .before .before .before .before .before .before .before .before .before .before .before .before .before .read-part in let ended = c .before .before .before .before .before .before .before .end-iteration in
-    let few = rerun-few (a .h .goals) (a .root) (a .height) (a .left) (a .overflow) (evalPart (evaluator (a .book .now) (a .h) (a .height)) (a .h .goals) (partIn (a .h .goals) false (a .p .now))) (graphOf (a .h .goals) (a .root) (a .height) (a .entries) (graphIn (a .h .goals) (a .work .now)) (a .cache .now)) (a .work .now) (read .last .1 .1 .1 .1 .0) (read .last .1 .1 .1 .0) (read .result) (read .ensures) (ended .last .1 .0) (ended .result) (ended .ensures) _ _ (c .before .before .before .next2 .given .1) in let pos = few .1 in omega arith
+abbrev rerun-μ-loop : rerun-lts.MeasureT-loop
+rerun-μ-loop book starts p cache₀ work₀ h root height entries left more₀ overflow₀ kept₀ cache work more overflow kept = more
 
--- src/lib.rt:108:40
-rerun-rerun-requires : (t : ℕ) → rerun-lts.Need-rerun-requires (rerun-claims t) (rerun-at t) rerun.Post
-rerun-rerun-requires t c κs =
-    let s = c .before .before .before .before .before .before .before .before .before .before .before .before .before .before .before .before .before .before .before .before .before in let a = s .args in let run = s .pre .1 .0 in let read = c .before .before .before .before .before .before .before .before .before .before .before .before .before .read-part in let ended = c .before .before .before .before .before .before .before .end-iteration in
-    let few = rerun-few (a .h .goals) (a .root) (a .height) (a .left) (a .overflow) (evalPart (evaluator (a .book .now) (a .h) (a .height)) (a .h .goals) (partIn (a .h .goals) false (a .p .now))) (graphOf (a .h .goals) (a .root) (a .height) (a .entries) (graphIn (a .h .goals) (a .work .now)) (a .cache .now)) (a .work .now) (read .last .1 .1 .1 .1 .0) (read .last .1 .1 .1 .0) (read .result) (read .ensures) (ended .last .1 .0) (ended .result) (ended .ensures) _ _ (c .before .before .before .next2 .given .1) in let pos = few .1 in let low = s .pre .1 .1 .1 .0 in (
-      lower ((a .h .goals - a .height) * 128 + (a .left + 1)) ((a .h .goals - a .height) * 128 + (a .left - 1 + 1)) 0 0 t (s .pre .0) (omega arith) (omega arith),
-      (
-        running-next _ _ (a .height) _ run (read .kept .1 .1 .1 .0) (ended .kept .1 .0 ∙ read .kept .1 .1 .1 .1 .0) (run .stack) (few .0),
-        (s .pre .1 .1 .0, (omega arith, s .pre .1 .1 .1 .1)),
-      ),
+rerun-loop-holds : (t : ℕ) → rerun-lts.Need-loop-holds (rerun-claims t) (rerun-at t) rerun.Post rerun-Inv-loop rerun-μ-loop
+rerun-loop-holds t c =
+    let s = c .before .before .before .before .before in
+    (turn-starts (s .pre .1 .0 .entries), (refl, refl))
+
+rerun-read-part-requires : (t : ℕ) → rerun-lts.Need-read-part-requires (rerun-claims t) (rerun-at t) rerun.Post rerun-Inv-loop rerun-μ-loop
+rerun-read-part-requires t c κs =
+    let turn = c .before .before in let s = rerun-start turn in let a = s .args in let run = s .pre .1 .0 in let here = turn .loop .inv in
+    let short = s .good .1 .1 .0 .0 in (
+      lower ((a .h .goals - a .height) * 128 + (a .left + 1)) ((a .h .goals - a .height) * 128 + 0) 0 (length (a .p .now)) t (s .pre .0) (omega arith) short,
+      (running-next _ _ (a .height) _ run (here .1 .1) (here .1 .0) (run .stack) (here .0 .few), (s .pre .1 .1 .0, s .pre .1 .1 .1 .1)),
     )
 
--- src/lib.rt:76:1
-rerun-same-length : (t : ℕ) → rerun-lts.Need-same-length (rerun-claims t) (rerun-at t) rerun.Post
-rerun-same-length t c = search needs
+rerun-end-iteration-requires : (t : ℕ) → rerun-lts.Need-end-iteration-requires (rerun-claims t) (rerun-at t) rerun.Post rerun-Inv-loop rerun-μ-loop
+rerun-end-iteration-requires t c κs =
+    let read = c .before .before .before .before .before in let turn = rerun-turn read in let s = rerun-start turn in let run = s .pre .1 .0 in (
+      work-next _ (run .bytes) (read .read-part .kept .1 .1 .1 .1 .0 ∙ turn .loop .inv .1 .0),
+      (s .pre .1 .1 .0, (run .stack, read .read-part .ensures .few)),
+    )
 
--- src/lib.rt:76:1
-rerun-same-length-2 : (t : ℕ) → rerun-lts.Need-same-length-2 (rerun-claims t) (rerun-at t) rerun.Post
-rerun-same-length-2 t c = search needs
+rerun-enum-known-next : (t : ℕ) → rerun-lts.Need-enum-known-next (rerun-claims t) (rerun-at t) rerun.Post rerun-Inv-loop rerun-μ-loop
+rerun-enum-known-next t c = search needs
 
--- src/lib.rt:76:1
-rerun-returns : (t : ℕ) → rerun-lts.Need-returns (rerun-claims t) (rerun-at t) rerun.Post
+rerun-same-length : (t : ℕ) → rerun-lts.Need-same-length (rerun-claims t) (rerun-at t) rerun.Post rerun-Inv-loop rerun-μ-loop
+rerun-same-length t c =
+    let read = rerun-read (c .before .before .before .before .before) in read .read-part .kept .1 .1 .1 .0 ∙ rerun-turn read .loop .inv .1 .1
+
+rerun-same-length-2 : (t : ℕ) → rerun-lts.Need-same-length-2 (rerun-claims t) (rerun-at t) rerun.Post rerun-Inv-loop rerun-μ-loop
+rerun-same-length-2 t c =
+    let ended = c .before .before .before .before .before in let read = rerun-read ended in
+    ended .end-iteration .kept .1 .0 ∙ read .read-part .kept .1 .1 .1 .1 .0 ∙ rerun-turn read .loop .inv .1 .0
+
+rerun-returns : (t : ℕ) → rerun-lts.Need-returns (rerun-claims t) (rerun-at t) rerun.Post rerun-Inv-loop rerun-μ-loop
 rerun-returns t c =
-    let s = c .before .before .before .before .before .before .before .before .before .before .before .before .before .before .before .before .before .before .before in let a = s .args in let run = s .pre .1 .0 in let read = c .before .before .before .before .before .before .before .before .before .before .before .read-part in let ended = c .before .before .before .before .before .end-iteration in
-    rerun-ends (a .h .goals) (a .root) (a .height) (a .left) (a .overflow) (evalPart (evaluator (a .book .now) (a .h) (a .height)) (a .h .goals) (partIn (a .h .goals) false (a .p .now))) (graphOf (a .h .goals) (a .root) (a .height) (a .entries) (graphIn (a .h .goals) (a .work .now)) (a .cache .now)) (a .work .now) (read .last .1 .1 .1 .1 .0) (read .last .1 .1 .1 .0) (read .result) (read .ensures) (ended .last .1 .0) (ended .result) (ended .ensures) _ (c .before .next .given .1)
+    let ended = c .before .before .before .before .before in let read = rerun-read ended in let here = rerun-turn read in
+    turn-ends (here .loop .inv .0) (read .read-part .ensures) (ended .end-iteration .ensures) _ (c .before .next .given .1)
 
--- src/lib.rt:76:1
-rerun-same-length-3 : (t : ℕ) → rerun-lts.Need-same-length-3 (rerun-claims t) (rerun-at t) rerun.Post
-rerun-same-length-3 t c = search needs
+rerun-enum-known-next-2 : (t : ℕ) → rerun-lts.Need-enum-known-next-2 (rerun-claims t) (rerun-at t) rerun.Post rerun-Inv-loop rerun-μ-loop
+rerun-enum-known-next-2 t c = search needs
 
--- src/lib.rt:76:1
-rerun-same-length-4 : (t : ℕ) → rerun-lts.Need-same-length-4 (rerun-claims t) (rerun-at t) rerun.Post
-rerun-same-length-4 t c = search needs
+rerun-sub-more : (t : ℕ) → rerun-lts.Need-sub-more (rerun-claims t) (rerun-at t) rerun.Post rerun-Inv-loop rerun-μ-loop
+rerun-sub-more t c =
+    let ended = c .before .before .before .before .before in let read = rerun-read ended in let turn = rerun-turn read in
+    let some = turn-left (turn .loop .inv .0) (read .read-part .ensures) (ended .end-iteration .ensures) _ _ (c .before .next2 .given .1) in omega arith
 
--- src/lib.rt:76:1
-rerun-returns-2 : (t : ℕ) → rerun-lts.Need-returns-2 (rerun-claims t) (rerun-at t) rerun.Post
-rerun-returns-2 t c =
-    let s = c .before .before .before .before .before .before .before .before .before .before .before .before .before .before .before .before .before .before .before .before .before .before .before .before .before .before in let a = s .args in let run = s .pre .1 .0 in let read = c .before .before .before .before .before .before .before .before .before .before .before .before .before .before .before .before .before .before .read-part in let ended = c .before .before .before .before .before .before .before .before .before .before .before .before .end-iteration in
-    let again = c .before .before .before .before .rerun in rerun-again (a .h .goals) (a .root) (a .height) (a .left) (a .overflow) (evalPart (evaluator (a .book .now) (a .h) (a .height)) (a .h .goals) (partIn (a .h .goals) false (a .p .now))) (graphOf (a .h .goals) (a .root) (a .height) (a .entries) (graphIn (a .h .goals) (a .work .now)) (a .cache .now)) (a .work .now) (read .last .1 .1 .1 .1 .0) (read .last .1 .1 .1 .0) (read .result) (read .ensures) (ended .last .1 .0) (ended .result) (ended .ensures) _ _ (c .before .before .before .before .before .before .before .before .next2 .given .1) (again .last .1 .1 .1 .1 .0) (again .last .1 .1 .1 .0) (again .result) (again .ensures)
+rerun-loop-less : (t : ℕ) → rerun-lts.Need-loop-less (rerun-claims t) (rerun-at t) rerun.Post rerun-Inv-loop rerun-μ-loop
+rerun-loop-less t c =
+    let ended = c .before .before .before .before .before in let read = rerun-read ended in let turn = rerun-turn read in
+    let some = turn-left (turn .loop .inv .0) (read .read-part .ensures) (ended .end-iteration .ensures) _ _ (c .before .next2 .given .1) in omega arith
+
+rerun-loop-again : (t : ℕ) → rerun-lts.Need-loop-again (rerun-claims t) (rerun-at t) rerun.Post rerun-Inv-loop rerun-μ-loop
+rerun-loop-again t c =
+    let ended = c .before .before .before .before .before in let read = rerun-read ended in let turn = rerun-turn read in (
+      turn-again (turn .loop .inv .0) (read .read-part .ensures) (ended .end-iteration .ensures) _ _ (c .before .next2 .given .1),
+      (
+        ended .end-iteration .kept .1 .0 ∙ read .read-part .kept .1 .1 .1 .1 .0 ∙ turn .loop .inv .1 .0,
+        read .read-part .kept .1 .1 .1 .0 ∙ turn .loop .inv .1 .1,
+      ),
+    )
 
 pub +evaluate+read-part+rerun-spec : {M : Type 1} → statement M
 +evaluate+read-part+rerun-spec = close μ-evaluate μ-read-part μ-rerun (λ t. evaluate-lts.spec (evaluate-claims t) (evaluate-at t)
@@ -997,15 +1025,16 @@ pub +evaluate+read-part+rerun-spec : {M : Type 1} → statement M
     (read-part-returns-6 t))
     λ t. rerun-lts.spec (rerun-claims t) (rerun-at t)
     rerun.Post
+    rerun-Inv-loop
+    rerun-μ-loop
+    (rerun-loop-holds t)
     (rerun-read-part-requires t)
     (rerun-end-iteration-requires t)
     (rerun-enum-known-next t)
-    (rerun-enum-known-next-2 t)
-    (rerun-sub-rerun t)
-    (rerun-rerun-requires t)
     (rerun-same-length t)
     (rerun-same-length-2 t)
     (rerun-returns t)
-    (rerun-same-length-3 t)
-    (rerun-same-length-4 t)
-    (rerun-returns-2 t)
+    (rerun-enum-known-next-2 t)
+    (rerun-sub-more t)
+    (rerun-loop-less t)
+    (rerun-loop-again t)
