@@ -1,4 +1,3 @@
-pub mod Kept
-pub mod Fields
+pub mod Merging
 pub mod Parts
 pub mod Loops

@@ -22,9 +22,11 @@ use Rattle.layout.proofs.Graphs.{length-stack}
 use Rattle.stack.specs.Bytes.{frameAt}
 use Rattle.stack.proofs.Loops.{stack-top}
 use Rattle.evaluation.specs.Workspace.{WorkBytes, graphIn}
-use Rattle.candidates.specs.Steps.{Names, trackedOf, addAt, ignoreHeadAt, ignoreHeads, ignoreOwn}
+use Rattle.layout.specs.AtIndex.{Names, addAt}
+use Rattle.stack.specs.Tracked.{trackedOf, ignoreHeadAt, ignoreHeads, ignoreOwn}
 use Rattle.candidates.specs.Written.{mergedBytes, topBytes, topOf, MergedWritten, FrameWritten}
-use Rattle.candidates.proofs.Kept.{keep-is, below-only, below-same, merge-none, merge-one, ignore-none, ignore-one, cover-same, cover-one, cover-none, cover-fails}
+use Rattle.layout.proofs.Kept.{keep-is, below-only, below-same}
+use Rattle.candidates.proofs.Merging.{merge-none, merge-one, ignore-none, ignore-one, cover-same, cover-one, cover-none, cover-fails}
 use Rattle.candidates.proofs.Parts.{merged-is, frame-now, frame-again, frame-same, frame-kept}
 
 -- ---- the mask that is left

@@ -8,7 +8,7 @@ use native.Mathlib.Numerals.{add-one}
 use native.Mathlib.Omega.{arith}
 use lib.ListN.{length}
 use Rattle.definition.specs.declared.usages.HeadUsages.{HeadUsages}
-use Rattle.definition.specs.Stack.{Frame, Stack}
+use Rattle.definition.specs.Stack.{Frame, Stack, withCandidateUsages}
 use Rattle.definition.specs.Candidates.{setCandidateUsages}
 use Rattle.buffer.specs.Regions.{region, overwrite}
 use Rattle.buffer.proofs.Regions.{length-region, region-region, region-inside}
@@ -24,7 +24,6 @@ use Rattle.stack.proofs.Loops.{stack-top, top-is, under-is}
 use Rattle.stack.proofs.Graph.{part-is, stack-written, entries-written}
 use Rattle.evaluation.specs.Workspace.{WorkBytes, graphIn}
 use Rattle.evaluation.proofs.Lent.{graph-room, graph-long}
-use Rattle.candidates.specs.Steps.{withTracked}
 use Rattle.candidates.specs.Written.{mergedBytes, topBytes, topOf, MergedWritten, FrameWritten}
 
 -- ---- orders, over what the sizes are
@@ -37,11 +36,11 @@ only a n = omega arith
 -- ---- a graph's top frame
 -- what it tracks is written
 pub tracked-written : (goals : ℕ) (bs : List ℕ) (own a n : ℕ) (c : Option (List HeadUsages)) (g : GraphBytes goals bs) → own < goals → a ≡ frameStart goals own → n ≡ frameSize goals
-    → (ys : List ℕ) → length ys ≡ length (part bs a (a + n)) → frameOf goals ys ≡ withTracked c (frameOf goals (part bs a (a + n)))
+    → (ys : List ℕ) → length ys ≡ length (part bs a (a + n)) → frameOf goals ys ≡ withCandidateUsages (frameOf goals (part bs a (a + n))) c
     → (stackOf goals (own + 1) (returned bs a (a + n) ys) ≡ setCandidateUsages c (stackOf goals (own + 1) bs)) × ((k : ℕ) → entriesOf goals k (returned bs a (a + n) ys) ≡ entriesOf goals k bs)
 tracked-written goals bs own a n c g lt is-a is-n ys kept e =
-    let f : Frame = withTracked c (frameAt goals own bs) in
-    let is : frameOf goals ys ≡ f = e ∙ ap (λ (l : List ℕ). withTracked c (frameOf goals l)) (part-is goals bs own a n g lt is-a is-n) in
+    let f : Frame = withCandidateUsages (frameAt goals own bs) c in
+    let is : frameOf goals ys ≡ f = e ∙ ap (λ (l : List ℕ). withCandidateUsages (frameOf goals l) c) (part-is goals bs own a n g lt is-a is-n) in
     (stack-written goals bs own a n g lt is-a is-n ys kept f is ∙ sym (ap (setCandidateUsages c) (stack-top goals own bs)), entries-written goals bs own a n g lt is-a is-n ys kept)
 
 -- ---- the workspace

@@ -4,6 +4,7 @@
 use definition::usages::HeadUsages;
 use layout::candidate;
 use layout::offsets;
+use stack::frame::tracked;
 ghost use mathlib.Core.Path.{_≡_};
 ghost use mathlib.Core.Option.{none, some};
 ghost use Prim.Native.Nat.{ℕ, _+_, _<_, _≤_};
@@ -14,11 +15,9 @@ ghost use Rattle.layout.specs.Frame.{frameOf};
 ghost use Rattle.layout.specs.Work.{stackOf, entriesOf, mergedOf};
 ghost use Rattle.stack.specs.Bytes.{FrameBytes, GraphBytes};
 ghost use Rattle.evaluation.specs.Workspace.{WorkBytes, graphIn};
-ghost use Rattle.candidates.specs.Steps.{addAt, ignoreHeadAt, ignoreHeads, ignoreOwn};
+ghost use Rattle.layout.specs.AtIndex.{addAt};
+ghost use Rattle.stack.specs.Tracked.{ignoreHeadAt, ignoreHeads, ignoreOwn};
 ghost use Rattle.candidates.specs.Written.{mergedBytes, topBytes, topOf, MergedWritten, FrameWritten};
-
-mod block;
-mod frame;
 
 // ---- one candidate
 
@@ -26,18 +25,18 @@ pub fn enter_single_candidate(graph: &mut [u8], goals: usize, own: usize)
     requires { ⌜ GraphBytes goals (now graph) × (own < goals) ⌝ }
     ensures { λ _. ⌜ (stackOf goals (own + 1) (now (graph .exit)) ≡ setCandidateUsages (some (noCandidateUsages goals)) (stackOf goals (own + 1) (now (graph .entry)))) × ((n : ℕ) → entriesOf goals n (now (graph .exit)) ≡ entriesOf goals n (now (graph .entry))) ⌝ }
 {
-    let a = offsets::frame_start(goals, own);
-    let end = a + offsets::frame_size(goals);
-    frame::enter(&mut graph[a..end], goals);
+    let start = offsets::frame_start(goals, own);
+    let end = start + offsets::frame_size(goals);
+    tracked::enter(&mut graph[start..end], goals);
 }
 
 pub fn finish_single_candidate(graph: &mut [u8], goals: usize, own: usize)
     requires { ⌜ GraphBytes goals (now graph) × (own < goals) ⌝ }
     ensures { λ _. ⌜ (stackOf goals (own + 1) (now (graph .exit)) ≡ setCandidateUsages none (stackOf goals (own + 1) (now (graph .entry)))) × ((n : ℕ) → entriesOf goals n (now (graph .exit)) ≡ entriesOf goals n (now (graph .entry))) ⌝ }
 {
-    let a = offsets::frame_start(goals, own);
-    let end = a + offsets::frame_size(goals);
-    frame::finish(&mut graph[a..end], goals);
+    let start = offsets::frame_start(goals, own);
+    let end = start + offsets::frame_size(goals);
+    tracked::finish(&mut graph[start..end], goals);
 }
 
 // ---- the workspace's parts
@@ -47,9 +46,9 @@ fn top(work: &[u8], goals: usize, own: usize) -> &[u8]
     requires { ⌜ WorkBytes goals (now work) × (own < goals) ⌝ }
     ensures { λ r. ⌜ now r ≡ topBytes goals own (now (work .entry)) ⌝ }
 {
-    let a = offsets::frame_start(goals, own);
-    let end = a + offsets::frame_size(goals);
-    &work[a..end]
+    let start = offsets::frame_start(goals, own);
+    let end = start + offsets::frame_size(goals);
+    &work[start..end]
 }
 
 // The bytes of the merged usages.
@@ -57,9 +56,9 @@ fn merged(work: &[u8], goals: usize, own: usize) -> &[u8]
     requires { ⌜ WorkBytes goals (now work) × (own < goals) ⌝ }
     ensures { λ r. ⌜ now r ≡ mergedBytes goals own (now (work .entry)) ⌝ }
 {
-    let a = offsets::merged_start(goals, own);
-    let end = a + offsets::block_size(goals);
-    &work[a..end]
+    let start = offsets::merged_start(goals, own);
+    let end = start + offsets::block_size(goals);
+    &work[start..end]
 }
 
 // ---- merged usages
@@ -69,9 +68,9 @@ pub fn start(work: &mut [u8], goals: usize, own: usize)
     requires { ⌜ WorkBytes goals (now work) × (own < goals) ⌝ }
     ensures { λ _. ⌜ MergedWritten goals own (noCandidateUsages goals) (now (work .entry)) (now (work .exit)) ⌝ }
 {
-    let a = offsets::merged_start(goals, own);
-    let end = a + offsets::block_size(goals);
-    candidate::clear(&mut work[a..end], goals);
+    let start = offsets::merged_start(goals, own);
+    let end = start + offsets::block_size(goals);
+    candidate::clear(&mut work[start..end], goals);
 }
 
 // The merged usages of index i, with u.
@@ -79,9 +78,9 @@ fn add_at(work: &mut [u8], goals: usize, own: usize, i: usize, u: HeadUsages)
     requires { ⌜ WorkBytes goals (now work) × ((own < goals) × (i < goals)) ⌝ }
     ensures { λ _. ⌜ MergedWritten goals own (addAt i u (mergedOf goals own (now (work .entry)))) (now (work .entry)) (now (work .exit)) ⌝ }
 {
-    let a = offsets::merged_start(goals, own);
-    let end = a + offsets::block_size(goals);
-    block::add(&mut work[a..end], goals, i, u);
+    let start = offsets::merged_start(goals, own);
+    let end = start + offsets::block_size(goals);
+    candidate::add(&mut work[start..end], goals, i, u);
 }
 
 // The usages of the candidate that is tracked are merged.
@@ -89,10 +88,10 @@ pub fn merge(work: &mut [u8], goals: usize, own: usize)
     requires { ⌜ WorkBytes goals (now work) × (own < goals) ⌝ }
     ensures { λ _. ⌜ MergedWritten goals own (mergeUsages (mergedOf goals own (now (work .entry))) (candidateUsagesOf goals (stackOf goals (own + 1) (graphIn goals (now (work .entry)))))) (now (work .entry)) (now (work .exit)) ⌝ }
 {
-    let mut left = frame::tracked_mask(top(work, goals, own), goals);
+    let mut left = tracked::mask(top(work, goals, own), goals);
     while 0 < left {
         let i = bits::lowest(left);
-        let u = frame::tracked(top(work, goals, own), goals, i);
+        let u = tracked::usages(top(work, goals, own), goals, i);
         add_at(work, goals, own, i, u);
         left = bits::without_lowest(left);
     }
@@ -105,11 +104,11 @@ fn heads_cover(f: &[u8], b: &[u8], goals: usize, own: usize) -> bool
     requires { ⌜ FrameBytes goals (now f) × (UsagesBlock goals (now b) × (own ≤ goals)) ⌝ }
     ensures { λ r. ⌜ r ≡ headsCover own ((frameOf goals (now (f .entry))) .heads) (candidateOf goals (now (b .entry))) ⌝ }
 {
-    let mut left = bits::below(block::mask(b, goals), own);
+    let mut left = bits::below(candidate::mask(b, goals), own);
     while 0 < left {
         let i = bits::lowest(left);
         let u = candidate::usages(b, goals, i);
-        if !frame::head_covers(f, goals, i, u) {
+        if !tracked::head_covers(f, goals, i, u) {
             return false;
         }
         left = bits::without_lowest(left);
@@ -128,7 +127,7 @@ pub fn can_ignore(work: &[u8], goals: usize, own: usize) -> bool
         return false;
     }
     let u = candidate::usages(b, goals, own);
-    frame::own_covers(f, goals, u)
+    tracked::own_covers(f, goals, u)
 }
 
 // The usages u are taken from the head at index i.
@@ -136,9 +135,9 @@ fn ignore_head(work: &mut [u8], goals: usize, own: usize, i: usize, u: HeadUsage
     requires { ⌜ WorkBytes goals (now work) × ((own < goals) × (i < goals)) ⌝ }
     ensures { λ _. ⌜ FrameWritten goals own (ignoreHeadAt i u (topOf goals own (now (work .entry)))) (now (work .entry)) (now (work .exit)) ⌝ }
 {
-    let a = offsets::frame_start(goals, own);
-    let end = a + offsets::frame_size(goals);
-    frame::ignore_head(&mut work[a..end], goals, i, u);
+    let start = offsets::frame_start(goals, own);
+    let end = start + offsets::frame_size(goals);
+    tracked::ignore_head(&mut work[start..end], goals, i, u);
 }
 
 // The usages u are taken from the frame's own.
@@ -146,9 +145,9 @@ fn ignore_own(work: &mut [u8], goals: usize, own: usize, u: HeadUsages)
     requires { ⌜ WorkBytes goals (now work) × (own < goals) ⌝ }
     ensures { λ _. ⌜ FrameWritten goals own (ignoreOwn u (topOf goals own (now (work .entry)))) (now (work .entry)) (now (work .exit)) ⌝ }
 {
-    let a = offsets::frame_start(goals, own);
-    let end = a + offsets::frame_size(goals);
-    frame::ignore_own(&mut work[a..end], goals, u);
+    let start = offsets::frame_start(goals, own);
+    let end = start + offsets::frame_size(goals);
+    tracked::ignore_own(&mut work[start..end], goals, u);
 }
 
 // The merged usages are taken from the heads.
@@ -156,7 +155,7 @@ fn ignore_at_heads(work: &mut [u8], goals: usize, own: usize)
     requires { ⌜ WorkBytes goals (now work) × (own < goals) ⌝ }
     ensures { λ _. ⌜ FrameWritten goals own (ignoreHeads (mergedOf goals own (now (work .entry))) (topOf goals own (now (work .entry)))) (now (work .entry)) (now (work .exit)) ⌝ }
 {
-    let mut left = block::mask(merged(work, goals, own), goals);
+    let mut left = candidate::mask(merged(work, goals, own), goals);
     while 0 < left {
         let i = bits::lowest(left);
         let u = candidate::usages(merged(work, goals, own), goals, i);

@@ -1,5 +1,7 @@
 pub mod Blocks
 pub mod Frames
+pub mod Kept
+pub mod AtIndex
 pub mod Graphs
 pub mod Marks
 pub mod NestedExtended

@@ -1,4 +1,5 @@
 pub mod Blocks
+pub mod AtIndex
 pub mod Frame
 pub mod Entry
 pub mod Work

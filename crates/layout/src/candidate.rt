@@ -7,6 +7,7 @@ ghost use lib.ListN.{getD, set};
 ghost use Rattle.definition.specs.Usages.{noUsages};
 ghost use Rattle.definition.specs.Candidates.{noCandidateUsages};
 ghost use Rattle.layout.specs.Blocks.{UsagesBlock, candidateOf};
+ghost use Rattle.layout.specs.AtIndex.{Names, addAt, addFromNestedAt};
 
 pub fn clear(b: &mut [u8], goals: usize)
     requires { ⌜ UsagesBlock goals (now b) ⌝ }
@@ -22,8 +23,8 @@ pub fn usages(b: &[u8], goals: usize, i: usize) -> HeadUsages
 {
     if bits::has(buffer::read_u64(b, 0), i) {
         let a = 8 + i * 32;
-        let e = a + 32;
-        return records::read_usages(&b[a..e]);
+        let end = a + 32;
+        return records::read_usages(&b[a..end]);
     }
     HeadUsages::none()
 }
@@ -34,8 +35,34 @@ pub fn put(b: &mut [u8], goals: usize, i: usize, u: HeadUsages)
     ensures { λ _. ⌜ candidateOf goals (now (b .exit)) ≡ set (candidateOf goals (now (b .entry))) i u ⌝ }
 {
     let a = 8 + i * 32;
-    let e = a + 32;
-    records::write_usages(&mut b[a..e], u);
+    let end = a + 32;
+    records::write_usages(&mut b[a..end], u);
     let m = buffer::read_u64(b, 0);
     buffer::write_u64(b, 0, bits::with(m, i));
+}
+
+// The indices that have usages.
+pub fn mask(b: &[u8], goals: usize) -> u64
+    requires { ⌜ UsagesBlock goals (now b) ⌝ }
+    ensures { λ r. ⌜ Names goals r (candidateOf goals (now (b .entry))) ⌝ }
+{
+    bits::below(buffer::read_u64(b, 0), goals)
+}
+
+// The usages of index i, with u.
+pub fn add(b: &mut [u8], goals: usize, i: usize, u: HeadUsages)
+    requires { ⌜ UsagesBlock goals (now b) × (i < goals) ⌝ }
+    ensures { λ _. ⌜ candidateOf goals (now (b .exit)) ≡ addAt i u (candidateOf goals (now (b .entry))) ⌝ }
+{
+    let before = usages(b, goals, i);
+    put(b, goals, i, before.add_usages(u));
+}
+
+// The usages of index i, with those of a nested goal: at most 1 of each kind.
+pub fn add_from_nested(b: &mut [u8], goals: usize, i: usize, u: HeadUsages)
+    requires { ⌜ UsagesBlock goals (now b) × (i < goals) ⌝ }
+    ensures { λ _. ⌜ candidateOf goals (now (b .exit)) ≡ addFromNestedAt (candidateOf goals (now (b .entry))) i u ⌝ }
+{
+    let before = usages(b, goals, i);
+    put(b, goals, i, before.add_usages_from_nested(u));
 }

@@ -12,6 +12,7 @@ ghost use Rattle.bits.specs.Masks.{flags};
 ghost use Rattle.buffer.specs.Regions.{region};
 ghost use Rattle.definition.specs.Heads.{noHeads, headsEmpty, highestIndex, usagesAt, pathsAt, removeHead, insertHead};
 ghost use Rattle.layout.specs.Blocks.{HeadsBlock, headOf, headsOf, present};
+ghost use Rattle.layout.specs.AtIndex.{ignoreAt};
 
 // The indices that have a head.
 pub fn mask(b: &[u8], goals: usize) -> u64
@@ -34,18 +35,18 @@ pub fn record(b: &[u8], goals: usize, i: usize) -> CycleHead
     ensures { λ r. ⌜ r ≡ headOf (region (8 + i * 33) 33 (now (b .entry))) ⌝ }
 {
     let a = 8 + i * 33;
-    let e = a + 33;
-    records::read_head(&b[a..e])
+    let end = a + 33;
+    records::read_head(&b[a..end])
 }
 
-// The head of index i becomes h.
-pub fn put(b: &mut [u8], goals: usize, i: usize, h: CycleHead)
+// The head of index i becomes `head`.
+pub fn put(b: &mut [u8], goals: usize, i: usize, head: CycleHead)
     requires { ⌜ HeadsBlock goals (now b) × (i < goals) ⌝ }
-    ensures { λ _. ⌜ headsOf goals (now (b .exit)) ≡ set (headsOf goals (now (b .entry))) i (some h) ⌝ }
+    ensures { λ _. ⌜ headsOf goals (now (b .exit)) ≡ set (headsOf goals (now (b .entry))) i (some head) ⌝ }
 {
     let a = 8 + i * 33;
-    let e = a + 33;
-    records::write_head(&mut b[a..e], h);
+    let end = a + 33;
+    records::write_head(&mut b[a..end], head);
     let m = buffer::read_u64(b, 0);
     buffer::write_u64(b, 0, bits::with(m, i));
 }
@@ -72,8 +73,8 @@ pub fn insert(b: &mut [u8], goals: usize, i: usize, paths: u8, usages: HeadUsage
     ensures { λ _. ⌜ headsOf goals (now (b .exit)) ≡ insertHead (headsOf goals (now (b .entry))) i paths usages ⌝ }
 {
     if has(b, goals, i) {
-        let h = record(b, goals, i);
-        put(b, goals, i, h.joined(paths, usages));
+        let head = record(b, goals, i);
+        put(b, goals, i, head.joined(paths, usages));
         return;
     }
     put(b, goals, i, CycleHead { paths, usages });
@@ -85,8 +86,8 @@ pub fn usages(b: &[u8], goals: usize, i: usize) -> HeadUsages
     ensures { λ r. ⌜ r ≡ usagesAt (headsOf goals (now (b .entry))) i ⌝ }
 {
     if has(b, goals, i) {
-        let h = record(b, goals, i);
-        return h.usages;
+        let head = record(b, goals, i);
+        return head.usages;
     }
     HeadUsages::none()
 }
@@ -97,8 +98,8 @@ pub fn paths(b: &[u8], goals: usize, i: usize) -> u8
     ensures { λ r. ⌜ r ≡ pathsAt (headsOf goals (now (b .entry))) i ⌝ }
 {
     if has(b, goals, i) {
-        let h = record(b, goals, i);
-        return h.paths;
+        let head = record(b, goals, i);
+        return head.paths;
     }
     0
 }
@@ -116,4 +117,20 @@ pub fn is_empty(b: &[u8], goals: usize) -> bool
     ensures { λ r. ⌜ r ≡ headsEmpty (headsOf goals (now (b .entry))) ⌝ }
 {
     mask(b, goals) == 0
+}
+
+// The usages u are taken from the head at index i, if there is one.
+pub fn ignore(b: &mut [u8], goals: usize, i: usize, u: HeadUsages)
+    requires { ⌜ HeadsBlock goals (now b) × (i < goals) ⌝ }
+    ensures { λ _. ⌜ headsOf goals (now (b .exit)) ≡ ignoreAt i u (headsOf goals (now (b .entry))) ⌝ }
+{
+    if !has(b, goals, i) {
+        return;
+    }
+    let head = record(b, goals, i);
+    let paths = head.paths;
+    let before = head.usages;
+    let usages = before.ignore_usages(u);
+    let ignored = CycleHead { paths, usages };
+    put(b, goals, i, ignored);
 }

@@ -37,11 +37,11 @@ pub fn read_head(b: &[u8]) -> CycleHead
     }
 }
 
-pub fn write_head(b: &mut [u8], h: CycleHead)
+pub fn write_head(b: &mut [u8], head: CycleHead)
     requires { ⌜ length (now b) ≡ 33 ⌝ }
-    ensures { λ _. ⌜ headOf (now (b .exit)) ≡ h ⌝ }
+    ensures { λ _. ⌜ headOf (now (b .exit)) ≡ head ⌝ }
 {
-    let usages = h.usages;
+    let usages = head.usages;
     write_usages(&mut b[1..33], usages);
-    b[0] = h.paths;
+    b[0] = head.paths;
 }

@@ -17,18 +17,19 @@ use Rattle.definition.specs.Stack.{Frame, withHeads, withUsages, withCandidateU
 use Rattle.definition.specs.Parent.{trackUsages, addToCandidate, addToUsages, joinChild, addHeads}
 use Rattle.bits.proofs.Marks.{set-only}
 use Rattle.layout.proofs.Marks.{each-one, each-clear}
-use Rattle.parent.specs.Head.{addUsagesAt, trackedAt, joined, used, addHeadAt}
+use Rattle.layout.specs.AtIndex.{addFromNestedAt}
+use Rattle.stack.specs.Child.{trackedAt, joined, used, addHeadAt}
 
 -- ---- one head c of the heads ms, at index i
-tracked-one : (us : List HeadUsages) (ms : CycleHeads) (i : ℕ) (c : CycleHead) → getD ms i none ≡ some c → trackUsages (addUsagesAt us i (c .usages)) (set ms i none) ≡ trackUsages us ms
+tracked-one : (us : List HeadUsages) (ms : CycleHeads) (i : ℕ) (c : CycleHead) → getD ms i none ≡ some c → trackUsages (addFromNestedAt us i (c .usages)) (set ms i none) ≡ trackUsages us ms
 tracked-one [] ms i c e = refl
 tracked-one (u ∷ us) [] i c e = absurd (Option·none-ne-some c e)
 tracked-one (u ∷ us) (none ∷ ms) zero c e = absurd (Option·none-ne-some c e)
 tracked-one (u ∷ us) (some d ∷ ms) zero c e =
     let q : c ≡ d = cc in
-    ap (λ (x : CycleHead). addUsagesAt (u ∷ trackUsages us ms) 0 (x .usages)) q
+    ap (λ (x : CycleHead). addFromNestedAt (u ∷ trackUsages us ms) 0 (x .usages)) q
 tracked-one (u ∷ us) (none ∷ ms) (suc i) c e = ap (λ (l : List HeadUsages). u ∷ l) (tracked-one us ms i c e)
-tracked-one (u ∷ us) (some d ∷ ms) (suc i) c e = ap (λ (l : List HeadUsages). addUsagesAt (u ∷ l) 0 (d .usages)) (tracked-one us ms i c e)
+tracked-one (u ∷ us) (some d ∷ ms) (suc i) c e = ap (λ (l : List HeadUsages). addFromNestedAt (u ∷ l) 0 (d .usages)) (tracked-one us ms i c e)
 
 candidate-one : (o : Option (List HeadUsages)) (ms : CycleHeads) (i : ℕ) (c : CycleHead) → getD ms i none ≡ some c → addToCandidate (trackedAt o i (c .usages)) (set ms i none) ≡ addToCandidate o ms
 candidate-one none ms i c e = refl

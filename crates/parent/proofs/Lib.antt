@@ -1,4 +1,3 @@
-pub mod Frames
 pub mod Heads
 pub mod Top
 pub mod Update

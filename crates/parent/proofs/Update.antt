@@ -32,7 +32,7 @@ use Rattle.layout.proofs.Present.{head-known}
 use Rattle.stack.specs.Bytes.{frameBytes, frameAt}
 use Rattle.stack.proofs.Parts.{part}
 use Rattle.stack.proofs.Loops.{top, none-left}
-use Rattle.parent.specs.Head.{addHeadAt}
+use Rattle.stack.specs.Child.{addHeadAt}
 use Rattle.parent.specs.Top.{TopWritten}
 use Rattle.parent.proofs.Heads.{one-head, no-head}
 use Rattle.parent.proofs.Top.{top-frame, top-again, top-same, top-kept}

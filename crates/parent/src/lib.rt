@@ -5,6 +5,7 @@ use definition::paths::PathsToNested;
 use definition::usages::HeadUsages;
 use layout::heads;
 use layout::offsets;
+use stack::frame::child;
 ghost use mathlib.Core.Path.{_≡_};
 ghost use mathlib.Core.Bool.{false};
 ghost use Prim.Native.Nat.{ℕ, _+_, _*_, _<_, _≤_};
@@ -18,10 +19,8 @@ ghost use Rattle.layout.specs.Frame.{frameSize};
 ghost use Rattle.layout.specs.Entry.{entrySize, entryOf};
 ghost use Rattle.layout.specs.Work.{frameStart, entryStart, stackOf, entriesOf};
 ghost use Rattle.stack.specs.Bytes.{GraphBytes, frameBytes, frameAt};
-ghost use Rattle.parent.specs.Head.{addHeadAt};
+ghost use Rattle.stack.specs.Child.{addHeadAt};
 ghost use Rattle.parent.specs.Top.{TopWritten};
-
-pub mod frame;
 
 // ---- the frame at index `own`, on top
 
@@ -30,9 +29,9 @@ fn add_head(graph: &mut [u8], goals: usize, own: usize, step: PathKind, i: usize
     requires { ⌜ GraphBytes goals (now graph) × ((own < goals) × (i < goals)) ⌝ }
     ensures { λ _. ⌜ TopWritten goals own (addHeadAt step own i head (frameAt goals own (now (graph .entry)))) (now (graph .entry)) (now (graph .exit)) ⌝ }
 {
-    let a = offsets::frame_start(goals, own);
-    let end = a + offsets::frame_size(goals);
-    frame::add_head(&mut graph[a..end], goals, own, step, i, head);
+    let start = offsets::frame_start(goals, own);
+    let end = start + offsets::frame_size(goals);
+    child::add_head(&mut graph[start..end], goals, own, step, i, head);
 }
 
 // The heads of the nested goal, in the block at `start` of the graph, behind the frame.
@@ -63,9 +62,16 @@ fn add_ordinary(
     requires { ⌜ GraphBytes goals (now graph) × (own < goals) ⌝ }
     ensures { λ _. ⌜ TopWritten goals own (addRest step overflow (Ordinary (now (nested .entry))) reached (frameAt goals own (now (graph .entry)))) (now (graph .entry)) (now (graph .exit)) ⌝ }
 {
-    let a = offsets::frame_start(goals, own);
-    let end = a + offsets::frame_size(goals);
-    frame::add_ordinary(&mut graph[a..end], goals, step, overflow, nested, reached);
+    let start = offsets::frame_start(goals, own);
+    let end = start + offsets::frame_size(goals);
+    child::add_ordinary(
+        &mut graph[start..end],
+        goals,
+        step,
+        overflow,
+        nested,
+        reached,
+    );
 }
 
 // The rest, after an entry.
@@ -80,9 +86,9 @@ fn add_entry(
     requires { ⌜ GraphBytes goals (now graph) × (own < goals) ⌝ }
     ensures { λ _. ⌜ TopWritten goals own (addRest step overflow ProvisionalCacheHit reached (frameAt goals own (now (graph .entry)))) (now (graph .entry)) (now (graph .exit)) ⌝ }
 {
-    let a = offsets::frame_start(goals, own);
-    let end = a + offsets::frame_size(goals);
-    frame::add_entry(&mut graph[a..end], goals, step, overflow, reached);
+    let start = offsets::frame_start(goals, own);
+    let end = start + offsets::frame_size(goals);
+    child::add_entry(&mut graph[start..end], goals, step, overflow, reached);
 }
 
 // The rest, after a goal on the stack.
@@ -97,9 +103,9 @@ fn add_cycle(
     requires { ⌜ GraphBytes goals (now graph) × (own < goals) ⌝ }
     ensures { λ _. ⌜ TopWritten goals own (addRest step false (CycleOnStack goal) reached (frameAt goals own (now (graph .entry)))) (now (graph .entry)) (now (graph .exit)) ⌝ }
 {
-    let a = offsets::frame_start(goals, own);
-    let end = a + offsets::frame_size(goals);
-    frame::add_cycle(&mut graph[a..end], goals, step, goal, reached);
+    let start = offsets::frame_start(goals, own);
+    let end = start + offsets::frame_size(goals);
+    child::add_cycle(&mut graph[start..end], goals, step, goal, reached);
 }
 
 // ---- the parent

@@ -1,6 +1,8 @@
 pub mod Parts
 pub mod Blocks
 pub mod Fields
+pub mod Child
+pub mod Tracked
 pub mod Values
 pub mod Records
 pub mod Lent

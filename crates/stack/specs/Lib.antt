@@ -1,3 +1,5 @@
 pub mod Bytes
+pub mod Child
 pub mod Records
 pub mod Results
+pub mod Tracked

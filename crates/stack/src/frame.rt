@@ -26,6 +26,9 @@ ghost use Rattle.stack.specs.Bytes.{FrameBytes};
 ghost use Rattle.stack.specs.Results.{isSome, provisionalOf, depthOf};
 ghost use Rattle.stack.specs.declared.frame.Depth.the-variants.{Allowed};
 
+pub mod child;
+pub mod tracked;
+
 // A frame's provisional result.
 pub enum Provisional {
     NoResult,
@@ -189,9 +192,9 @@ pub fn start(frame: &mut [u8], goals: usize, goal: usize, step: PathKind, availa
     start_fields(&mut frame[0..offsets::FRAME_USAGES], goal, step, available);
     let c = offsets::candidate_start(goals);
     heads::clear(&mut frame[offsets::FRAME_HEADS..c], goals);
-    let a = offsets::nested_start(goals);
-    let end = a + goals;
-    buffer::fill_zero(&mut frame[a..end]);
+    let start = offsets::nested_start(goals);
+    let end = start + goals;
+    buffer::fill_zero(&mut frame[start..end]);
 }
 
 // Before the next iteration: the provisional result is the last one's; heads and nested
@@ -217,7 +220,7 @@ pub fn mark_overflow(frame: &mut [u8], goals: usize)
 {
     small::mark_bytes(&mut frame[0..offsets::FRAME_USAGES]);
     let goal = input(frame, goals);
-    let a = offsets::nested_start(goals);
-    let end = a + goals;
-    nested::insert(&mut frame[a..end], goal, 1);
+    let start = offsets::nested_start(goals);
+    let end = start + goals;
+    nested::insert(&mut frame[start..end], goal, 1);
 }

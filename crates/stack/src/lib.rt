@@ -35,9 +35,9 @@ pub fn frame_at(graph: &[u8], goals: usize, i: usize) -> &[u8]
     requires { ⌜ GraphBytes goals (now graph) × (i < goals) ⌝ }
     ensures { λ r. ⌜ now r ≡ frameBytes goals i (now (graph .entry)) ⌝ }
 {
-    let a = offsets::frame_start(goals, i);
-    let end = a + offsets::frame_size(goals);
-    &graph[a..end]
+    let start = offsets::frame_start(goals, i);
+    let end = start + offsets::frame_size(goals);
+    &graph[start..end]
 }
 
 // A new frame on top.
@@ -52,9 +52,9 @@ pub fn push(
     requires { ⌜ GraphBytes goals (now graph) × ((height < goals) × ((goal < 256) × (available < 256))) ⌝ }
     ensures { λ _. ⌜ (stackOf goals (height + 1) (now (graph .exit)) ≡ newFrame goals goal step available ∷ stackOf goals height (now (graph .entry))) × ((n : ℕ) → entriesOf goals n (now (graph .exit)) ≡ entriesOf goals n (now (graph .entry))) ⌝ }
 {
-    let a = offsets::frame_start(goals, height);
-    let end = a + offsets::frame_size(goals);
-    frame::start(&mut graph[a..end], goals, goal, step, available);
+    let start = offsets::frame_start(goals, height);
+    let end = start + offsets::frame_size(goals);
+    frame::start(&mut graph[start..end], goals, goal, step, available);
 }
 
 // The frame at index `own`, on top again, before its next iteration.
@@ -62,9 +62,9 @@ pub fn reset_for_rerun(graph: &mut [u8], goals: usize, own: usize, answer: Answe
     requires { ⌜ GraphBytes goals (now graph) × (own < goals) ⌝ }
     ensures { λ _. ⌜ (stackOf goals (own + 1) (now (graph .exit)) ≡ rerunFrame (frameAt goals own (now (graph .entry))) answer ∷ stackOf goals own (now (graph .entry))) × ((n : ℕ) → entriesOf goals n (now (graph .exit)) ≡ entriesOf goals n (now (graph .entry))) ⌝ }
 {
-    let a = offsets::frame_start(goals, own);
-    let end = a + offsets::frame_size(goals);
-    frame::reset(&mut graph[a..end], goals, answer);
+    let start = offsets::frame_start(goals, own);
+    let end = start + offsets::frame_size(goals);
+    frame::reset(&mut graph[start..end], goals, answer);
 }
 
 // handle_overflow: the top frame met overflow.
@@ -75,9 +75,9 @@ pub fn mark_top_overflow(graph: &mut [u8], goals: usize, height: usize)
     if height == 0 {
         return;
     }
-    let a = offsets::frame_start(goals, height - 1);
-    let end = a + offsets::frame_size(goals);
-    frame::mark_overflow(&mut graph[a..end], goals);
+    let start = offsets::frame_start(goals, height - 1);
+    let end = start + offsets::frame_size(goals);
+    frame::mark_overflow(&mut graph[start..end], goals);
 }
 
 // Stack::find, from the top on.

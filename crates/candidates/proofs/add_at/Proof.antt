@@ -1,4 +1,4 @@
-use Rattle.candidates.specs.Steps.{addAt}
+use Rattle.layout.specs.AtIndex.{addAt}
 use Rattle.candidates.proofs.Parts as parts
 use borrow.Author.Needs.{needs}
 use Rattle.candidates.proofs.add_at.Statement.{statement}

@@ -1,4 +1,4 @@
-use Rattle.candidates.specs.Steps.{ignoreHeadAt}
+use Rattle.stack.specs.Tracked.{ignoreHeadAt}
 use Rattle.candidates.proofs.Parts as parts
 use borrow.Author.Needs.{needs}
 use Rattle.candidates.proofs.ignore_head.Statement.{statement}

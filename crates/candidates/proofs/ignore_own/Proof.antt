@@ -1,4 +1,4 @@
-use Rattle.candidates.specs.Steps.{ignoreOwn}
+use Rattle.stack.specs.Tracked.{ignoreOwn}
 use Rattle.candidates.proofs.Parts as parts
 use borrow.Author.Needs.{needs}
 use Rattle.candidates.proofs.ignore_own.Statement.{statement}

@@ -12,17 +12,17 @@ Inv-loop work₀ goals own left₀ work left = loops.Merging goals own work₀ w
 abbrev μ-loop : tie.MeasureT-loop
 μ-loop work₀ goals own left₀ work left = left
 
-small : (c : tie.After-tracked-mask Inv-loop μ-loop) → c .tracked-mask .result < 2 ^ 64
+small : (c : tie.After-mask Inv-loop μ-loop) → c .mask .result < 2 ^ 64
 small c = search needs
 
 top-requires : tie.Need-top-requires Inv-loop μ-loop
 top-requires c κs = search needs
 
-tracked-mask-requires : tie.Need-tracked-mask-requires Inv-loop μ-loop
-tracked-mask-requires c κs = let s = c .before .before .before in parts.top-bytes (s .args .goals) (s .args .work .now) (s .pre .0) (s .args .own) (s .pre .1) (c .top .result .now) (c .top .ensures)
+mask-requires : tie.Need-mask-requires Inv-loop μ-loop
+mask-requires c κs = let s = c .before .before .before in parts.top-bytes (s .args .goals) (s .args .work .now) (s .pre .0) (s .args .own) (s .pre .1) (c .top .result .now) (c .top .ensures)
 
 loop-holds : tie.Need-loop-holds Inv-loop μ-loop
-loop-holds c = let s = c .before .before .before .before in loops.merge-start (s .args .goals) (s .args .own) (s .args .work .now) (c .before .top .result .now) (c .tracked-mask .result) (c .before .top .ensures) (small c) (c .tracked-mask .ensures)
+loop-holds c = let s = c .before .before .before .before in loops.merge-start (s .args .goals) (s .args .own) (s .args .work .now) (c .before .top .result .now) (c .mask .result) (c .before .top .ensures) (small c) (c .mask .ensures)
 
 lowest-requires : tie.Need-lowest-requires Inv-loop μ-loop
 lowest-requires c κs = search needs
@@ -30,8 +30,8 @@ lowest-requires c κs = search needs
 top-requires-2 : tie.Need-top-requires-2 Inv-loop μ-loop
 top-requires-2 c κs = let s = c .before .before .before .before .before .before .before .before in let l = c .before .before .before .loop in (same-bytes (s .args .goals) (s .args .work .now) (s .pre .0) (l .work) (l .inv .same-length), s .pre .1)
 
-tracked-requires : tie.Need-tracked-requires Inv-loop μ-loop
-tracked-requires c κs = let s = c .before .before .before .before .before .before .before .before .before in let l = c .before .before .before .before .loop in (parts.top-bytes (s .args .goals) (l .work) (same-bytes (s .args .goals) (s .args .work .now) (s .pre .0) (l .work) (l .inv .same-length)) (s .args .own) (s .pre .1) (c .top2 .result .now) (c .top2 .ensures), loops.turn-below (l .left) (c .before .before .lowest .result) (c .before .before .before .loop-test .taken) (l .inv .small) (c .before .before .lowest .ensures) (s .args .goals) (l .inv .below))
+usages-requires : tie.Need-usages-requires Inv-loop μ-loop
+usages-requires c κs = let s = c .before .before .before .before .before .before .before .before .before in let l = c .before .before .before .before .loop in (parts.top-bytes (s .args .goals) (l .work) (same-bytes (s .args .goals) (s .args .work .now) (s .pre .0) (l .work) (l .inv .same-length)) (s .args .own) (s .pre .1) (c .top2 .result .now) (c .top2 .ensures), loops.turn-below (l .left) (c .before .before .lowest .result) (c .before .before .before .loop-test .taken) (l .inv .small) (c .before .before .lowest .ensures) (s .args .goals) (l .inv .below))
 
 add-at-requires : tie.Need-add-at-requires Inv-loop μ-loop
 add-at-requires c κs = let s = c .before .before .before .before .before .before .before .before .before .before .before in let l = c .before .before .before .before .before .before .loop in (same-bytes (s .args .goals) (s .args .work .now) (s .pre .0) (l .work) (l .inv .same-length), (s .pre .1, loops.turn-below (l .left) (c .before .before .before .before .lowest .result) (c .before .before .before .before .before .loop-test .taken) (l .inv .small) (c .before .before .before .before .lowest .ensures) (s .args .goals) (l .inv .below)))
@@ -43,7 +43,7 @@ loop-less : tie.Need-loop-less Inv-loop μ-loop
 loop-less c = c .without-lowest .ensures .1
 
 loop-again : tie.Need-loop-again Inv-loop μ-loop
-loop-again c = let s = c .before .before .before .before .before .before .before .before .before .before .before .before .before .before .before in let l = c .before .before .before .before .before .before .before .before .before .before .loop in loops.merge-next (s .args .goals) (s .args .own) (s .args .work .now) (l .work) (l .left) (l .inv) (c .before .before .before .before .before .before .before .before .lowest .result) (c .before .before .before .before .before .before .before .before .before .loop-test .taken) (c .before .before .before .before .before .before .before .before .lowest .ensures) (c .before .before .before .before .before .before .top2 .result .now) (c .before .before .before .before .before .before .top2 .ensures) (c .before .before .before .before .before .tracked .result) (c .before .before .before .before .before .tracked .ensures) (c .before .before .before .add-at .last .0) (c .before .before .before .add-at .kept .0) (c .before .before .before .add-at .ensures) (c .without-lowest .result) (c .without-lowest .ensures .0) (c .without-lowest .ensures .1)
+loop-again c = let s = c .before .before .before .before .before .before .before .before .before .before .before .before .before .before .before in let l = c .before .before .before .before .before .before .before .before .before .before .loop in loops.merge-next (s .args .goals) (s .args .own) (s .args .work .now) (l .work) (l .left) (l .inv) (c .before .before .before .before .before .before .before .before .lowest .result) (c .before .before .before .before .before .before .before .before .before .loop-test .taken) (c .before .before .before .before .before .before .before .before .lowest .ensures) (c .before .before .before .before .before .before .top2 .result .now) (c .before .before .before .before .before .before .top2 .ensures) (c .before .before .before .before .before .usages .result) (c .before .before .before .before .before .usages .ensures) (c .before .before .before .add-at .last .0) (c .before .before .before .add-at .kept .0) (c .before .before .before .add-at .ensures) (c .without-lowest .result) (c .without-lowest .ensures .0) (c .without-lowest .ensures .1)
 
 same-length : tie.Need-same-length Inv-loop μ-loop
 same-length c = c .before .loop .inv .same-length
@@ -58,11 +58,11 @@ merge-spec =
     Inv-loop
     μ-loop
     top-requires
-    tracked-mask-requires
+    mask-requires
     loop-holds
     lowest-requires
     top-requires-2
-    tracked-requires
+    usages-requires
     add-at-requires
     without-lowest-requires
     loop-less

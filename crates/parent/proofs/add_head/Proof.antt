@@ -1,7 +1,7 @@
 use Rattle.definition.specs.Stack.{Frame}
 use Rattle.stack.proofs.Graph.{part-room}
 use Rattle.parent.proofs.Top.{top-written}
-use Rattle.parent.specs.Head.{addHeadAt}
+use Rattle.stack.specs.Child.{addHeadAt}
 use borrow.Author.Needs.{needs}
 use Rattle.parent.proofs.add_head.Statement.{statement}
 use Rattle.parent.proofs.add_head.Tie as tie

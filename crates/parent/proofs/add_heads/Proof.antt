@@ -12,7 +12,7 @@ use Rattle.layout.specs.Blocks.{headsSize, headsOf, present}
 use Rattle.layout.proofs.Marks.{keep, Within, start-within}
 use Rattle.stack.specs.Bytes.{frameAt}
 use Rattle.stack.proofs.Parts.{part}
-use Rattle.parent.specs.Head.{addHeadAt}
+use Rattle.stack.specs.Child.{addHeadAt}
 use Rattle.parent.specs.Top.{TopWritten}
 use Rattle.parent.proofs.Top.{top-frame, top-again, top-same, top-kept}
 use Rattle.parent.proofs.Update as update

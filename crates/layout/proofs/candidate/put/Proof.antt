@@ -18,8 +18,8 @@ mul-a c = search needs
 add-a : tie.Need-add-a
 add-a c = search needs
 
-add-e : tie.Need-add-e
-add-e c = search needs
+add-end : tie.Need-add-end
+add-end c = search needs
 
 sub-write-usages : tie.Need-sub-write-usages
 sub-write-usages c = search needs
@@ -68,7 +68,7 @@ put-spec =
     (tie.spec
     mul-a
     add-a
-    add-e
+    add-end
     sub-write-usages
     part-write-usages-start
     part-write-usages-end

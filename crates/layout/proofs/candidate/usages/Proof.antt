@@ -25,8 +25,8 @@ mul-a c = search needs
 add-a : tie.Need-add-a
 add-a c = search needs
 
-add-e : tie.Need-add-e
-add-e c = search needs
+add-end : tie.Need-add-end
+add-end c = search needs
 
 sub-read-usages : tie.Need-sub-read-usages
 sub-read-usages c = search needs
@@ -72,7 +72,7 @@ usages-spec =
     has-requires
     mul-a
     add-a
-    add-e
+    add-end
     sub-read-usages
     part-read-usages-start
     part-read-usages-end

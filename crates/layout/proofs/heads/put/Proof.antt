@@ -19,8 +19,8 @@ mul-a c = search needs
 add-a : tie.Need-add-a
 add-a c = search needs
 
-add-e : tie.Need-add-e
-add-e c = search needs
+add-end : tie.Need-add-end
+add-end c = search needs
 
 sub-write-head : tie.Need-sub-write-head
 sub-write-head c = search needs
@@ -69,7 +69,7 @@ put-spec =
     (tie.spec
     mul-a
     add-a
-    add-e
+    add-end
     sub-write-head
     part-write-head-start
     part-write-head-end

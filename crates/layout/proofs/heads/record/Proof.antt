@@ -13,8 +13,8 @@ mul-a c = search needs
 add-a : tie.Need-add-a
 add-a c = search needs
 
-add-e : tie.Need-add-e
-add-e c = search needs
+add-end : tie.Need-add-end
+add-end c = search needs
 
 sub-read-head : tie.Need-sub-read-head
 sub-read-head c = search needs
@@ -41,7 +41,7 @@ record-spec =
     (tie.spec
     mul-a
     add-a
-    add-e
+    add-end
     sub-read-head
     part-read-head-start
     part-read-head-end

@@ -35,7 +35,7 @@ returns c =
     let ys : List ℕ = c .before .before .write-usages .last .0 in
     let part : length (region 1 32 (s .args .b .now)) ≡ 32 = length-region 1 32 (s .args .b .now) (omega (arith, s .pre)) in
     let whole : length ys ≡ 32 = c .before .before .write-usages .kept .0 ∙ part in
-    ap (λ (l : List ℕ). headOf (set l 0 (s .args .h .paths))) (overwrite-part (s .args .b .now) 1 33 ys whole) ∙ head-back (s .args .b .now) ys (s .args .h) (s .pre) whole (c .before .before .write-usages .ensures)
+    ap (λ (l : List ℕ). headOf (set l 0 (s .args .head .paths))) (overwrite-part (s .args .b .now) 1 33 ys whole) ∙ head-back (s .args .b .now) ys (s .args .head) (s .pre) whole (c .before .before .write-usages .ensures)
 
 pub write-head-spec : {M : Type 1} → statement M
 write-head-spec =

@@ -1,0 +1,50 @@
+-- What a nested goal, the child, does to its parent's frame.
+use Prim.Native.Nat.{ℕ, min}
+use mathlib.Core.Bool.{Bool, true, false, _||_}
+use mathlib.Core.Option.{Option, none, some}
+use mathlib.Core.List.{List}
+use lib.Dec.{eqb, ltb}
+use Rattle.definition.specs.declared.paths.PathKind.{PathKind}
+use Rattle.definition.specs.declared.usages.HeadUsages.{HeadUsages}
+use Rattle.definition.specs.declared.heads.CycleHead.{CycleHead}
+use Rattle.definition.specs.Paths.{extendWith}
+use Rattle.definition.specs.Usages.{addUsagesFromNested}
+use Rattle.definition.specs.Heads.{CycleHeads, insertHead}
+use Rattle.definition.specs.Stack.{Frame, withReached, withHeads, withOverflow, withUsages, withCandidateUsages}
+use Rattle.definition.specs.Parent.{orNoUsages}
+use Rattle.layout.specs.AtIndex.{addFromNestedAt}
+
+-- the usages of a candidate, where one is tracked, with those of a nested goal at index i
+abbrev pub trackedAt : Option (List HeadUsages) → ℕ → HeadUsages → Option (List HeadUsages)
+trackedAt none i u = none
+trackedAt (some us) i u = some (addFromNestedAt us i u)
+
+-- the head c of the child, one step further
+abbrev pub joined : PathKind → ℕ → CycleHead → CycleHeads → CycleHeads
+joined step i c hs = insertHead hs i (extendWith (c .paths) step) (c .usages)
+
+abbrev pub used : HeadUsages → Option HeadUsages → Option HeadUsages
+used u before = some (addUsagesFromNested (orNoUsages before) u)
+
+-- each of them on a frame
+abbrev pub trackAt : ℕ → HeadUsages → Frame → Frame
+trackAt i u f = withCandidateUsages f (trackedAt (f .candidateUsages) i u)
+
+abbrev pub joinAt : PathKind → ℕ → CycleHead → Frame → Frame
+joinAt step i c f = withHeads f (joined step i c (f .heads))
+
+abbrev pub useOwn : HeadUsages → Frame → Frame
+useOwn u f = withUsages f (used u (f .usages))
+
+-- the head c of the child, at index i, for the parent at index `own`
+abbrev pub addHeadAt : PathKind → ℕ → ℕ → CycleHead → Frame → Frame
+addHeadAt step own i c f =
+    withCandidateUsages
+    (withUsages
+    (withHeads f (elim (ltb i own) [ true ↦ joined step i c (f .heads) | false ↦ f .heads ]))
+    (elim (eqb i own) [ true ↦ used (c .usages) (f .usages) | false ↦ f .usages ]))
+    (trackedAt (f .candidateUsages) i (c .usages))
+
+-- overflow, and the depth reached
+abbrev pub reachFrame : Bool → ℕ → Frame → Frame
+reachFrame overflow reached f = withOverflow (withReached f (min (f .minReachedAvailableDepth) reached)) (f .encounteredOverflow || overflow)

@@ -1,0 +1,193 @@
+// What a nested goal leaves in its parent's frame: update_parent_goal of mod.rs, on one frame's
+// bytes.
+use crate::frame;
+use buffer::scalars;
+use definition::heads::CycleHead;
+use definition::paths::PathKind;
+use definition::paths::PathsToNested;
+use definition::usages::HeadUsages;
+use layout::candidate;
+use layout::heads;
+use layout::nested;
+use layout::offsets;
+use layout::records;
+ghost use mathlib.Core.Path.{_≡_};
+ghost use mathlib.Core.Bool.{false, _||_};
+ghost use Prim.Native.Nat.{_<_, min};
+ghost use lib.Bits.{bitOr};
+ghost use Rattle.definition.specs.Paths.{extendWith, emptyPath};
+ghost use Rattle.definition.specs.Nested.{insertNested, extendFromChild};
+ghost use Rattle.definition.specs.Stack.{withNestedGoals};
+ghost use Rattle.definition.specs.Parent.{addRest, Ordinary, CycleOnStack, ProvisionalCacheHit};
+ghost use Rattle.layout.specs.Frame.{truth, frameOf};
+ghost use Rattle.stack.specs.Bytes.{FrameBytes};
+ghost use Rattle.stack.specs.Child.{trackAt, joinAt, useOwn, addHeadAt, reachFrame};
+
+// ---- heads
+
+// The usages of the head at index i, in the candidate that the frame tracks, if any.
+fn track(frame: &mut [u8], goals: usize, i: usize, usages: HeadUsages)
+    requires { ⌜ FrameBytes goals (now frame) × (i < goals) ⌝ }
+    ensures { λ _. ⌜ frameOf goals (now (frame .exit)) ≡ trackAt i usages (frameOf goals (now (frame .entry))) ⌝ }
+{
+    if !frame::tracks(frame, goals) {
+        return;
+    }
+    let start = offsets::candidate_start(goals);
+    let end = offsets::nested_start(goals);
+    candidate::add_from_nested(&mut frame[start..end], goals, i, usages);
+}
+
+// The head at index i, reached by one step more.
+fn join(frame: &mut [u8], goals: usize, step: PathKind, i: usize, head: CycleHead)
+    requires { ⌜ FrameBytes goals (now frame) × (i < goals) ⌝ }
+    ensures { λ _. ⌜ frameOf goals (now (frame .exit)) ≡ joinAt step i head (frameOf goals (now (frame .entry))) ⌝ }
+{
+    let paths = PathsToNested { bits: head.paths };
+    let extended = paths.extend_with(step);
+    let usages = head.usages;
+    let end = offsets::candidate_start(goals);
+    heads::insert(
+        &mut frame[offsets::FRAME_HEADS..end],
+        goals,
+        i,
+        extended.bits,
+        usages,
+    );
+}
+
+// The parent itself is used as a head.
+fn use_itself(frame: &mut [u8], goals: usize, usages: HeadUsages)
+    requires { ⌜ FrameBytes goals (now frame) ⌝ }
+    ensures { λ _. ⌜ frameOf goals (now (frame .exit)) ≡ useOwn usages (frameOf goals (now (frame .entry))) ⌝ }
+{
+    let before = frame::own_usages(frame, goals);
+    records::write_usages(
+        &mut frame[offsets::FRAME_USAGES..offsets::FRAME_HEADS],
+        before.add_usages_from_nested(usages),
+    );
+    frame[offsets::FRAME_IS_HEAD] = 1;
+}
+
+// A head of the nested goal, at index i; the parent's own index is `own`.
+pub fn add_head(
+    frame: &mut [u8],
+    goals: usize,
+    own: usize,
+    step: PathKind,
+    i: usize,
+    head: CycleHead,
+)
+    requires { ⌜ FrameBytes goals (now frame) × (i < goals) ⌝ }
+    ensures { λ _. ⌜ frameOf goals (now (frame .exit)) ≡ addHeadAt step own i head (frameOf goals (now (frame .entry))) ⌝ }
+{
+    let usages = head.usages;
+    track(frame, goals, i, usages);
+    if i < own {
+        join(frame, goals, step, i, head);
+        return;
+    }
+    if i == own {
+        use_itself(frame, goals, usages);
+    }
+}
+
+// ---- the rest
+
+// The mark of overflow, after more was met, or was not.
+fn marked(before: u8, overflow: bool) -> u8
+    ensures { λ r. ⌜ truth r ≡ (truth before || overflow) ⌝ }
+{
+    if overflow {
+        return 1;
+    }
+    before
+}
+
+fn lesser(a: u8, b: usize) -> u8
+    ensures { λ r. ⌜ r ≡ min a b ⌝ }
+{
+    if b < scalars::wide(a) {
+        return scalars::low(b);
+    }
+    a
+}
+
+// Overflow, and the depth that was reached.
+fn reach(frame: &mut [u8], goals: usize, overflow: bool, reached: usize)
+    requires { ⌜ FrameBytes goals (now frame) ⌝ }
+    ensures { λ _. ⌜ frameOf goals (now (frame .exit)) ≡ reachFrame overflow reached (frameOf goals (now (frame .entry))) ⌝ }
+{
+    frame[offsets::FRAME_OVERFLOW] = marked(frame[offsets::FRAME_OVERFLOW], overflow);
+    frame[offsets::FRAME_REACHED] = lesser(frame[offsets::FRAME_REACHED], reached);
+}
+
+// Paths to a nested goal.
+fn insert_nested(frame: &mut [u8], goals: usize, goal: usize, paths: u8)
+    requires { ⌜ FrameBytes goals (now frame) ⌝ }
+    ensures { λ _. ⌜ frameOf goals (now (frame .exit)) ≡ withNestedGoals (frameOf goals (now (frame .entry))) (insertNested ((frameOf goals (now (frame .entry))) .nestedGoals) goal paths) ⌝ }
+{
+    let start = offsets::nested_start(goals);
+    let end = start + goals;
+    nested::insert(&mut frame[start..end], goal, paths);
+}
+
+// The frame's own goal is among its nested goals.
+fn insert_itself(frame: &mut [u8], goals: usize)
+    requires { ⌜ FrameBytes goals (now frame) ⌝ }
+    ensures { λ _. ⌜ frameOf goals (now (frame .exit)) ≡ withNestedGoals (frameOf goals (now (frame .entry))) (insertNested ((frameOf goals (now (frame .entry))) .nestedGoals) ((frameOf goals (now (frame .entry))) .input) emptyPath) ⌝ }
+{
+    let goal = frame::input(frame, goals);
+    insert_nested(frame, goals, goal, 1);
+}
+
+// The nested goals, with those of a child.
+fn extend(frame: &mut [u8], goals: usize, step: PathKind, child: &[u8])
+    requires { ⌜ FrameBytes goals (now frame) ⌝ }
+    ensures { λ _. ⌜ frameOf goals (now (frame .exit)) ≡ withNestedGoals (frameOf goals (now (frame .entry))) (extendFromChild ((frameOf goals (now (frame .entry))) .nestedGoals) step (now (child .entry))) ⌝ }
+{
+    let start = offsets::nested_start(goals);
+    let end = start + goals;
+    nested::extend_from_child(&mut frame[start..end], step, child);
+}
+
+// Beside the heads, after a goal that was evaluated or found in the global cache, with
+// its nested goals.
+pub fn add_ordinary(
+    frame: &mut [u8],
+    goals: usize,
+    step: PathKind,
+    overflow: bool,
+    child: &[u8],
+    reached: usize,
+)
+    requires { ⌜ FrameBytes goals (now frame) ⌝ }
+    ensures { λ _. ⌜ frameOf goals (now (frame .exit)) ≡ addRest step overflow (Ordinary (now (child .entry))) reached (frameOf goals (now (frame .entry))) ⌝ }
+{
+    reach(frame, goals, overflow, reached);
+    extend(frame, goals, step, child);
+    if nested::is_empty(child) {
+        return;
+    }
+    insert_itself(frame, goals);
+}
+
+// Beside the heads, after a goal that was found in the provisional cache.
+pub fn add_entry(frame: &mut [u8], goals: usize, step: PathKind, overflow: bool, reached: usize)
+    requires { ⌜ FrameBytes goals (now frame) ⌝ }
+    ensures { λ _. ⌜ frameOf goals (now (frame .exit)) ≡ addRest step overflow ProvisionalCacheHit reached (frameOf goals (now (frame .entry))) ⌝ }
+{
+    reach(frame, goals, overflow, reached);
+    insert_itself(frame, goals);
+}
+
+// Beside the heads, after a goal that is on the stack.
+pub fn add_cycle(frame: &mut [u8], goals: usize, step: PathKind, goal: usize, reached: usize)
+    requires { ⌜ FrameBytes goals (now frame) ⌝ }
+    ensures { λ _. ⌜ frameOf goals (now (frame .exit)) ≡ addRest step false (CycleOnStack goal) reached (frameOf goals (now (frame .entry))) ⌝ }
+{
+    reach(frame, goals, false, reached);
+    let paths = PathsToNested::from_kind(step);
+    insert_nested(frame, goals, goal, paths.bits);
+    insert_itself(frame, goals);
+}
