@@ -34,9 +34,9 @@ pub fn entry_at(graph: &[u8], goals: usize, i: usize) -> &[u8]
     requires { ⌜ GraphBytes goals (now graph) × (i < 2 * goals) ⌝ }
     ensures { λ r. ⌜ now r ≡ entryBytes goals i (now (graph .entry)) ⌝ }
 {
-    let a = offsets::entry_start(goals, i);
-    let end = a + offsets::entry_size(goals);
-    &graph[a..end]
+    let start = offsets::entry_start(goals, i);
+    let end = start + offsets::entry_size(goals);
+    &graph[start..end]
 }
 
 // is_none_or(|lowest| lowest > head), of the lowest head of the top frame
@@ -256,9 +256,9 @@ fn write_entry(
         (now (graph .entry)) (now (graph .exit)) ⌝ }
 {
     copy_heads(graph, goals, height, i);
-    let a = offsets::entry_start(goals, i);
-    let end = a + offsets::entry_size(goals);
-    entry::start(&mut graph[a..end], goals, goal, overflow, path, answer);
+    let start = offsets::entry_start(goals, i);
+    let end = start + offsets::entry_size(goals);
+    entry::start(&mut graph[start..end], goals, goal, overflow, path, answer);
 }
 
 // The kind of the path from the highest head of the frame at index `height` to it.

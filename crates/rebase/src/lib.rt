@@ -195,9 +195,9 @@ fn remove_head(graph: &mut [u8], goals: usize, k: usize, i: usize)
     ensures { λ _. ⌜ EntryWritten goals k (withoutHead (entryAt goals k (now (graph .entry))) i)
         (now (graph .entry)) (now (graph .exit)) ⌝ }
 {
-    let a = offsets::entry_start(goals, k);
-    let end = a + offsets::entry_size(goals);
-    entry::remove_head(&mut graph[a..end], goals, i);
+    let start = offsets::entry_start(goals, k);
+    let end = start + offsets::entry_size(goals);
+    entry::remove_head(&mut graph[start..end], goals, i);
 }
 
 // Its head at index i is joined with `head`.
@@ -206,9 +206,9 @@ fn join_head(graph: &mut [u8], goals: usize, k: usize, i: usize, head: CycleHead
     ensures { λ _. ⌜ EntryWritten goals k (withJoinedHead (entryAt goals k (now (graph .entry))) i head)
         (now (graph .entry)) (now (graph .exit)) ⌝ }
 {
-    let a = offsets::entry_start(goals, k);
-    let end = a + offsets::entry_size(goals);
-    entry::join_head(&mut graph[a..end], goals, i, head);
+    let start = offsets::entry_start(goals, k);
+    let end = start + offsets::entry_size(goals);
+    entry::join_head(&mut graph[start..end], goals, i, head);
 }
 
 // Its path from its highest head goes on by a path of a kind.
@@ -217,9 +217,9 @@ fn extend_path(graph: &mut [u8], goals: usize, k: usize, kind: PathKind)
     ensures { λ _. ⌜ EntryWritten goals k (withLongerPath (entryAt goals k (now (graph .entry))) kind)
         (now (graph .entry)) (now (graph .exit)) ⌝ }
 {
-    let a = offsets::entry_start(goals, k);
-    let end = a + offsets::entry_size(goals);
-    entry::extend_path(&mut graph[a..end], goals, kind);
+    let start = offsets::entry_start(goals, k);
+    let end = start + offsets::entry_size(goals);
+    entry::extend_path(&mut graph[start..end], goals, kind);
 }
 
 // ---- entry k after p

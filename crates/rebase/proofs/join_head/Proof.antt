@@ -22,7 +22,12 @@ part-join-head-start : tie.Need-part-join-head-start
 part-join-head-start c = search needs
 
 part-join-head-end : tie.Need-part-join-head-end
-part-join-head-end c = let s = c .before .before .before in part-room (s .args .goals) (s .args .graph .now) (s .args .k) (c .before .entry-start .result) (c .entry-size .result) (s .pre .0) (s .pre .1 .0) (c .before .entry-start .ensures .0) (c .entry-size .ensures)
+part-join-head-end c =
+    let s = c .before .before .before in
+    let entry-start = c .before .entry-start in
+    let entry-size = c .entry-size in
+    part-room (s .args .goals) (s .args .graph .now) (s .args .k) (entry-start .result) (entry-size .result) (s .pre .0) (s .pre .1 .0)
+    (entry-start .ensures .0) (entry-size .ensures)
 
 join-head-requires : tie.Need-join-head-requires
 join-head-requires c κs = search needs
@@ -31,7 +36,15 @@ same-length : tie.Need-same-length
 same-length c = search needs
 
 returns : tie.Need-returns
-returns c = let s = c .before .before .before .before .before .before .before in let a = s .args in let b = c .before .before .join-head in written (a .goals) (a .graph .now) (a .k) (c .before .before .before .before .before .entry-start .result) (c .before .before .before .before .entry-size .result) (s .pre .0) (s .pre .1 .0) (c .before .before .before .before .before .entry-start .ensures .0) (c .before .before .before .before .entry-size .ensures) (b .last .0) (b .kept .0) (λ (e : Entry). withJoinedHead e (a .i) (a .head)) (b .ensures)
+returns c =
+    let s = c .before .before .before .before .before .before .before in
+    let a = s .args in
+    let b = c .before .before .join-head in
+    let entry-start = c .before .before .before .before .before .entry-start in
+    let entry-size = c .before .before .before .before .entry-size in
+    written (a .goals) (a .graph .now) (a .k) (entry-start .result) (entry-size .result) (s .pre .0) (s .pre .1 .0)
+    (entry-start .ensures .0) (entry-size .ensures) (b .last .0) (b .kept .0) (λ (e : Entry). withJoinedHead e (a .i) (a .head))
+    (b .ensures)
 
 pub join-head-spec : {M : Type 1} → statement M
 join-head-spec =

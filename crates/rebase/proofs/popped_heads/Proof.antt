@@ -11,7 +11,11 @@ frame-at-requires : tie.Need-frame-at-requires
 frame-at-requires c κs = search needs
 
 heads-requires : tie.Need-heads-requires
-heads-requires c κs = let s = c .before .before in frame-bytes (s .args .goals) (s .args .graph .now) (c .frame-at .result .now) (s .args .popped) (s .pre .0) (s .pre .1) (c .frame-at .ensures)
+heads-requires c κs =
+    let s = c .before .before in
+    let frame-at = c .frame-at in
+    frame-bytes (s .args .goals) (s .args .graph .now) (frame-at .result .now) (s .args .popped) (s .pre .0) (s .pre .1)
+    (frame-at .ensures)
 
 returns : tie.Need-returns
 returns c = c .heads .ensures ∙ ap (region headsStart (headsSize (c .before .before .before .args .goals))) (c .before .frame-at .ensures)

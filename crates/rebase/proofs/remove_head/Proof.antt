@@ -22,7 +22,12 @@ part-remove-head-start : tie.Need-part-remove-head-start
 part-remove-head-start c = search needs
 
 part-remove-head-end : tie.Need-part-remove-head-end
-part-remove-head-end c = let s = c .before .before .before in part-room (s .args .goals) (s .args .graph .now) (s .args .k) (c .before .entry-start .result) (c .entry-size .result) (s .pre .0) (s .pre .1 .0) (c .before .entry-start .ensures .0) (c .entry-size .ensures)
+part-remove-head-end c =
+    let s = c .before .before .before in
+    let entry-start = c .before .entry-start in
+    let entry-size = c .entry-size in
+    part-room (s .args .goals) (s .args .graph .now) (s .args .k) (entry-start .result) (entry-size .result) (s .pre .0) (s .pre .1 .0)
+    (entry-start .ensures .0) (entry-size .ensures)
 
 remove-head-requires : tie.Need-remove-head-requires
 remove-head-requires c κs = search needs
@@ -31,7 +36,14 @@ same-length : tie.Need-same-length
 same-length c = search needs
 
 returns : tie.Need-returns
-returns c = let s = c .before .before .before .before .before .before .before in let a = s .args in let b = c .before .before .remove-head in written (a .goals) (a .graph .now) (a .k) (c .before .before .before .before .before .entry-start .result) (c .before .before .before .before .entry-size .result) (s .pre .0) (s .pre .1 .0) (c .before .before .before .before .before .entry-start .ensures .0) (c .before .before .before .before .entry-size .ensures) (b .last .0) (b .kept .0) (λ (e : Entry). withoutHead e (a .i)) (b .ensures)
+returns c =
+    let s = c .before .before .before .before .before .before .before in
+    let a = s .args in
+    let b = c .before .before .remove-head in
+    let entry-start = c .before .before .before .before .before .entry-start in
+    let entry-size = c .before .before .before .before .entry-size in
+    written (a .goals) (a .graph .now) (a .k) (entry-start .result) (entry-size .result) (s .pre .0) (s .pre .1 .0)
+    (entry-start .ensures .0) (entry-size .ensures) (b .last .0) (b .kept .0) (λ (e : Entry). withoutHead e (a .i)) (b .ensures)
 
 pub remove-head-spec : {M : Type 1} → statement M
 remove-head-spec =

@@ -17,7 +17,13 @@ same-length : tie.Need-same-length
 same-length c = search needs
 
 returns : tie.Need-returns
-returns c = let a = c .before .before .before .before .before .before .before .before .args in path-extended (entryOf (a .goals) (a .entry .now)) (entryOf (a .goals) (c .before .before .set-path .last .0)) (c .before .before .before .before .before .path-from-head .result) (c .before .before .before .extend .result) (a .kind) (c .before .before .set-path .ensures) (c .before .before .before .extend .ensures) (c .before .before .before .before .before .path-from-head .ensures)
+returns c =
+    let a = c .before .before .before .before .before .before .before .before .args in
+    let path-from-head = c .before .before .before .before .before .path-from-head in
+    let extend = c .before .before .before .extend in
+    let set-path = c .before .before .set-path in
+    path-extended (entryOf (a .goals) (a .entry .now)) (entryOf (a .goals) (set-path .last .0)) (path-from-head .result) (extend .result)
+    (a .kind) (set-path .ensures) (extend .ensures) (path-from-head .ensures)
 
 pub extend-path-spec : {M : Type 1} → statement M
 extend-path-spec =

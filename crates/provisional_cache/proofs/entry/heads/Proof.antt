@@ -20,7 +20,10 @@ part-result-end : tie.Need-part-result-end
 part-result-end c = search needs
 
 returns : tie.Need-returns
-returns c = let a = c .before .before .before .args in heads-part (a .entry .now) 8 (c .before .heads-size .result) (headsSize (a .goals)) (c .before .heads-size .ensures)
+returns c =
+    let a = c .before .before .before .args in
+    let heads-size = c .before .heads-size in
+    heads-part (a .entry .now) 8 (heads-size .result) (headsSize (a .goals)) (heads-size .ensures)
 
 pub heads-spec : {M : Type 1} → statement M
 heads-spec =

@@ -26,7 +26,13 @@ same-length : tie.Need-same-length
 same-length c = search needs
 
 returns : tie.Need-returns
-returns c = let a = c .before .before .before .before .before .before .before .args in heads-written (a .goals) (a .entry .now) (c .before .before .before .before .heads-size .result) (c .before .before .insert .last .0) (λ (hs : CycleHeads). insertHead hs (a .i) (a .head .paths) (a .head .usages)) (c .before .before .before .before .before .before .before .pre .0) (c .before .before .before .before .heads-size .ensures) (c .before .before .insert .kept .0) (c .before .before .insert .ensures)
+returns c =
+    let a = c .before .before .before .before .before .before .before .args in
+    let heads-size = c .before .before .before .before .heads-size in
+    let insert = c .before .before .insert in
+    heads-written (a .goals) (a .entry .now) (heads-size .result) (insert .last .0)
+    (λ (hs : CycleHeads). insertHead hs (a .i) (a .head .paths) (a .head .usages))
+    (c .before .before .before .before .before .before .before .pre .0) (heads-size .ensures) (insert .kept .0) (insert .ensures)
 
 pub join-head-spec : {M : Type 1} → statement M
 join-head-spec =

@@ -26,7 +26,12 @@ same-length : tie.Need-same-length
 same-length c = search needs
 
 returns : tie.Need-returns
-returns c = let a = c .before .before .before .before .before .before .args in heads-written (a .goals) (a .entry .now) (c .before .before .before .before .heads-size .result) (c .before .before .remove .last .0) (λ (hs : CycleHeads). removeHead hs (a .i)) (c .before .before .before .before .before .before .pre .0) (c .before .before .before .before .heads-size .ensures) (c .before .before .remove .kept .0) (c .before .before .remove .ensures)
+returns c =
+    let a = c .before .before .before .before .before .before .args in
+    let heads-size = c .before .before .before .before .heads-size in
+    let remove = c .before .before .remove in
+    heads-written (a .goals) (a .entry .now) (heads-size .result) (remove .last .0) (λ (hs : CycleHeads). removeHead hs (a .i))
+    (c .before .before .before .before .before .before .pre .0) (heads-size .ensures) (remove .kept .0) (remove .ensures)
 
 pub remove-head-spec : {M : Type 1} → statement M
 remove-head-spec =

@@ -10,13 +10,28 @@ frame-at-requires : tie.Need-frame-at-requires
 frame-at-requires c κs = search needs
 
 heads-requires : tie.Need-heads-requires
-heads-requires c κs = let s = c .before .before in frame-bytes (s .args .goals) (s .args .graph .now) (c .frame-at .result .now) (s .args .height) (s .pre .0) (s .pre .1) (c .frame-at .ensures)
+heads-requires c κs =
+    let s = c .before .before in
+    let frame-at = c .frame-at in
+    frame-bytes (s .args .goals) (s .args .graph .now) (frame-at .result .now) (s .args .height) (s .pre .0) (s .pre .1)
+    (frame-at .ensures)
 
 is-empty-requires : tie.Need-is-empty-requires
-is-empty-requires c κs = let s = c .before .before .before in heads-block (s .args .goals) (c .before .frame-at .result .now) (c .heads .result .now) (frame-bytes (s .args .goals) (s .args .graph .now) (c .before .frame-at .result .now) (s .args .height) (s .pre .0) (s .pre .1) (c .before .frame-at .ensures)) (c .heads .ensures)
+is-empty-requires c κs =
+    let s = c .before .before .before in
+    let frame-at = c .before .frame-at in
+    let heads = c .heads in
+    heads-block (s .args .goals) (frame-at .result .now) (heads .result .now)
+    (frame-bytes (s .args .goals) (s .args .graph .now) (frame-at .result .now) (s .args .height) (s .pre .0) (s .pre .1)
+    (frame-at .ensures)) (heads .ensures)
 
 returns : tie.Need-returns
-returns c = let a = c .before .before .before .before .args in c .is-empty .ensures ∙ headless-is (a .goals) (a .height) (a .graph .now) (c .before .before .frame-at .result .now) (c .before .heads .result .now) (c .before .before .frame-at .ensures) (c .before .heads .ensures)
+returns c =
+    let a = c .before .before .before .before .args in
+    let frame-at = c .before .before .frame-at in
+    let heads = c .before .heads in
+    c .is-empty .ensures
+    ∙ headless-is (a .goals) (a .height) (a .graph .now) (frame-at .result .now) (heads .result .now) (frame-at .ensures) (heads .ensures)
 
 pub is-headless-spec : {M : Type 1} → statement M
 is-headless-spec =

@@ -11,10 +11,16 @@ frame-at-requires : tie.Need-frame-at-requires
 frame-at-requires c κs = search needs
 
 nested-requires : tie.Need-nested-requires
-nested-requires c κs = let s = c .before .before in frame-bytes (s .args .goals) (s .args .graph .now) (c .frame-at .result .now) (s .args .height) (s .pre .0) (s .pre .1) (c .frame-at .ensures)
+nested-requires c κs =
+    let s = c .before .before in
+    let frame-at = c .frame-at in
+    frame-bytes (s .args .goals) (s .args .graph .now) (frame-at .result .now) (s .args .height) (s .pre .0) (s .pre .1)
+    (frame-at .ensures)
 
 returns : tie.Need-returns
-returns c = let a = c .before .before .before .args in c .nested .ensures ∙ ap (λ (l : List ℕ). (frameOf (a .goals) l) .nestedGoals) (c .before .frame-at .ensures)
+returns c =
+    let a = c .before .before .before .args in
+    c .nested .ensures ∙ ap (λ (l : List ℕ). (frameOf (a .goals) l) .nestedGoals) (c .before .frame-at .ensures)
 
 pub nested-at-spec : {M : Type 1} → statement M
 nested-at-spec = tie.close (tie.spec frame-at-requires nested-requires returns)
