@@ -15,7 +15,7 @@ use Rattle.bits.specs.Masks.{flags, firstPlace, placeOr}
 use Rattle.bits.proofs.Flags.{length-flags}
 use Rattle.bits.proofs.Marks.{keep-get, none-left, turn-set, turn-at, turn-still, turn-rest}
 use Rattle.bits.proofs.Marks as marks
-use Rattle.layout.specs.Work.{stackOf, entriesOf, mergedOf}
+use Rattle.layout.specs.Work.{stackOf, mergedOf}
 use Rattle.layout.specs.Frame.{frameOf}
 use Rattle.layout.specs.Blocks.{candidateOf}
 use Rattle.layout.proofs.Graphs.{length-stack}
@@ -24,7 +24,7 @@ use Rattle.stack.proofs.Loops.{stack-top}
 use Rattle.evaluation.specs.Workspace.{WorkBytes, graphIn}
 use Rattle.layout.specs.AtIndex.{Names, addAt}
 use Rattle.stack.specs.Tracked.{trackedOf, ignoreHeadAt, ignoreHeads, ignoreOwn}
-use Rattle.candidates.specs.Written.{mergedBytes, topBytes, topOf, MergedWritten, FrameWritten}
+use Rattle.candidates.specs.Written.{mergedBytes, topBytes, topOf, MergedWritten, WorkWritten, FrameWritten}
 use Rattle.layout.proofs.Kept.{keep-is, below-only, below-same}
 use Rattle.candidates.proofs.Merging.{merge-none, merge-one, ignore-none, ignore-one, cover-same, cover-one, cover-none, cover-fails}
 use Rattle.candidates.proofs.Parts.{merged-is, frame-now, frame-again, frame-same, frame-kept}
@@ -227,17 +227,19 @@ module _ (goals own : ℕ) (lt : own < goals) (old : List ℕ) (bytes : WorkByte
 pub ignored : (goals own : ℕ) (old mid new b : List ℕ) (u : HeadUsages) → own < goals → WorkBytes goals mid
     → FrameWritten goals own (ignoreHeads (mergedOf goals own old) (topOf goals own old)) old mid
     → b ≡ mergedBytes goals own mid → u ≡ getD (candidateOf goals b) own noUsages → FrameWritten goals own (ignoreOwn u (topOf goals own mid)) mid new
-    → (stackOf goals (own + 1) (graphIn goals new) ≡ ignoreOnTop (mergedOf goals own old) (stackOf goals (own + 1) (graphIn goals old)))
-    × (((n : ℕ) → entriesOf goals n (graphIn goals new) ≡ entriesOf goals n (graphIn goals old)) × ((i : ℕ) → i < goals → mergedOf goals i new ≡ mergedOf goals i old))
+    → WorkWritten goals (own + 1) (ignoreOnTop (mergedOf goals own old) (stackOf goals (own + 1) (graphIn goals old))) old new
 ignored goals own old mid new b u lt ok w is-b is-u v =
     let us : List HeadUsages = mergedOf goals own old in
     let f : Frame = topOf goals own old in
     let fs : Stack = stackOf goals own (graphIn goals old) in
     let at : u ≡ getD us own noUsages = is-u ∙ ap (λ (l : List HeadUsages). getD l own noUsages) (merged-is goals mid ok own lt b is-b ∙ w .merged own lt) in
-    let a = frame-again goals own (ignoreHeads us f) old mid w (ignoreOwn u (topOf goals own mid)) new v in (
-      a .stack
+    let a = frame-again goals own (ignoreHeads us f) old mid w (ignoreOwn u (topOf goals own mid)) new v in
+    record {
+      stack =
+          a .stack
           ∙ ap₂ (λ (g : Frame) (x : HeadUsages). ignoreOwn x g ∷ fs) (frame-now goals own (ignoreHeads us f) old mid w) at
           ∙ ap (λ (n : ℕ). withUsages (withHeads f (ignoreAtHeads (f .heads) us)) (ignoreOwnUsages (f .usages) (getD us n noUsages)) ∷ fs) (sym (length-stack goals own (graphIn goals old)))
-          ∙ sym (ap (ignoreOnTop us) (stack-top goals own (graphIn goals old))),
-      (a .entries, a .merged),
-    )
+          ∙ sym (ap (ignoreOnTop us) (stack-top goals own (graphIn goals old)));
+      entries = a .entries;
+      merged = a .merged;
+    }

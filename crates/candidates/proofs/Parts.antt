@@ -18,10 +18,11 @@ use Rattle.layout.specs.Frame.{frameSize, frameOf}
 use Rattle.layout.specs.Entry.{entrySize}
 use Rattle.layout.specs.Work.{frameStart, entriesStart, graphLength, mergedStart, stackOf, entriesOf, mergedOf}
 use Rattle.layout.proofs.Graphs.{at-least, merged-room, stack-push, entries-push, merged-whole, merged-other, merged-graph, graph-merged}
-use Rattle.stack.specs.Bytes.{FrameBytes, GraphBytes, frameAt}
+use Rattle.stack.specs.Bytes.{FrameBytes, GraphBytes}
+use Rattle.stack.specs.Written.{StackWritten}
 use Rattle.stack.proofs.Parts.{part, returned, part-length, part-back}
 use Rattle.stack.proofs.Loops.{stack-top, top-is, under-is}
-use Rattle.stack.proofs.Graph.{part-is, stack-written, entries-written}
+use Rattle.stack.proofs.Graph.{top-written}
 use Rattle.evaluation.specs.Workspace.{WorkBytes, graphIn}
 use Rattle.evaluation.proofs.Lent.{graph-room, graph-long}
 use Rattle.candidates.specs.Written.{mergedBytes, topBytes, topOf, MergedWritten, FrameWritten}
@@ -37,11 +38,10 @@ only a n = omega arith
 -- what it tracks is written
 pub tracked-written : (goals : ℕ) (bs : List ℕ) (own a n : ℕ) (c : Option (List HeadUsages)) (g : GraphBytes goals bs) → own < goals → a ≡ frameStart goals own → n ≡ frameSize goals
     → (ys : List ℕ) → length ys ≡ length (part bs a (a + n)) → frameOf goals ys ≡ withCandidateUsages (frameOf goals (part bs a (a + n))) c
-    → (stackOf goals (own + 1) (returned bs a (a + n) ys) ≡ setCandidateUsages c (stackOf goals (own + 1) bs)) × ((k : ℕ) → entriesOf goals k (returned bs a (a + n) ys) ≡ entriesOf goals k bs)
+    → StackWritten goals (own + 1) (setCandidateUsages c (stackOf goals (own + 1) bs)) bs (returned bs a (a + n) ys)
 tracked-written goals bs own a n c g lt is-a is-n ys kept e =
-    let f : Frame = withCandidateUsages (frameAt goals own bs) c in
-    let is : frameOf goals ys ≡ f = e ∙ ap (λ (l : List ℕ). withCandidateUsages (frameOf goals l) c) (part-is goals bs own a n g lt is-a is-n) in
-    (stack-written goals bs own a n g lt is-a is-n ys kept f is ∙ sym (ap (setCandidateUsages c) (stack-top goals own bs)), entries-written goals bs own a n g lt is-a is-n ys kept)
+    let w = top-written goals bs own a n g lt is-a is-n ys kept (λ (f : Frame). withCandidateUsages f c) e in
+    record { stack = w .stack ∙ sym (ap (setCandidateUsages c) (stack-top goals own bs)); entries = w .entries }
 
 -- ---- the workspace
 module _ (goals : ℕ) (work : List ℕ) (w : WorkBytes goals work) (own : ℕ) (lt : own < goals) where

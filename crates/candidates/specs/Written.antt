@@ -3,7 +3,7 @@ use mathlib.Core.Path.{_≡_}
 use Prim.Native.Nat.{ℕ, _+_, _<_}
 use mathlib.Core.List.{List, _∷_}
 use Rattle.definition.specs.declared.usages.HeadUsages.{HeadUsages}
-use Rattle.definition.specs.Stack.{Frame}
+use Rattle.definition.specs.Stack.{Frame, Stack}
 use Rattle.buffer.specs.Regions.{region}
 use Rattle.layout.specs.Blocks.{blockSize}
 use Rattle.layout.specs.Work.{mergedStart, mergedOf, stackOf, entriesOf}
@@ -28,8 +28,12 @@ pub record MergedWritten (goals own : ℕ) (us : List HeadUsages) (old new : Lis
   pub others : (i : ℕ) → i < own → mergedOf goals i new ≡ mergedOf goals i old
   pub graph : graphIn goals new ≡ graphIn goals old
 
--- the frame is f; the frames below, the entries and the merged usages are as they were
-pub record FrameWritten (goals own : ℕ) (f : Frame) (old new : List ℕ) : Type 0 where
-  pub stack : stackOf goals (own + 1) (graphIn goals new) ≡ f ∷ stackOf goals own (graphIn goals old)
+-- the lowest h frames are s; the entries and the merged usages are as they were
+pub record WorkWritten (goals h : ℕ) (s : Stack) (old new : List ℕ) : Type 0 where
+  pub stack : stackOf goals h (graphIn goals new) ≡ s
   pub entries : (n : ℕ) → entriesOf goals n (graphIn goals new) ≡ entriesOf goals n (graphIn goals old)
   pub merged : (i : ℕ) → i < goals → mergedOf goals i new ≡ mergedOf goals i old
+
+-- the frame is f, and the frames below are as they were
+abbrev pub FrameWritten : ℕ → ℕ → Frame → List ℕ → List ℕ → Type 0
+FrameWritten goals own f old new = WorkWritten goals (own + 1) (f ∷ stackOf goals own (graphIn goals old)) old new

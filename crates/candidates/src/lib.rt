@@ -7,23 +7,24 @@ use layout::offsets;
 use stack::frame::tracked;
 ghost use mathlib.Core.Path.{_≡_};
 ghost use mathlib.Core.Option.{none, some};
-ghost use Prim.Native.Nat.{ℕ, _+_, _<_, _≤_};
+ghost use Prim.Native.Nat.{_+_, _<_, _≤_};
 ghost use Rattle.definition.specs.Usages.{mergeUsages};
 ghost use Rattle.definition.specs.Candidates.{noCandidateUsages, setCandidateUsages, candidateUsagesOf, headsCover, canIgnore, ignoreOnTop};
 ghost use Rattle.layout.specs.Blocks.{UsagesBlock, candidateOf};
 ghost use Rattle.layout.specs.Frame.{frameOf};
-ghost use Rattle.layout.specs.Work.{stackOf, entriesOf, mergedOf};
+ghost use Rattle.layout.specs.Work.{stackOf, mergedOf};
 ghost use Rattle.stack.specs.Bytes.{FrameBytes, GraphBytes};
+ghost use Rattle.stack.specs.Written.{StackWritten};
 ghost use Rattle.evaluation.specs.Workspace.{WorkBytes, graphIn};
 ghost use Rattle.layout.specs.AtIndex.{addAt};
 ghost use Rattle.stack.specs.Tracked.{ignoreHeadAt, ignoreHeads, ignoreOwn};
-ghost use Rattle.candidates.specs.Written.{mergedBytes, topBytes, topOf, MergedWritten, FrameWritten};
+ghost use Rattle.candidates.specs.Written.{mergedBytes, topBytes, topOf, MergedWritten, WorkWritten, FrameWritten};
 
 // ---- one candidate
 
 pub fn enter_single_candidate(graph: &mut [u8], goals: usize, own: usize)
     requires { ⌜ GraphBytes goals (now graph) × (own < goals) ⌝ }
-    ensures { λ _. ⌜ (stackOf goals (own + 1) (now (graph .exit)) ≡ setCandidateUsages (some (noCandidateUsages goals)) (stackOf goals (own + 1) (now (graph .entry)))) × ((n : ℕ) → entriesOf goals n (now (graph .exit)) ≡ entriesOf goals n (now (graph .entry))) ⌝ }
+    ensures { λ _. ⌜ StackWritten goals (own + 1) (setCandidateUsages (some (noCandidateUsages goals)) (stackOf goals (own + 1) (now (graph .entry)))) (now (graph .entry)) (now (graph .exit)) ⌝ }
 {
     let start = offsets::frame_start(goals, own);
     let end = start + offsets::frame_size(goals);
@@ -32,7 +33,7 @@ pub fn enter_single_candidate(graph: &mut [u8], goals: usize, own: usize)
 
 pub fn finish_single_candidate(graph: &mut [u8], goals: usize, own: usize)
     requires { ⌜ GraphBytes goals (now graph) × (own < goals) ⌝ }
-    ensures { λ _. ⌜ (stackOf goals (own + 1) (now (graph .exit)) ≡ setCandidateUsages none (stackOf goals (own + 1) (now (graph .entry)))) × ((n : ℕ) → entriesOf goals n (now (graph .exit)) ≡ entriesOf goals n (now (graph .entry))) ⌝ }
+    ensures { λ _. ⌜ StackWritten goals (own + 1) (setCandidateUsages none (stackOf goals (own + 1) (now (graph .entry)))) (now (graph .entry)) (now (graph .exit)) ⌝ }
 {
     let start = offsets::frame_start(goals, own);
     let end = start + offsets::frame_size(goals);
@@ -167,7 +168,7 @@ fn ignore_at_heads(work: &mut [u8], goals: usize, own: usize)
 // The merged usages are ignored.
 pub fn ignore(work: &mut [u8], goals: usize, own: usize)
     requires { ⌜ WorkBytes goals (now work) × (own < goals) ⌝ }
-    ensures { λ _. ⌜ (stackOf goals (own + 1) (graphIn goals (now (work .exit))) ≡ ignoreOnTop (mergedOf goals own (now (work .entry))) (stackOf goals (own + 1) (graphIn goals (now (work .entry))))) × (((n : ℕ) → entriesOf goals n (graphIn goals (now (work .exit))) ≡ entriesOf goals n (graphIn goals (now (work .entry)))) × ((i : ℕ) → i < goals → mergedOf goals i (now (work .exit)) ≡ mergedOf goals i (now (work .entry)))) ⌝ }
+    ensures { λ _. ⌜ WorkWritten goals (own + 1) (ignoreOnTop (mergedOf goals own (now (work .entry))) (stackOf goals (own + 1) (graphIn goals (now (work .entry))))) (now (work .entry)) (now (work .exit)) ⌝ }
 {
     ignore_at_heads(work, goals, own);
     let u = candidate::usages(merged(work, goals, own), goals, own);

@@ -12,7 +12,7 @@ use lib.Seq.{getD-set-same, getD-set-other}
 use lib.Dec.{eqb, lit<}
 use Rattle.definition.specs.Paths.{kindOf}
 use Rattle.definition.specs.Answers.{answerOf}
-use Rattle.definition.specs.Stack.{Frame, withReached, withProvisionalResult, withHeads, withOverflow, withUsages, withCandidateUsages, withNestedGoals}
+use Rattle.definition.specs.Stack.{withReached, withProvisionalResult, withHeads, withOverflow, withUsages, withCandidateUsages, withNestedGoals}
 use Rattle.definition.specs.Graph.{Entry, withEntryHeads}
 use Rattle.buffer.specs.Regions.{region, overwrite}
 use Rattle.buffer.proofs.Regions.{region-before, region-after, region-inside, byte-before, overwrite-one, overwrite-all, length-region}

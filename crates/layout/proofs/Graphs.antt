@@ -1,23 +1,22 @@
 -- A write in one frame, in one entry or in one block of merged usages changes that one only.
 use mathlib.Core.Path.{_≡_, refl, sym, ap, ap₂, _∙_, subst}
 use mathlib.Core.List.{List, [], _∷_, _++_}
-use Prim.Native.Nat.{ℕ, suc, _+_, _*_, _-_, _≤_, _<_}
+use Prim.Native.Nat.{ℕ, suc, _+_, _*_, _≤_, _<_}
 use native.Mathlib.Nat.{zero-add, add-zero, le-trans, le-add-right, mul-le-mul-right}
 use native.Mathlib.Omega.{arith}
 use native.Mathlib.Decide.{decLt}
 use lib.ListN.{length, getD, set, drop}
 use lib.Seq.{drop-set-lt}
-use Rattle.definition.specs.Stack.{Frame}
-use Rattle.definition.specs.Graph.{Entry, withStack, withProvisionalCache}
+use Rattle.definition.specs.Graph.{Entry}
 use Rattle.definition.specs.Query.{workLength}
 use Rattle.buffer.specs.Regions.{region, overwrite}
-use Rattle.buffer.specs.Tables.{listUp, recordAt, table, tableDown}
+use Rattle.buffer.specs.Tables.{listUp, recordAt, tableDown}
 use Rattle.buffer.proofs.Regions.{region-before, region-after}
-use Rattle.buffer.proofs.Tables.{length-up, up-at, up-snoc, length-down, down-at, down-drop, apart, table-below, table-above, table-inside, table-whole, tableDown-below, tableDown-inside, tableDown-push, record-whole, record-other}
+use Rattle.buffer.proofs.Tables.{length-up, up-at, up-snoc, length-down, apart, table-below, table-above, table-whole, tableDown-below, tableDown-push, record-whole, record-other}
 use Rattle.layout.specs.Blocks.{blockSize, candidateOf}
 use Rattle.layout.specs.Frame.{frameSize, frameOf}
 use Rattle.layout.specs.Entry.{entrySize, entryOf}
-use Rattle.layout.specs.Work.{frameStart, entriesStart, entryStart, graphLength, mergedStart, stackOf, entriesOf, mergedOf, graphOf}
+use Rattle.layout.specs.Work.{frameStart, entriesStart, entryStart, graphLength, mergedStart, stackOf, entriesOf, mergedOf}
 
 -- ---- a table that starts at 0, the last record first
 module _ {A : Type 0} (dec : List ℕ → A) (size : ℕ) where
@@ -27,12 +26,6 @@ module _ {A : Type 0} (dec : List ℕ → A) (size : ℕ) where
   module _ (bs : List ℕ) (i : ℕ) (room : i * size + size ≤ length bs) where
     room-zero : 0 + i * size + size ≤ length bs
     room-zero = omega arith
-
-    down-inside : (k : ℕ) (ys : List ℕ) → k + length ys ≤ size → (h : ℕ) → i < h
-        → tableDown dec size 0 h (overwrite bs (i * size + k) ys) ≡ set (tableDown dec size 0 h bs) (h - suc i) (dec (overwrite (region (i * size) size bs) k ys))
-    down-inside k ys inner h lt =
-        subst (λ (x : ℕ). tableDown dec size 0 h (overwrite bs (x + k) ys) ≡ set (tableDown dec size 0 h bs) (h - suc i) (dec (overwrite (region x size bs) k ys))) (zero-add (i * size))
-        (tableDown-inside dec size 0 bs i k ys inner room-zero h lt)
 
     down-push : (ys : List ℕ) → length ys ≡ size → tableDown dec size 0 (suc i) (overwrite bs (i * size) ys) ≡ dec ys ∷ tableDown dec size 0 i bs
     down-push ys e =
@@ -64,16 +57,6 @@ module _ (goals : ℕ) where
   pub stack-unfold : (i : ℕ) (bs : List ℕ) → stackOf goals (suc i) bs ≡ frameOf goals (region (frameStart goals i) (frameSize goals) bs) ∷ stackOf goals i bs
   unfolding stackOf
   stack-unfold i bs = down-unfold (frameOf goals) (frameSize goals) i bs
-
-  pub stack-at : (d : Frame) (h i : ℕ) (bs : List ℕ) → i < h → getD (stackOf goals h bs) (h - suc i) d ≡ frameOf goals (region (frameStart goals i) (frameSize goals) bs)
-  unfolding stackOf
-  stack-at d h i bs lt =
-      down-at d (recordAt (frameOf goals) (frameSize goals) 0 bs) h i lt ∙ ap (λ (x : ℕ). frameOf goals (region x (frameSize goals) bs)) (zero-add (frameStart goals i))
-
-  -- the lower frames
-  pub stack-drop : (k h : ℕ) (bs : List ℕ) → drop k (stackOf goals (k + h) bs) ≡ stackOf goals h bs
-  unfolding stackOf
-  stack-drop k h bs = down-drop (recordAt (frameOf goals) (frameSize goals) 0 bs) k h
 
   -- a write above the frames
   pub stack-below : (h : ℕ) (bs : List ℕ) (a : ℕ) (ys : List ℕ) → frameStart goals h ≤ a → a + length ys ≤ length bs → stackOf goals h (overwrite bs a ys) ≡ stackOf goals h bs
@@ -119,21 +102,6 @@ module _ (goals : ℕ) where
     pub entry-room : (k : ℕ) → k < 2 * goals → entryStart goals k + entrySize goals ≤ length bs
     entry-room k lt = room-of (entrySize goals) (entriesStart goals) (2 * goals) k lt (at-least long)
 
-    -- ---- a write in frame i, k bytes into it
-    module _ (i k : ℕ) (ys : List ℕ) (lt : i < goals) (inner : k + length ys ≤ frameSize goals) where
-      pub stack-inside : (h : ℕ) → i < h
-          → stackOf goals h (overwrite bs (frameStart goals i + k) ys) ≡ set (stackOf goals h bs) (h - suc i) (frameOf goals (overwrite (region (frameStart goals i) (frameSize goals) bs) k ys))
-      unfolding stackOf
-      stack-inside h under = down-inside (frameOf goals) (frameSize goals) bs i (frame-room i lt) k ys inner h under
-
-      pub stack-under : stackOf goals i (overwrite bs (frameStart goals i + k) ys) ≡ stackOf goals i bs
-      stack-under = stack-below i bs (frameStart goals i + k) ys (le-add-right (frameStart goals i) k) (into-fits (frameStart goals i) k (length ys) inner (frame-room i lt))
-
-      pub entries-frame : (n : ℕ) → entriesOf goals n (overwrite bs (frameStart goals i + k) ys) ≡ entriesOf goals n bs
-      entries-frame n =
-          let below : frameStart goals i + k + length ys ≤ entriesStart goals = into-fits (frameStart goals i) k (length ys) inner (apart i goals (frameSize goals) lt) in
-          entries-above n bs (frameStart goals i + k) ys below (le-trans below frames-end)
-
     -- ---- a write of frame i
     module _ (i : ℕ) (ys : List ℕ) (lt : i < goals) (whole : length ys ≡ frameSize goals) where
       -- the top
@@ -150,11 +118,6 @@ module _ (goals : ℕ) where
     module _ (k j : ℕ) (ys : List ℕ) (lt : k < 2 * goals) (inner : j + length ys ≤ entrySize goals) where
       pub fits-entry : entryStart goals k + j + length ys ≤ length bs
       fits-entry = into-fits (entryStart goals k) j (length ys) inner (entry-room k lt)
-
-      pub entries-inside : (n : ℕ) → k < n
-          → entriesOf goals n (overwrite bs (entryStart goals k + j) ys) ≡ set (entriesOf goals n bs) k (entryOf goals (overwrite (region (entryStart goals k) (entrySize goals) bs) j ys))
-      unfolding entriesOf
-      entries-inside n under = table-inside (entryOf goals) (entrySize goals) (entriesStart goals) bs k j ys inner (entry-room k lt) n under
 
       pub entries-under : (n : ℕ) → n ≤ k → entriesOf goals n (overwrite bs (entryStart goals k + j) ys) ≡ entriesOf goals n bs
       entries-under n le = entries-below n bs (entryStart goals k + j) ys (add-both (entriesStart goals) j (mul-le-mul-right (entrySize goals) le)) fits-entry
@@ -196,32 +159,6 @@ module _ (goals : ℕ) where
 
       pub stack-entry-whole : (h : ℕ) → h ≤ goals → stackOf goals h (overwrite bs (entryStart goals k) ys) ≡ stackOf goals h bs
       stack-entry-whole h le = stack-below h bs (entryStart goals k) ys (le-trans (mul-le-mul-right (frameSize goals) le) (le-add-right (entriesStart goals) (k * entrySize goals))) fits-whole
-
--- ---- the graph
-module _ (goals root : ℕ) (bs cache : List ℕ) (long : length bs ≡ graphLength goals) where
-  -- the top frame is written
-  pub graph-top : (i n : ℕ) (ys : List ℕ) → i < goals → length ys ≡ frameSize goals
-      → graphOf goals root (suc i) n (overwrite bs (frameStart goals i) ys) cache ≡ withStack (graphOf goals root i n bs cache) (frameOf goals ys ∷ stackOf goals i bs)
-  graph-top i n ys lt whole =
-      let es = stack-push goals bs long i ys lt whole in
-      let ee = entries-push goals bs long i ys lt whole n in
-      λ t. record { rootDepth = root; stack = es t; provisionalCache = ee t; globalCache = cache }
-
-  -- entry k is written
-  pub graph-entry : (h n k : ℕ) (ys : List ℕ) → h ≤ goals → k < n → n ≤ 2 * goals → length ys ≡ entrySize goals
-      → graphOf goals root h n (overwrite bs (entryStart goals k) ys) cache ≡ withProvisionalCache (graphOf goals root h n bs cache) (set (entriesOf goals n bs) k (entryOf goals ys))
-  graph-entry h n k ys le lt few whole =
-      let es = stack-entry-whole goals bs long k ys (omega arith) whole h le in
-      let ee = entries-whole goals bs long k ys (omega arith) whole n lt in
-      λ t. record { rootDepth = root; stack = es t; provisionalCache = ee t; globalCache = cache }
-
-  -- one entry more
-  pub graph-append : (h k : ℕ) (ys : List ℕ) → h ≤ goals → k < 2 * goals → length ys ≡ entrySize goals
-      → graphOf goals root h (suc k) (overwrite bs (entryStart goals k) ys) cache ≡ withProvisionalCache (graphOf goals root h k bs cache) (entriesOf goals k bs ++ (entryOf goals ys ∷ []))
-  graph-append h k ys le lt whole =
-      let es = stack-entry-whole goals bs long k ys lt whole h le in
-      let ee = entries-push-back goals bs long k ys lt whole in
-      λ t. record { rootDepth = root; stack = es t; provisionalCache = ee t; globalCache = cache }
 
 -- ---- the workspace: the graph, then the merged usages
 pub work-length : (goals : ℕ) → workLength goals ≡ graphLength goals + goals * blockSize goals

@@ -1,6 +1,6 @@
 // Where frames, entries and merged usages start, and how long they are.
 ghost use mathlib.Core.Path.{_≡_};
-ghost use Prim.Native.Nat.{_+_, _*_, _≤_};
+ghost use Prim.Native.Nat.{_*_, _≤_};
 ghost use Rattle.definition.specs.Query.{workLength};
 ghost use Rattle.layout.specs.Blocks.{headsSize, blockSize};
 ghost use Rattle.layout.specs.Frame.{candidateStart, nestedStart, frameSize};

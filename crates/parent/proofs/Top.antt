@@ -1,37 +1,12 @@
 -- A graph whose top frame is written, once and again.
-use mathlib.Core.Path.{_≡_, refl, sym, ap, ap₂, _∙_, subst}
-use mathlib.Core.List.{List, [], _∷_}
-use Prim.Native.Nat.{ℕ, suc, _+_, _*_, _-_, _≤_, _<_}
-use native.Mathlib.Omega.{arith}
-use lib.ListN.{length}
+use mathlib.Core.Path.{_≡_, refl, ap, _∙_}
+use mathlib.Core.List.{List, _∷_}
+use Prim.Native.Nat.{ℕ}
 use Rattle.definition.specs.Stack.{Frame, Stack}
-use Rattle.buffer.specs.Regions.{region, overwrite}
-use Rattle.buffer.proofs.Regions.{region-after}
-use Rattle.layout.specs.Frame.{frameSize, frameOf}
-use Rattle.layout.specs.Work.{frameStart, stackOf, entriesOf}
-use Rattle.stack.specs.Bytes.{GraphBytes, frameBytes, frameAt}
-use Rattle.stack.proofs.Parts.{part, returned, part-length, part-back}
+use Rattle.layout.specs.Work.{stackOf}
+use Rattle.stack.specs.Bytes.{frameAt}
 use Rattle.stack.proofs.Loops.{stack-top, top-is, under-is}
-use Rattle.stack.proofs.Graph.{part-room, part-is, stack-written, entries-written}
-use Rattle.parent.specs.Top.{TopWritten}
-
--- the frame is lent and comes back as `make` makes it
-module _ (goals : ℕ) (bs : List ℕ) (i a n : ℕ) (g : GraphBytes goals bs) (lt : i < goals) (is-a : a ≡ frameStart goals i) (is-n : n ≡ frameSize goals) (ys : List ℕ) (kept : length ys ≡ length (part bs a (a + n))) where
-  pub top-written : (make : Frame → Frame) → frameOf goals ys ≡ make (frameOf goals (part bs a (a + n))) → TopWritten goals i (make (frameAt goals i bs)) bs (returned bs a (a + n) ys)
-  top-written make e =
-      let room : a + n ≤ length bs = part-room goals bs i a n g lt is-a is-n in
-      let len = part-length bs a (a + n) ys (omega arith) room kept in
-      let fits : a + length ys ≤ length bs = omega arith in
-      let is : frameOf goals ys ≡ make (frameAt goals i bs) = e ∙ ap (λ (l : List ℕ). make (frameOf goals l)) (part-is goals bs i a n g lt is-a is-n) in
-      let ends : frameStart goals i + frameSize goals ≡ a + length ys = ap₂ (λ (x y : ℕ). x + y) (sym is-a) (sym is-n) ∙ same a n (length ys) len in
-      record {
-        stack = stack-written goals bs i a n g lt is-a is-n ys kept (make (frameAt goals i bs)) is;
-        entries = entries-written goals bs i a n g lt is-a is-n ys kept;
-        above = λ b m h. ap (region b m) (part-back bs a (a + n) ys (omega arith) room kept) ∙ region-after bs a ys fits b m (subst (λ (x : ℕ). x ≤ b) ends h);
-      }
-    where
-      same : (x y z : ℕ) → z ≡ x + y - x → x + y ≡ x + z
-      same x y z e = omega arith
+use Rattle.stack.specs.Written.{TopWritten}
 
 module _ (goals own : ℕ) (f : Frame) (bs mid : List ℕ) (w : TopWritten goals own f bs mid) where
   -- the frame that was written

@@ -2,11 +2,11 @@
 use mathlib.Core.Path.{_≡_, refl, sym, ap, ap₂, _∙_, subst}
 use mathlib.Core.Bool.{Bool, false}
 use mathlib.Core.Option.{Option, none, some}
-use mathlib.Core.List.{List, [], _∷_, _++_}
-use Prim.Native.Nat.{ℕ, zero, suc, _+_, _*_, _-_, _^_, _≤_, _<_}
+use mathlib.Core.List.{List, _∷_, _++_}
+use Prim.Native.Nat.{ℕ, _+_, _*_, _-_, _^_, _≤_, _<_}
 use native.Mathlib.Omega.{arith}
 use native.Mathlib.Decide.{ℕ-discrete}
-use lib.ListN.{length, getD, set, take, drop, replicate, length-replicate}
+use lib.ListN.{length, getD, set, replicate, length-replicate}
 use lib.Seq.{getD-set-same, getD-set-other}
 use Rattle.definition.specs.declared.paths.PathKind.{PathKind}
 use Rattle.definition.specs.declared.usages.HeadUsages.{HeadUsages}
@@ -14,26 +14,27 @@ use Rattle.definition.specs.declared.heads.CycleHead.{CycleHead}
 use Rattle.definition.specs.Heads.{CycleHeads, noHeads, insertHead, joinHead}
 use Rattle.definition.specs.Stack.{Frame, Stack}
 use Rattle.definition.specs.Paths.{flagOf}
-use Rattle.definition.specs.Parent.{UpdateParentGoalCtxt, Ordinary, CycleOnStack, ProvisionalCacheHit, addHeads, addRest, updateParentGoal}
+use Rattle.definition.specs.Parent.{UpdateParentGoalCtxt, CycleOnStack, ProvisionalCacheHit, addHeads, addRest, updateParentGoal}
 use Rattle.bits.specs.Masks.{flags, firstPlace, placeOr}
 use Rattle.bits.proofs.Marks.{only, set-only}
-use Rattle.buffer.specs.Regions.{region, overwrite}
+use Rattle.buffer.specs.Regions.{region}
 use Rattle.buffer.proofs.Regions.{region-region}
 use Rattle.buffer.proofs.Tables.{apart}
 use Rattle.layout.specs.Blocks.{headsSize, headOf, headsOf, present}
 use Rattle.layout.specs.Frame.{frameSize, frameOf}
-use Rattle.layout.specs.Entry.{entryHeadsStart, entrySize, entryOf}
-use Rattle.layout.specs.Work.{frameStart, entriesStart, entryStart, graphLength, stackOf, entriesOf}
+use Rattle.layout.specs.Entry.{entrySize, entryOf}
+use Rattle.layout.specs.Work.{frameStart, entriesStart, entryStart, graphLength, stackOf}
 use Rattle.layout.proofs.Frames.{length-heads}
 use Rattle.layout.proofs.Graphs.{length-stack, entry-room, frame-room}
 use Rattle.layout.proofs.Marks.{keep, Within}
 use Rattle.layout.proofs.Marks as marks
 use Rattle.layout.proofs.Present.{head-known}
-use Rattle.stack.specs.Bytes.{frameBytes, frameAt}
+use Rattle.stack.specs.Bytes.{frameAt}
 use Rattle.stack.proofs.Parts.{part}
 use Rattle.stack.proofs.Loops.{top, none-left}
 use Rattle.stack.specs.Child.{addHeadAt}
-use Rattle.parent.specs.Top.{TopWritten}
+use Rattle.stack.specs.Written.{TopWritten}
+use Rattle.parent.specs.Updated.{Updated}
 use Rattle.parent.proofs.Heads.{one-head, no-head}
 use Rattle.parent.proofs.Top.{top-frame, top-again, top-same, top-kept}
 
@@ -72,11 +73,17 @@ pub loop-last : (step : PathKind) (own left : ℕ) (cs : CycleHeads) (f whole : 
 loop-last step own left cs f whole h rest = sym (no-head step own (keep (flags 64 left) cs) f (marks.end-none cs left h)) ∙ rest
 
 -- ---- the stack
-module _ (goals height : ℕ) (bs : List ℕ) (step : PathKind) (hs : CycleHeads) (o : Bool) (ctxt : UpdateParentGoalCtxt) (r : ℕ) where
-  pub update-none : height ≡ 0 → stackOf goals height bs ≡ updateParentGoal (stackOf goals height bs) step hs o ctxt r
-  update-none z = let e = none-left goals bs height (omega arith) in e ∙ sym (ap (λ (s : Stack). updateParentGoal s step hs o ctxt r) e)
+-- the frame below the one at `height`
+pub below-ends : (goals height : ℕ) → 0 < height → frameStart goals (height - 1) + frameSize goals ≤ frameStart goals height
+below-ends goals height pos = apart (height - 1) height (frameSize goals) (omega arith)
 
-  pub update-top : (out : List ℕ) → 0 < height → TopWritten goals (height - 1) (addRest step o ctxt r (addHeads step (height - 1) hs (frameAt goals (height - 1) bs))) bs out
+module _ (goals height : ℕ) (bs : List ℕ) (step : PathKind) (hs : CycleHeads) (o : Bool) (ctxt : UpdateParentGoalCtxt) (r : ℕ) where
+  pub update-none : height ≡ 0 → Updated goals height step hs o ctxt r bs bs
+  update-none z =
+      let e = none-left goals bs height (omega arith) in
+      record { stack = e ∙ sym (ap (λ (s : Stack). updateParentGoal s step hs o ctxt r) e); entries = λ n. refl; above = refl }
+
+  update-top : (out : List ℕ) → 0 < height → TopWritten goals (height - 1) (addRest step o ctxt r (addHeads step (height - 1) hs (frameAt goals (height - 1) bs))) bs out
       → stackOf goals height out ≡ updateParentGoal (stackOf goals height bs) step hs o ctxt r
   update-top out pos w =
       let e : height ≡ height - 1 + 1 = omega arith in
@@ -87,18 +94,22 @@ module _ (goals height : ℕ) (bs : List ℕ) (step : PathKind) (hs : CycleHeads
   -- the heads, then the rest
   pub update-both : (mid out : List ℕ) → 0 < height → TopWritten goals (height - 1) (addHeads step (height - 1) hs (frameAt goals (height - 1) bs)) bs mid
       → TopWritten goals (height - 1) (addRest step o ctxt r (frameAt goals (height - 1) mid)) mid out
-      → (stackOf goals height out ≡ updateParentGoal (stackOf goals height bs) step hs o ctxt r) × ((n : ℕ) → entriesOf goals n out ≡ entriesOf goals n bs)
+      → Updated goals height step hs o ctxt r bs out
   update-both mid out pos w v =
       let f : Frame = addHeads step (height - 1) hs (frameAt goals (height - 1) bs) in
       let g : Frame = addRest step o ctxt r (frameAt goals (height - 1) mid) in
       let a = top-again goals (height - 1) f bs mid w g out v in
       let e : g ≡ addRest step o ctxt r f = ap (addRest step o ctxt r) (top-frame goals (height - 1) f bs mid w) in
-      (update-top out pos (top-same goals (height - 1) g bs out a (addRest step o ctxt r f) e), a .entries)
+      record {
+        stack = update-top out pos (top-same goals (height - 1) g bs out a (addRest step o ctxt r f) e);
+        entries = a .entries;
+        above = a .above (frameStart goals height) (frameSize goals) (below-ends goals height pos);
+      }
 
 -- ---- no head: a slot
 pub update-slot : (goals height : ℕ) (bs out : List ℕ) (step : PathKind) (o : Bool) (ctxt : UpdateParentGoalCtxt) (r : ℕ) → 0 < height
     → TopWritten goals (height - 1) (addRest step o ctxt r (frameAt goals (height - 1) bs)) bs out
-    → (stackOf goals height out ≡ updateParentGoal (stackOf goals height bs) step (noHeads goals) o ctxt r) × ((n : ℕ) → entriesOf goals n out ≡ entriesOf goals n bs)
+    → Updated goals height step (noHeads goals) o ctxt r bs out
 update-slot goals height bs out step o ctxt r pos v =
     let f : Frame = frameAt goals (height - 1) bs in
     update-both goals height bs step (noHeads goals) o ctxt r bs out pos
@@ -144,7 +155,7 @@ entry-fits goals bs i start long lt e =
 pub update-entry : (goals height i start : ℕ) (bs mid out : List ℕ) (step : PathKind) (o : Bool) (r : ℕ) → 0 < height → start ≡ entryStart goals i + 8
     → TopWritten goals (height - 1) (addHeads step (height - 1) (headsOf goals (region start (headsSize goals) bs)) (frameAt goals (height - 1) bs)) bs mid
     → TopWritten goals (height - 1) (addRest step o ProvisionalCacheHit r (frameAt goals (height - 1) mid)) mid out
-    → (stackOf goals height out ≡ updateParentGoal (stackOf goals height bs) step ((entryOf goals (region (entryStart goals i) (entrySize goals) bs)) .heads) o ProvisionalCacheHit r) × ((n : ℕ) → entriesOf goals n out ≡ entriesOf goals n bs)
+    → Updated goals height step ((entryOf goals (region (entryStart goals i) (entrySize goals) bs)) .heads) o ProvisionalCacheHit r bs out
 update-entry goals height i start bs mid out step o r pos e w v =
     let f : Frame = frameAt goals (height - 1) bs in
     let hs : CycleHeads = (entryOf goals (region (entryStart goals i) (entrySize goals) bs)) .heads in
@@ -156,7 +167,7 @@ update-entry goals height i start bs mid out step o r pos e w v =
 pub update-cycle : (goals height head goal p : ℕ) (bs mid out : List ℕ) (step : PathKind) (u : HeadUsages) (r : ℕ) → head < height → height ≤ goals → p ≡ flagOf step
     → TopWritten goals (height - 1) (addHeadAt step (height - 1) head (record { paths = p; usages = u }) (frameAt goals (height - 1) bs)) bs mid
     → TopWritten goals (height - 1) (addRest step false (CycleOnStack goal) r (frameAt goals (height - 1) mid)) mid out
-    → (stackOf goals height out ≡ updateParentGoal (stackOf goals height bs) step (insertHead (noHeads goals) head (flagOf step) u) false (CycleOnStack goal) r) × ((n : ℕ) → entriesOf goals n out ≡ entriesOf goals n bs)
+    → Updated goals height step (insertHead (noHeads goals) head (flagOf step) u) false (CycleOnStack goal) r bs out
 update-cycle goals height head goal p bs mid out step u r lt le e w v =
     let f : Frame = frameAt goals (height - 1) bs in
     let c : CycleHead = record { paths = p; usages = u } in
@@ -170,10 +181,6 @@ update-cycle goals height head goal p bs mid out step u r lt le e w v =
 pub frame-heads-at : (goals : ℕ) (bs : List ℕ) (i : ℕ) → headsOf goals (region (frameStart goals i + 40) (headsSize goals) bs) ≡ (frameAt goals i bs) .heads
 unfolding frameOf
 frame-heads-at goals bs i = sym (ap (headsOf goals) (region-region (frameStart goals i) (frameSize goals) 40 (headsSize goals) bs (omega arith)))
-
--- the frame below the one at `height`
-pub below-ends : (goals height : ℕ) → 0 < height → frameStart goals (height - 1) + frameSize goals ≤ frameStart goals height
-below-ends goals height pos = apart (height - 1) height (frameSize goals) (omega arith)
 
 further : (x y : ℕ) → x ≤ y → x ≤ y + 40
 further x y h = omega arith
@@ -191,16 +198,11 @@ frame-fits goals bs height start long lt e =
 pub update-frame : (goals height start : ℕ) (bs mid out : List ℕ) (step : PathKind) (o : Bool) (ctxt : UpdateParentGoalCtxt) (r : ℕ) → 0 < height → start ≡ frameStart goals height + 40
     → TopWritten goals (height - 1) (addHeads step (height - 1) (headsOf goals (region start (headsSize goals) bs)) (frameAt goals (height - 1) bs)) bs mid
     → TopWritten goals (height - 1) (addRest step o ctxt r (frameAt goals (height - 1) mid)) mid out
-    → (stackOf goals height out ≡ updateParentGoal (stackOf goals height bs) step ((frameAt goals height bs) .heads) o ctxt r)
-    × (((n : ℕ) → entriesOf goals n out ≡ entriesOf goals n bs)
-    × (frameBytes goals height out ≡ frameBytes goals height bs))
+    → Updated goals height step ((frameAt goals height bs) .heads) o ctxt r bs out
 update-frame goals height start bs mid out step o ctxt r pos e w v =
     let f : Frame = frameAt goals (height - 1) bs in
     let hs : CycleHeads = (frameAt goals height bs) .heads in
     let was : CycleHeads = headsOf goals (region start (headsSize goals) bs) in
     let same : was ≡ hs = ap (λ (k : ℕ). headsOf goals (region k (headsSize goals) bs)) e ∙ frame-heads-at goals bs height in
-    let up = below-ends goals height pos in
-    let both =
     update-both goals height bs step hs o ctxt r mid out pos
-    (top-same goals (height - 1) (addHeads step (height - 1) was f) bs mid w (addHeads step (height - 1) hs f) (ap (λ (l : CycleHeads). addHeads step (height - 1) l f) same)) v in
-    (both .0, (both .1, v .above (frameStart goals height) (frameSize goals) up ∙ w .above (frameStart goals height) (frameSize goals) up))
+    (top-same goals (height - 1) (addHeads step (height - 1) was f) bs mid w (addHeads step (height - 1) hs f) (ap (λ (l : CycleHeads). addHeads step (height - 1) l f) same)) v

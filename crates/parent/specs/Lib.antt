@@ -1,1 +1,1 @@
-pub mod Top
+pub mod Updated

@@ -6,21 +6,21 @@ use definition::usages::HeadUsages;
 use layout::heads;
 use layout::offsets;
 use stack::frame::child;
-ghost use mathlib.Core.Path.{_≡_};
 ghost use mathlib.Core.Bool.{false};
-ghost use Prim.Native.Nat.{ℕ, _+_, _*_, _<_, _≤_};
+ghost use Prim.Native.Nat.{_+_, _*_, _<_, _≤_};
 ghost use lib.ListN.{length};
 ghost use Rattle.definition.specs.Paths.{flagOf};
 ghost use Rattle.definition.specs.Heads.{noHeads, insertHead};
-ghost use Rattle.definition.specs.Parent.{addHeads, addRest, updateParentGoal, Ordinary, CycleOnStack, ProvisionalCacheHit};
+ghost use Rattle.definition.specs.Parent.{addHeads, addRest, Ordinary, CycleOnStack, ProvisionalCacheHit};
 ghost use Rattle.buffer.specs.Regions.{region};
 ghost use Rattle.layout.specs.Blocks.{headsSize, headsOf};
 ghost use Rattle.layout.specs.Frame.{frameSize};
 ghost use Rattle.layout.specs.Entry.{entrySize, entryOf};
-ghost use Rattle.layout.specs.Work.{frameStart, entryStart, stackOf, entriesOf};
-ghost use Rattle.stack.specs.Bytes.{GraphBytes, frameBytes, frameAt};
+ghost use Rattle.layout.specs.Work.{frameStart, entryStart};
+ghost use Rattle.stack.specs.Bytes.{GraphBytes, frameAt};
 ghost use Rattle.stack.specs.Child.{addHeadAt};
-ghost use Rattle.parent.specs.Top.{TopWritten};
+ghost use Rattle.stack.specs.Written.{TopWritten};
+ghost use Rattle.parent.specs.Updated.{Updated};
 
 // ---- the frame at index `own`, on top
 
@@ -121,7 +121,7 @@ pub fn update_from_slot(
     reached: usize,
 )
     requires { ⌜ GraphBytes goals (now graph) × (height ≤ goals) ⌝ }
-    ensures { λ _. ⌜ (stackOf goals height (now (graph .exit)) ≡ updateParentGoal (stackOf goals height (now (graph .entry))) step (noHeads goals) overflow (Ordinary (now (nested .entry))) reached) × ((n : ℕ) → entriesOf goals n (now (graph .exit)) ≡ entriesOf goals n (now (graph .entry))) ⌝ }
+    ensures { λ _. ⌜ Updated goals height step (noHeads goals) overflow (Ordinary (now (nested .entry))) reached (now (graph .entry)) (now (graph .exit)) ⌝ }
 {
     if height == 0 {
         return;
@@ -140,7 +140,7 @@ pub fn update_from_entry(
     reached: usize,
 )
     requires { ⌜ GraphBytes goals (now graph) × ((height ≤ goals) × (i < 2 * goals)) ⌝ }
-    ensures { λ _. ⌜ (stackOf goals height (now (graph .exit)) ≡ updateParentGoal (stackOf goals height (now (graph .entry))) step ((entryOf goals (region (entryStart goals i) (entrySize goals) (now (graph .entry)))) .heads) overflow ProvisionalCacheHit reached) × ((n : ℕ) → entriesOf goals n (now (graph .exit)) ≡ entriesOf goals n (now (graph .entry))) ⌝ }
+    ensures { λ _. ⌜ Updated goals height step ((entryOf goals (region (entryStart goals i) (entrySize goals) (now (graph .entry)))) .heads) overflow ProvisionalCacheHit reached (now (graph .entry)) (now (graph .exit)) ⌝ }
 {
     if height == 0 {
         return;
@@ -162,7 +162,7 @@ pub fn update_from_cycle(
     reached: usize,
 )
     requires { ⌜ GraphBytes goals (now graph) × ((height ≤ goals) × (head < height)) ⌝ }
-    ensures { λ _. ⌜ (stackOf goals height (now (graph .exit)) ≡ updateParentGoal (stackOf goals height (now (graph .entry))) step (insertHead (noHeads goals) head (flagOf step) usages) false (CycleOnStack goal) reached) × ((n : ℕ) → entriesOf goals n (now (graph .exit)) ≡ entriesOf goals n (now (graph .entry))) ⌝ }
+    ensures { λ _. ⌜ Updated goals height step (insertHead (noHeads goals) head (flagOf step) usages) false (CycleOnStack goal) reached (now (graph .entry)) (now (graph .exit)) ⌝ }
 {
     if height == 0 {
         return;
@@ -187,7 +187,7 @@ pub fn update_from_frame(
     reached: usize,
 )
     requires { ⌜ GraphBytes goals (now graph) × (height < goals) ⌝ }
-    ensures { λ _. ⌜ (stackOf goals height (now (graph .exit)) ≡ updateParentGoal (stackOf goals height (now (graph .entry))) step ((frameAt goals height (now (graph .entry))) .heads) overflow (Ordinary (now (child .entry))) reached) × (((n : ℕ) → entriesOf goals n (now (graph .exit)) ≡ entriesOf goals n (now (graph .entry))) × (frameBytes goals height (now (graph .exit)) ≡ frameBytes goals height (now (graph .entry)))) ⌝ }
+    ensures { λ _. ⌜ Updated goals height step ((frameAt goals height (now (graph .entry))) .heads) overflow (Ordinary (now (child .entry))) reached (now (graph .entry)) (now (graph .exit)) ⌝ }
 {
     if height == 0 {
         return;

@@ -2,26 +2,25 @@
 use mathlib.Core.Path.{_≡_, refl, sym, ap, ap₂, _∙_}
 use mathlib.Core.Bool.{Bool, true, false, not, _||_, true≢false}
 use mathlib.Core.Option.{Option, none, some}
-use mathlib.Core.List.{List, [], _∷_}
-use Prim.Native.Nat.{ℕ, zero, suc, _+_, _*_, _-_, _≤_, _<_, min}
+use mathlib.Core.List.{List}
+use Prim.Native.Nat.{ℕ, zero, suc, _+_, _-_, _≤_, _<_, min}
 use native.Mathlib.Omega.{arith}
 use borrow.Author.Tests.{lt-ltb, le-ltb, eq-eqb, ne-eqb}
-use lib.Dec.{eqb, ltb}
 use lib.ListN.{length, getD, set, length-set}
 use lib.Seq.{getD-set-other}
 use Rattle.definition.specs.declared.paths.PathKind.{PathKind}
 use Rattle.definition.specs.declared.usages.HeadUsages.{HeadUsages}
 use Rattle.definition.specs.declared.heads.CycleHead.{CycleHead}
-use Rattle.definition.specs.Paths.{extendWith, emptyPath, flagOf, kindOf}
+use Rattle.definition.specs.Paths.{extendWith, emptyPath, flagOf}
 use Rattle.definition.specs.Usages.{addUsagesFromNested}
-use Rattle.definition.specs.Heads.{CycleHeads, insertHead}
+use Rattle.definition.specs.Heads.{insertHead}
 use Rattle.definition.specs.Nested.{NestedGoals, nestedEmpty, insertNested, extendFromChild}
 use Rattle.definition.specs.Stack.{Frame, withReached, withHeads, withOverflow, withUsages, withCandidateUsages, withNestedGoals}
 use Rattle.definition.specs.Parent.{orNoUsages, addRest, Ordinary, CycleOnStack, ProvisionalCacheHit}
 use Rattle.buffer.specs.Regions.{region, overwrite}
 use Rattle.buffer.proofs.Regions.{length-overwrite, region-same}
-use Rattle.layout.specs.Blocks.{usagesSize, usagesOf, headsSize, headsOf, blockSize, candidateOf}
-use Rattle.layout.specs.Frame.{frameReached, frameOverflow, frameTracks, headsStart, candidateStart, nestedStart, frameSize, truth, whenSet, frameOf}
+use Rattle.layout.specs.Blocks.{usagesOf, headsSize, headsOf, blockSize, candidateOf}
+use Rattle.layout.specs.Frame.{frameOverflow, frameTracks, candidateStart, nestedStart, frameSize, truth, whenSet, frameOf}
 use Rattle.layout.proofs.Frames.{frame-reached, frame-overflow, frame-has-usages, frame-usages, frame-heads, frame-candidate, frame-nested}
 use Rattle.stack.specs.Results.{isSome}
 use Rattle.stack.proofs.Parts.{part, returned, part-length, part-back}

@@ -23,9 +23,9 @@ use Rattle.definition.specs.Parent.{markOverflow}
 use Rattle.definition.specs.Task.{rerunFrame}
 use Rattle.definition.specs.Evaluate.{newFrame}
 use Rattle.buffer.specs.Regions.{region, overwrite}
-use Rattle.buffer.proofs.Regions.{length-overwrite, region-same, region-before, region-after, byte-before, byte-in}
+use Rattle.buffer.proofs.Regions.{length-overwrite, region-same, region-before, byte-before, byte-in}
 use Rattle.buffer.proofs.Sized.{sized}
-use Rattle.layout.specs.Blocks.{usagesSize, usagesOf, headsSize, headsOf, blockSize, candidateOf}
+use Rattle.layout.specs.Blocks.{usagesSize, usagesOf, headsSize, headsOf, blockSize}
 use Rattle.layout.specs.Frame.{frameProvisional, frameOverflow, frameIsHead, frameTracks, usagesStart, headsStart, candidateStart, nestedStart, frameSize, resultOf, whenSet, frameOf}
 use Rattle.layout.proofs.Frames.{frame-by, frame-provisional, frame-overflow, frame-has-usages, frame-has-candidate, frame-usages, frame-nested}
 use Rattle.stack.proofs.Parts.{part, returned, part-length, part-back, returned-length}

@@ -16,10 +16,10 @@ use denote.Memory.{cellAt, mem, partOf}
 use denote.Steps.{only}
 use denote.Struct.Steps.{spelt}
 use denote.Struct.Laws as LL
-use Rattle.stack.specs.declared.small.FrameRecord.{FrameRecord}
+use Rattle.stack.specs.declared.frame.fields.FrameRecord.{FrameRecord}
 use Rattle.stack.specs.Records.{overflowed}
-use Rattle.stack.proofs.small.FrameRecord as T
-use Rattle.stack.proofs.small.FrameRecord.Laws as T′
+use Rattle.stack.proofs.frame.fields.FrameRecord as T
+use Rattle.stack.proofs.frame.fields.FrameRecord.Laws as T′
 
 abbrev pub values : FrameRecord → List Val
 values = LL.vals T.the-type T′.the-laws

@@ -7,7 +7,7 @@ use native.Mathlib.Omega.{arith}
 use lib.Dec.{eqb}
 use lib.ListN.{length, getD, set, take, drop, take-append-drop}
 use Rattle.buffer.proofs.Sized.{sized}
-use Rattle.stack.specs.declared.small.FrameRecord.{FrameRecord}
+use Rattle.stack.specs.declared.frame.fields.FrameRecord.{FrameRecord}
 use Rattle.stack.specs.Records.{recordOf, bytesOf, flagByte, overflowed}
 use Rattle.stack.proofs.Parts.{returned}
 use Rattle.stack.proofs.Values.{test-truth}

@@ -2,29 +2,24 @@
 use mathlib.Core.Path.{_≡_, refl, sym, ap, ap₂, _∙_, subst}
 use mathlib.Core.Bool.{Bool, true, false, true≢false, false≢true}
 use mathlib.Core.Option.{Option, none, some}
-use mathlib.Core.List.{List, [], _∷_, _++_}
-use Prim.Native.Nat.{ℕ, zero, suc, _+_, _*_, _-_, _≤_, _<_}
+use mathlib.Core.List.{List}
+use Prim.Native.Nat.{ℕ, zero, suc, _≤_}
 use native.Mathlib.Omega.{arith}
-use lib.ListN.{length, getD, set, take, replicate}
+use lib.ListN.{length, getD, set}
 use Rattle.definition.specs.declared.usages.HeadUsages.{HeadUsages}
-use Rattle.definition.specs.declared.heads.CycleHead.{CycleHead}
-use Rattle.definition.specs.Usages.{noUsages, addUsages, ignoreUsages, usagesCover}
-use Rattle.definition.specs.Heads.{CycleHeads, usagesAt, ignoreAtHead}
+use Rattle.definition.specs.Usages.{noUsages, ignoreUsages, usagesCover}
+use Rattle.definition.specs.Heads.{usagesAt}
 use Rattle.definition.specs.Stack.{Frame, withHeads, withUsages, withCandidateUsages}
 use Rattle.definition.specs.Parent.{orNoUsages}
 use Rattle.definition.specs.Candidates.{noCandidateUsages, ignoreOwnUsages}
-use Rattle.bits.specs.Masks.{flags}
-use Rattle.bits.proofs.Flags.{length-flags, flags-zero}
 use Rattle.bits.proofs.Marks.{only}
-use Rattle.buffer.specs.Numbers.{numberOf}
 use Rattle.buffer.specs.Regions.{region, overwrite}
-use Rattle.buffer.proofs.Regions.{length-region, length-overwrite, region-same}
-use Rattle.layout.specs.Blocks.{usagesSize, usagesOf, flagAt, headOf, headsSize, headsOf, blockSize, usagesIn, candidateOf, HeadsBlock, UsagesBlock, present}
+use Rattle.buffer.proofs.Regions.{length-overwrite, region-same}
+use Rattle.layout.specs.Blocks.{usagesOf, headsSize, headsOf, blockSize, candidateOf}
 use Rattle.layout.specs.Frame.{candidateStart, nestedStart, headsStart, frameSize, whenSet, frameOf}
 use Rattle.layout.specs.AtIndex.{Names, ignoreAt}
 use Rattle.layout.proofs.Kept.{names-no-usages}
 use Rattle.layout.proofs.Frames.{frame-has-candidate, frame-usages, frame-heads, frame-candidate}
-use Rattle.stack.specs.Bytes.{FrameBytes}
 use Rattle.stack.specs.Results.{isSome}
 use Rattle.stack.proofs.Blocks.{head-part}
 use Rattle.stack.proofs.Parts.{part, returned, part-length, part-back}

@@ -3,3 +3,4 @@ pub mod Child
 pub mod Records
 pub mod Results
 pub mod Tracked
+pub mod Written

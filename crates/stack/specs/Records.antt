@@ -1,10 +1,10 @@
--- A frame's small fields: its first eight bytes, and the record that stands for them.
+-- A frame's fields: its first eight bytes, and the record that stands for them.
 use mathlib.Core.Bool.{Bool, true, false}
 use mathlib.Core.List.{List, [], _∷_}
 use Prim.Native.Nat.{ℕ}
 use lib.ListN.{getD}
 use Rattle.layout.specs.Frame.{frameInput, frameStep, frameAvailable, frameReached, frameProvisional, frameOverflow, frameIsHead, frameTracks, truth}
-use Rattle.stack.specs.declared.small.FrameRecord.{FrameRecord}
+use Rattle.stack.specs.declared.frame.fields.FrameRecord.{FrameRecord}
 
 abbrev pub recordOf : List ℕ → FrameRecord
 recordOf bs =

@@ -1,5 +1,4 @@
 // One frame's bytes: `layout::offsets` says where its fields and blocks stand.
-use crate::small;
 use buffer::scalars;
 use definition::answers::Answer;
 use definition::paths::PathKind;
@@ -10,23 +9,21 @@ use layout::offsets;
 use layout::records;
 ghost use mathlib.Core.Path.{_≡_};
 ghost use mathlib.Core.List.{[], _∷_};
-ghost use Prim.Native.Nat.{ℕ, _+_, _<_};
+ghost use Prim.Native.Nat.{ℕ, _<_};
 ghost use lib.ListN.{length};
-ghost use Rattle.definition.specs.declared.format.Header.{Header};
 ghost use Rattle.definition.specs.Paths.{kindNumber};
 ghost use Rattle.definition.specs.Stack.{Stack, requiredDepthOf};
 ghost use Rattle.definition.specs.Parent.{orNoUsages, markOverflow};
 ghost use Rattle.definition.specs.Task.{rerunFrame};
 ghost use Rattle.definition.specs.Evaluate.{newFrame};
-ghost use Rattle.definition.specs.Lookup.{allowedDepthForNested};
 ghost use Rattle.buffer.specs.Regions.{region};
 ghost use Rattle.layout.specs.Blocks.{headsSize};
 ghost use Rattle.layout.specs.Frame.{headsStart, frameOf};
 ghost use Rattle.stack.specs.Bytes.{FrameBytes};
-ghost use Rattle.stack.specs.Results.{isSome, provisionalOf, depthOf};
-ghost use Rattle.stack.specs.declared.frame.Depth.the-variants.{Allowed};
+ghost use Rattle.stack.specs.Results.{isSome, provisionalOf, NestedDepth};
 
 pub mod child;
+mod fields;
 pub mod tracked;
 
 // A frame's provisional result.
@@ -152,7 +149,7 @@ pub fn required_depth(frame: &[u8], goals: usize) -> usize
 // The depth that the frame allows a nested goal; `lower` is LowerAvailableDepth::Yes.
 pub fn nested_depth(frame: &[u8], goals: usize, divisor: usize, lower: bool) -> Depth
     requires { ⌜ FrameBytes goals (now frame) × (0 < divisor) ⌝ }
-    ensures { λ r. ⌜ ((h : Header) (root : ℕ) (fs : Stack) → h .divisor ≡ divisor → depthOf r ≡ allowedDepthForNested h root (frameOf goals (now (frame .entry)) ∷ fs) lower) × ((d : ℕ) → r ≡ Allowed d → d < 256) ⌝ }
+    ensures { λ r. ⌜ ((root : ℕ) (fs : Stack) → NestedDepth root divisor (frameOf goals (now (frame .entry)) ∷ fs) lower r) ⌝ }
 {
     let depth = available(frame, goals);
     if !lower {
@@ -197,8 +194,10 @@ pub fn start(frame: &mut [u8], goals: usize, goal: usize, step: PathKind, availa
     buffer::fill_zero(&mut frame[start..end]);
 }
 
-// Before the next iteration: the provisional result is the last one's; heads and nested
-// goals are kept.
+// Before the next iteration: the provisional result is the last one's. Heads, nested goals
+// and the depth reached are read only when the evaluation ends, so they are kept and grow.
+// Overflow is met anew. Usages start at none, and not absent: provisional entries that name
+// the frame without using its result are still there, and must be rebased at the end.
 pub fn reset(frame: &mut [u8], goals: usize, answer: Answer)
     requires { ⌜ FrameBytes goals (now frame) ⌝ }
     ensures { λ _. ⌜ frameOf goals (now (frame .exit)) ≡ rerunFrame (frameOf goals (now (frame .entry))) answer ⌝ }
@@ -218,7 +217,7 @@ pub fn mark_overflow(frame: &mut [u8], goals: usize)
     requires { ⌜ FrameBytes goals (now frame) ⌝ }
     ensures { λ _. ⌜ frameOf goals (now (frame .exit)) ≡ markOverflow (frameOf goals (now (frame .entry))) ⌝ }
 {
-    small::mark_bytes(&mut frame[0..offsets::FRAME_USAGES]);
+    fields::mark_bytes(&mut frame[0..offsets::FRAME_USAGES]);
     let goal = input(frame, goals);
     let start = offsets::nested_start(goals);
     let end = start + goals;

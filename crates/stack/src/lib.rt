@@ -6,23 +6,18 @@ use frame::Depth;
 use frame::Provisional;
 use layout::offsets;
 ghost use mathlib.Core.Path.{_≡_};
-ghost use mathlib.Core.List.{_∷_};
-ghost use Prim.Native.Nat.{ℕ, _+_, _<_, _≤_};
-ghost use Rattle.definition.specs.declared.format.Header.{Header};
-ghost use Rattle.definition.specs.Stack.{cyclePathKind, stackFind};
+ghost use Prim.Native.Nat.{_<_, _≤_};
+ghost use Rattle.definition.specs.Stack.{cyclePathKind};
 ghost use Rattle.definition.specs.Parent.{handleOverflow};
 ghost use Rattle.definition.specs.Task.{rerunFrame};
 ghost use Rattle.definition.specs.Evaluate.{newFrame};
-ghost use Rattle.definition.specs.Lookup.{allowedDepthForNested, anyOnStack};
-ghost use Rattle.layout.specs.Work.{stackOf, entriesOf};
+ghost use Rattle.definition.specs.Lookup.{anyOnStack};
+ghost use Rattle.layout.specs.Work.{stackOf};
 ghost use Rattle.stack.specs.Bytes.{GraphBytes, frameBytes, frameAt};
-ghost use Rattle.stack.specs.Results.{depthOf, onStackOf};
-ghost use Rattle.stack.specs.declared.frame.Depth.the-variants.{Allowed};
-ghost use Rattle.stack.specs.declared.frame.Provisional.{Provisional};
-ghost use Rattle.stack.specs.declared.OnStack.the-variants.{At};
+ghost use Rattle.stack.specs.Results.{Found, NestedDepth};
+ghost use Rattle.stack.specs.Written.{StackWritten, TopWritten};
 
 pub mod frame;
-mod small;
 
 // What `find` finds: the index of the goal's frame, and its provisional result.
 pub enum OnStack {
@@ -50,7 +45,7 @@ pub fn push(
     available: usize,
 )
     requires { ⌜ GraphBytes goals (now graph) × ((height < goals) × ((goal < 256) × (available < 256))) ⌝ }
-    ensures { λ _. ⌜ (stackOf goals (height + 1) (now (graph .exit)) ≡ newFrame goals goal step available ∷ stackOf goals height (now (graph .entry))) × ((n : ℕ) → entriesOf goals n (now (graph .exit)) ≡ entriesOf goals n (now (graph .entry))) ⌝ }
+    ensures { λ _. ⌜ TopWritten goals height (newFrame goals goal step available) (now (graph .entry)) (now (graph .exit)) ⌝ }
 {
     let start = offsets::frame_start(goals, height);
     let end = start + offsets::frame_size(goals);
@@ -60,7 +55,7 @@ pub fn push(
 // The frame at index `own`, on top again, before its next iteration.
 pub fn reset_for_rerun(graph: &mut [u8], goals: usize, own: usize, answer: Answer)
     requires { ⌜ GraphBytes goals (now graph) × (own < goals) ⌝ }
-    ensures { λ _. ⌜ (stackOf goals (own + 1) (now (graph .exit)) ≡ rerunFrame (frameAt goals own (now (graph .entry))) answer ∷ stackOf goals own (now (graph .entry))) × ((n : ℕ) → entriesOf goals n (now (graph .exit)) ≡ entriesOf goals n (now (graph .entry))) ⌝ }
+    ensures { λ _. ⌜ TopWritten goals own (rerunFrame (frameAt goals own (now (graph .entry))) answer) (now (graph .entry)) (now (graph .exit)) ⌝ }
 {
     let start = offsets::frame_start(goals, own);
     let end = start + offsets::frame_size(goals);
@@ -70,7 +65,7 @@ pub fn reset_for_rerun(graph: &mut [u8], goals: usize, own: usize, answer: Answe
 // handle_overflow: the top frame met overflow.
 pub fn mark_top_overflow(graph: &mut [u8], goals: usize, height: usize)
     requires { ⌜ GraphBytes goals (now graph) × (height ≤ goals) ⌝ }
-    ensures { λ _. ⌜ (stackOf goals height (now (graph .exit)) ≡ handleOverflow (stackOf goals height (now (graph .entry)))) × ((n : ℕ) → entriesOf goals n (now (graph .exit)) ≡ entriesOf goals n (now (graph .entry))) ⌝ }
+    ensures { λ _. ⌜ StackWritten goals height (handleOverflow (stackOf goals height (now (graph .entry)))) (now (graph .entry)) (now (graph .exit)) ⌝ }
 {
     if height == 0 {
         return;
@@ -83,7 +78,7 @@ pub fn mark_top_overflow(graph: &mut [u8], goals: usize, height: usize)
 // Stack::find, from the top on.
 pub fn find(graph: &[u8], goals: usize, height: usize, goal: usize) -> OnStack
     requires { ⌜ GraphBytes goals (now graph) × (height ≤ goals) ⌝ }
-    ensures { λ r. ⌜ (onStackOf r ≡ stackFind (stackOf goals height (now (graph .entry))) goal) × ((i : ℕ) (p : Provisional) → r ≡ At i p → i < height) ⌝ }
+    ensures { λ r. ⌜ Found goals height (now (graph .entry)) goal r ⌝ }
 {
     let mut i = height;
     while 0 < i {
@@ -147,7 +142,7 @@ pub fn allowed_depth_for_nested(
     lower: bool,
 ) -> Depth
     requires { ⌜ GraphBytes goals (now graph) × ((height ≤ goals) × ((0 < divisor) × (root < 256))) ⌝ }
-    ensures { λ r. ⌜ ((h : Header) → h .divisor ≡ divisor → depthOf r ≡ allowedDepthForNested h root (stackOf goals height (now (graph .entry))) lower) × ((d : ℕ) → r ≡ Allowed d → d < 256) ⌝ }
+    ensures { λ r. ⌜ NestedDepth root divisor (stackOf goals height (now (graph .entry))) lower r ⌝ }
 {
     if height == 0 {
         return Depth::Allowed(root);

@@ -23,7 +23,7 @@ same-length-2 : tie.Need-same-length-2
 same-length-2 c = search needs
 
 returns-3 : tie.Need-returns-3
-returns-3 c = let a = c .before .before .before .before .before .before .before .before .before .args in pick-ignored (a .goals) (a .own) (a .entries) (a .combined) (a .work .now) (c .before .before .before .before .before .before .before .before .before .pre .1 .1) (c .before .before .before .before .before .can-ignore .result) (c .before .before .before .before .before .can-ignore .ensures) (c .before .before .ignore .last .0) (c .before .before .ignore .ensures .0) (c .before .before .ignore .ensures .1 .0) (c .before .before .ignore .ensures .1 .1) (a .met) (not-false (a .met) (c .before .before .before .before .before .before .before .if1 .left)) (not-false (c .before .before .before .before .before .can-ignore .result) (c .before .before .before .before .if2 .left))
+returns-3 c = let a = c .before .before .before .before .before .before .before .before .before .args in pick-ignored (a .goals) (a .own) (a .entries) (a .combined) (a .work .now) (c .before .before .before .before .before .before .before .before .before .pre .1 .1) (c .before .before .before .before .before .can-ignore .result) (c .before .before .before .before .before .can-ignore .ensures) (c .before .before .ignore .last .0) (c .before .before .ignore .ensures .stack) (c .before .before .ignore .ensures .entries) (c .before .before .ignore .ensures .merged) (a .met) (not-false (a .met) (c .before .before .before .before .before .before .before .if1 .left)) (not-false (c .before .before .before .before .before .can-ignore .result) (c .before .before .before .before .if2 .left))
 
 pub end-pick-spec : {M : Type 1} → statement M
 end-pick-spec =

@@ -24,7 +24,7 @@ same-length : tie.Need-same-length
 same-length c = search needs
 
 returns : tie.Need-returns
-returns c = let a = c .before .before .before .before .before .before .args in tracked (a .goals) (a .work .now) (c .before .before .before .before .before .before .pre .0) (c .before .before .before .before .graph-length .result) (c .before .before .before .before .graph-length .ensures .0) (c .before .before .finish-single-candidate .last .0) (c .before .before .finish-single-candidate .kept .0) (a .own) none (c .before .before .finish-single-candidate .ensures .0) (c .before .before .finish-single-candidate .ensures .1)
+returns c = let a = c .before .before .before .before .before .before .args in tracked (a .goals) (a .work .now) (c .before .before .before .before .before .before .pre .0) (c .before .before .before .before .graph-length .result) (c .before .before .before .before .graph-length .ensures .0) (c .before .before .finish-single-candidate .last .0) (c .before .before .finish-single-candidate .kept .0) (a .own) none (c .before .before .finish-single-candidate .ensures .stack) (c .before .before .finish-single-candidate .ensures .entries)
 
 pub finish-spec : {M : Type 1} → statement M
 finish-spec =

@@ -17,7 +17,7 @@ close-cycle-requires c κs =
     let s = c .before .before .before .before .before .before .before in
     let p = c .before .before .place in
     let find = c .before .before .before .before .find in
-    (s .pre .0, (s .pre .1, find .ensures .1 (p .given .0 .0) (p .given .0 .1 .0) (p .given .1)))
+    (s .pre .0, (s .pre .1, find .ensures .below (p .given .0 .0) (p .given .0 .1 .0) (p .given .1)))
 
 same-length : tie.Need-same-length
 same-length c = search needs
@@ -33,7 +33,7 @@ returns c =
     record {
       is =
           λ root n cache. cycle-hit (a .h) (a .height) (a .goal) (a .step) (a .available) (a .graph .now) (find .result)
-          (find .ensures .0) root n cache (p .given .0 .0) (p .given .0 .1 .0) (p .given .1)
+          (find .ensures .is) root n cache (p .given .0 .0) (p .given .0 .1 .0) (p .given .1)
           (Done (graphOf (a .h .goals) root (a .height) n (y .last .0) cache) (y .result)) (y .ensures root n cache);
       missed = λ e. hit-something (y .result) e;
     }
@@ -51,7 +51,7 @@ returns-2 c =
     record {
       is =
           λ root n cache. cycle-missed (a .h) (a .height) (a .goal) (a .step) (a .available) (a .graph .now) (find .result)
-          (find .ensures .0) root n cache (c .enum-told .given .1);
+          (find .ensures .is) root n cache (c .enum-told .given .1);
       missed = λ e. refl;
     }
 

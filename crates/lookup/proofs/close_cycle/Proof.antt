@@ -31,9 +31,9 @@ returns c =
     let none = c6 .none in
     let add-usage = c5 .add-usage in
     let cycle-result = c .cycle-result in
-    cycle-closed (a .h) (a .height) (a .graph .now) (y .last .0) (a .step) (a .available) (y .ensures .1) (a .goal) (a .head)
+    cycle-closed (a .h) (a .height) (a .graph .now) (y .last .0) (a .step) (a .available) (y .ensures .entries) (a .goal) (a .head)
     (a .provisional) (cycle-path-kind .result) (none .result) (add-usage .result) (cycle-result .result) (cycle-path-kind .ensures)
-    (none .ensures) (add-usage .ensures) (cycle-result .ensures) (y .ensures .0)
+    (none .ensures) (add-usage .ensures) (cycle-result .ensures) (y .ensures .stack)
 
 pub close-cycle-spec : {M : Type 1} → statement M
 close-cycle-spec =

@@ -20,7 +20,7 @@ lookup-at-depth-requires c κs =
       graph = record { bytes = q .bytes; height = q .height; entries = q .entries };
       cache = q .cache;
       goal = q .goal;
-      available = allowed-depth-for-nested .ensures .1 (p .given .0 .0) (p .given .1);
+      available = allowed-depth-for-nested .ensures .small (p .given .0 .0) (p .given .1);
     }
 
 same-length : tie.Need-same-length
@@ -37,7 +37,7 @@ returns c =
     record {
       is =
           λ compute. depth-allowed (a .h) (a .root) (a .height) (a .entries) (a .goal) (a .step) (a .lower) (a .graph .now)
-          (a .cache .now) (allowed-depth-for-nested .result) (allowed-depth-for-nested .ensures .0 (a .h) refl) compute (p .given .0 .0)
+          (a .cache .now) (allowed-depth-for-nested .result) (allowed-depth-for-nested .ensures .is (a .h) refl) compute (p .given .0 .0)
           (p .given .1)
           ∙ y .ensures .is (a .root) compute;
       low = y .ensures .low;
@@ -63,8 +63,8 @@ returns-2 c =
     record {
       is =
           λ compute. depth-overflow (a .h) (a .root) (a .height) (a .entries) (a .goal) (a .step) (a .lower) (a .graph .now)
-          (a .cache .now) (allowed-depth-for-nested .result) (allowed-depth-for-nested .ensures .0 (a .h) refl) compute
-          (enum-told .given .1) (y .last .0) (y .ensures .0) (y .ensures .1);
+          (a .cache .now) (allowed-depth-for-nested .result) (allowed-depth-for-nested .ensures .is (a .h) refl) compute
+          (enum-told .given .1) (y .last .0) (y .ensures .stack) (y .ensures .entries);
       low = λ d e. known-pushes answer.Overflow d e;
     }
 

@@ -34,8 +34,8 @@ returns c =
     let entry-at = c6 .entry-at in
     let encountered-overflow = c5 .encountered-overflow in
     let result = c4 .result in
-    entry-used (a .goals) (a .height) (a .graph .now) (y .last .0) (a .step) (a .available) (y .ensures .1) (a .i) (entry-at .result .now)
-    (entry-at .ensures) (encountered-overflow .result) (encountered-overflow .ensures) (result .result) (result .ensures) (y .ensures .0)
+    entry-used (a .goals) (a .height) (a .graph .now) (y .last .0) (a .step) (a .available) (y .ensures .entries) (a .i) (entry-at .result .now)
+    (entry-at .ensures) (encountered-overflow .result) (encountered-overflow .ensures) (result .result) (result .ensures) (y .ensures .stack)
 
 pub use-entry-spec : {M : Type 1} → statement M
 use-entry-spec =

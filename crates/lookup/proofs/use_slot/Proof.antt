@@ -31,9 +31,9 @@ returns c =
     let minus = c6 .minus in
     let nested-of = c5 .nested-of in
     let result-of = c .result-of in
-    slot-used (a .h) (a .height) (a .graph .now) (y .last .0) (a .step) (a .available) (y .ensures .1) (a .s .now)
+    slot-used (a .h) (a .height) (a .graph .now) (y .last .0) (a .step) (a .available) (y .ensures .entries) (a .s .now)
     (nested-of .result .now) (a .overflow) (depth-of .result) (minus .result) (result-of .result) (depth-of .ensures) (minus .ensures)
-    (nested-of .ensures) (result-of .ensures) (y .ensures .0)
+    (nested-of .ensures) (result-of .ensures) (y .ensures .stack)
 
 pub use-slot-spec : {M : Type 1} → statement M
 use-slot-spec =

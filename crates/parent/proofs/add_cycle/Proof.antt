@@ -1,6 +1,5 @@
 use Rattle.definition.specs.Stack.{Frame}
-use Rattle.stack.proofs.Graph.{part-room}
-use Rattle.parent.proofs.Top.{top-written}
+use Rattle.stack.proofs.Graph.{part-room, top-written}
 use Rattle.definition.specs.Parent.{addRest, CycleOnStack}
 use mathlib.Core.Bool.{false}
 use borrow.Author.Needs.{needs}

@@ -1,6 +1,5 @@
 use Rattle.definition.specs.Stack.{Frame}
-use Rattle.stack.proofs.Graph.{part-room}
-use Rattle.parent.proofs.Top.{top-written}
+use Rattle.stack.proofs.Graph.{part-room, top-written}
 use Rattle.stack.specs.Child.{addHeadAt}
 use borrow.Author.Needs.{needs}
 use Rattle.parent.proofs.add_head.Statement.{statement}

@@ -13,7 +13,7 @@ use Rattle.layout.proofs.Marks.{keep, Within, start-within}
 use Rattle.stack.specs.Bytes.{frameAt}
 use Rattle.stack.proofs.Parts.{part}
 use Rattle.stack.specs.Child.{addHeadAt}
-use Rattle.parent.specs.Top.{TopWritten}
+use Rattle.stack.specs.Written.{TopWritten}
 use Rattle.parent.proofs.Top.{top-frame, top-again, top-same, top-kept}
 use Rattle.parent.proofs.Update as update
 use borrow.Author.Needs.{needs}
@@ -28,9 +28,6 @@ abbrev μ-loop : tie.MeasureT-loop
 
 small : (c : tie.After-mask Inv-loop μ-loop) → c .mask .result < 2 ^ 64
 small c = search needs
-
-fits-end : (start n size len : ℕ) → n ≡ size → start + size ≤ len → len < 2 ^ 64 → start + n < 2 ^ 64
-fits-end start n size len e h l = omega arith
 
 fits-part : (start n size len : ℕ) → n ≡ size → start + size ≤ len → start + n ≤ len
 fits-part start n size len e h = omega arith

@@ -1,5 +1,4 @@
-use mathlib.Core.Path.{refl, _∙_}
-use Prim.Native.Nat.{_-_}
+use mathlib.Core.Path.{_∙_}
 use native.Mathlib.Omega.{arith}
 use Rattle.definition.specs.Parent.{CycleOnStack}
 use Rattle.definition.specs.Heads.{noHeads, insertHead}
@@ -11,7 +10,7 @@ use Rattle.parent.proofs.update_from_cycle.Statement.{statement}
 use Rattle.parent.proofs.update_from_cycle.Tie as tie
 
 returns : tie.Need-returns
-returns c = let a = c .before .before .args in (update.update-none (a .goals) (a .height) (a .graph .now) (a .step) (insertHead (noHeads (a .goals)) (a .head) (flagOf (a .step)) (a .usages)) false (CycleOnStack (a .goal)) (a .reached) (c .if1 .taken), λ n. refl)
+returns c = let a = c .before .before .args in update.update-none (a .goals) (a .height) (a .graph .now) (a .step) (insertHead (noHeads (a .goals)) (a .head) (flagOf (a .step)) (a .usages)) false (CycleOnStack (a .goal)) (a .reached) (c .if1 .taken)
 
 from-kind-requires : tie.Need-from-kind-requires
 from-kind-requires c κs = search needs

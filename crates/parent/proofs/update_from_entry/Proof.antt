@@ -1,4 +1,4 @@
-use mathlib.Core.Path.{refl, ap, _∙_}
+use mathlib.Core.Path.{ap, _∙_}
 use Prim.Native.Nat.{ℕ, _+_, _-_, _<_}
 use native.Mathlib.Omega.{arith}
 use Rattle.definition.specs.Parent.{ProvisionalCacheHit}
@@ -11,7 +11,7 @@ use Rattle.parent.proofs.update_from_entry.Statement.{statement}
 use Rattle.parent.proofs.update_from_entry.Tie as tie
 
 returns : tie.Need-returns
-returns c = let a = c .before .before .args in (update.update-none (a .goals) (a .height) (a .graph .now) (a .step) ((entryOf (a .goals) (region (entryStart (a .goals) (a .i)) (entrySize (a .goals)) (a .graph .now))) .heads) (a .overflow) ProvisionalCacheHit (a .reached) (c .if1 .taken), λ n. refl)
+returns c = let a = c .before .before .args in update.update-none (a .goals) (a .height) (a .graph .now) (a .step) ((entryOf (a .goals) (region (entryStart (a .goals) (a .i)) (entrySize (a .goals)) (a .graph .now))) .heads) (a .overflow) ProvisionalCacheHit (a .reached) (c .if1 .taken)
 
 entry-start-requires : tie.Need-entry-start-requires
 entry-start-requires c κs = let s = c .before .before in (s .pre .0 .few, omega (arith, s .pre .0 .few))

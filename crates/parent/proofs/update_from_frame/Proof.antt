@@ -1,5 +1,5 @@
-use mathlib.Core.Path.{refl, ap, _∙_}
-use Prim.Native.Nat.{ℕ, _+_, _-_}
+use mathlib.Core.Path.{ap, _∙_}
+use Prim.Native.Nat.{ℕ, _+_}
 use native.Mathlib.Omega.{arith}
 use Rattle.definition.specs.Parent.{Ordinary}
 use Rattle.stack.specs.Bytes.{frameAt}
@@ -9,7 +9,7 @@ use Rattle.parent.proofs.update_from_frame.Statement.{statement}
 use Rattle.parent.proofs.update_from_frame.Tie as tie
 
 returns : tie.Need-returns
-returns c = let a = c .before .before .before .args in (update.update-none (a .goals) (a .height) (a .graph .now) (a .step) ((frameAt (a .goals) (a .height) (a .graph .now)) .heads) (a .overflow) (Ordinary (a .child .now)) (a .reached) (c .if1 .taken), (λ n. refl, refl))
+returns c = let a = c .before .before .before .args in update.update-none (a .goals) (a .height) (a .graph .now) (a .step) ((frameAt (a .goals) (a .height) (a .graph .now)) .heads) (a .overflow) (Ordinary (a .child .now)) (a .reached) (c .if1 .taken)
 
 frame-start-requires : tie.Need-frame-start-requires
 frame-start-requires c κs = let s = c .before .before .before in (s .pre .0 .few, omega (arith, s .pre .0 .few))

@@ -1,5 +1,3 @@
-use mathlib.Core.Path.{refl}
-use Prim.Native.Nat.{_-_}
 use native.Mathlib.Omega.{arith}
 use Rattle.definition.specs.Parent.{Ordinary}
 use Rattle.definition.specs.Heads.{noHeads}
@@ -9,7 +7,7 @@ use Rattle.parent.proofs.update_from_slot.Statement.{statement}
 use Rattle.parent.proofs.update_from_slot.Tie as tie
 
 returns : tie.Need-returns
-returns c = let a = c .before .before .before .args in (update.update-none (a .goals) (a .height) (a .graph .now) (a .step) (noHeads (a .goals)) (a .overflow) (Ordinary (a .nested .now)) (a .reached) (c .if1 .taken), λ n. refl)
+returns c = let a = c .before .before .before .args in update.update-none (a .goals) (a .height) (a .graph .now) (a .step) (noHeads (a .goals)) (a .overflow) (Ordinary (a .nested .now)) (a .reached) (c .if1 .taken)
 
 sub-add-ordinary : tie.Need-sub-add-ordinary
 sub-add-ordinary c = omega arith

@@ -33,11 +33,14 @@ provisional-result-requires : tie.Need-provisional-result-requires Inv-loop μ-l
 provisional-result-requires c κs = let l = c .before .before .before .before in let s = c .before .before .before .before .before .before in (frame-bytes (s .args .goals) (s .args .graph .now) (c .before .before .frame-at .result .now) (l .loop .i - 1) (s .pre .0) (omega arith) (c .before .before .frame-at .ensures))
 
 returns : tie.Need-returns Inv-loop μ-loop
-returns c = let l = c .before .before .before .before .before in let s = c .before .before .before .before .before .before .before in (
-  find-here (s .args .goals) (s .args .graph .now) (s .args .goal) (l .loop .i) (stackFind (stackOf (s .args .goals) (s .args .height) (s .args .graph .now)) (s .args .goal)) (l .loop .inv .1) (c .before .before .before .before .loop-test .taken)
-      (sym (c .before .before .input .ensures .0 ∙ (read-at {A = ℕ} (λ f. f .input) (s .args .goals) (s .args .graph .now) (l .loop .i - 1) (c .before .before .before .frame-at .result .now) (c .before .before .before .frame-at .ensures))) ∙ c .before .if1 .taken) (provisionalOf (c .provisional-result .result)) (c .provisional-result .ensures ∙ (read-at {A = Option Answer} (λ f. f .provisionalResult) (s .args .goals) (s .args .graph .now) (l .loop .i - 1) (c .before .before .before .frame-at .result .now) (c .before .before .before .frame-at .ensures))),
-  λ j p e. at-below (l .loop .i - 1) (c .provisional-result .result) j p (s .args .height) (omega arith) e,
-)
+returns c =
+    let l = c .before .before .before .before .before in
+    let s = c .before .before .before .before .before .before .before in
+    record {
+      is = find-here (s .args .goals) (s .args .graph .now) (s .args .goal) (l .loop .i) (stackFind (stackOf (s .args .goals) (s .args .height) (s .args .graph .now)) (s .args .goal)) (l .loop .inv .1) (c .before .before .before .before .loop-test .taken)
+          (sym (c .before .before .input .ensures .0 ∙ (read-at {A = ℕ} (λ f. f .input) (s .args .goals) (s .args .graph .now) (l .loop .i - 1) (c .before .before .before .frame-at .result .now) (c .before .before .before .frame-at .ensures))) ∙ c .before .if1 .taken) (provisionalOf (c .provisional-result .result)) (c .provisional-result .ensures ∙ (read-at {A = Option Answer} (λ f. f .provisionalResult) (s .args .goals) (s .args .graph .now) (l .loop .i - 1) (c .before .before .before .frame-at .result .now) (c .before .before .before .frame-at .ensures)));
+      below = λ j p e. at-below (l .loop .i - 1) (c .provisional-result .result) j p (s .args .height) (omega arith) e;
+    }
 
 loop-less : tie.Need-loop-less Inv-loop μ-loop
 loop-less c = omega arith
@@ -47,7 +50,7 @@ loop-again c = let l = c .before .before .before .before in let s = c .before .b
     (omega arith, find-next (s .args .goals) (s .args .graph .now) (s .args .goal) (l .loop .i) (stackFind (stackOf (s .args .goals) (s .args .height) (s .args .graph .now)) (s .args .goal)) (l .loop .inv .1) (c .before .before .before .loop-test .taken) (λ e. c .if1 .left (c .before .input .ensures .0 ∙ (read-at {A = ℕ} (λ f. f .input) (s .args .goals) (s .args .graph .now) (l .loop .i - 1) (c .before .before .frame-at .result .now) (c .before .before .frame-at .ensures)) ∙ e)))
 
 returns-2 : tie.Need-returns-2 Inv-loop μ-loop
-returns-2 c = let l = c .before in let s = c .before .before .before in (find-nowhere (s .args .goals) (s .args .graph .now) (s .args .goal) (l .loop .i) (stackFind (stackOf (s .args .goals) (s .args .height) (s .args .graph .now)) (s .args .goal)) (l .loop .inv .1) (c .loop-test .left), λ j p e. nowhere-below j p (s .args .height) e)
+returns-2 c = let l = c .before in let s = c .before .before .before in record { is = find-nowhere (s .args .goals) (s .args .graph .now) (s .args .goal) (l .loop .i) (stackFind (stackOf (s .args .goals) (s .args .height) (s .args .graph .now)) (s .args .goal)) (l .loop .inv .1) (c .loop-test .left); below = λ j p e. nowhere-below j p (s .args .height) e }
 
 pub find-spec : {M : Type 1} → statement M
 find-spec =

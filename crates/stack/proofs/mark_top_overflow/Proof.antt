@@ -1,18 +1,14 @@
-use mathlib.Core.Path.{refl, ap, _∙_}
-use mathlib.Core.List.{List}
-use Prim.Native.Nat.{ℕ, _+_, _-_, _<_}
+use Prim.Native.Nat.{_-_, _<_}
 use native.Mathlib.Omega.{arith}
 use Rattle.definition.specs.Parent.{markOverflow}
-use Rattle.layout.specs.Frame.{frameOf}
-use Rattle.stack.specs.Bytes.{frameAt}
-use Rattle.stack.proofs.Parts.{returned}
-use Rattle.stack.proofs.Graph.{part-room, part-is, stack-written, entries-written, mark-none, mark-top}
+use Rattle.definition.specs.Stack.{Frame}
+use Rattle.stack.proofs.Graph.{part-room, top-written, mark-none, mark-top}
 use borrow.Author.Needs.{needs}
 use Rattle.stack.proofs.mark_top_overflow.Statement.{statement}
 use Rattle.stack.proofs.mark_top_overflow.Tie as tie
 
 returns : tie.Need-returns
-returns c = let s = c .before .before in (mark-none (s .args .goals) (s .args .height) (s .args .graph .now) (c .if1 .taken), λ n. refl)
+returns c = let s = c .before .before in mark-none (s .args .goals) (s .args .height) (s .args .graph .now) (c .if1 .taken)
 
 sub-frame-start : tie.Need-sub-frame-start
 sub-frame-start c = search needs
@@ -42,8 +38,12 @@ same-length : tie.Need-same-length
 same-length c = search needs
 
 returns-2 : tie.Need-returns-2
-returns-2 c = let s = c .before .before .before .before .before .before .before .before in let b = c .before .before .mark-overflow in let lt : s .args .height - 1 < s .args .goals = omega arith in
-    (mark-top (s .args .goals) (s .args .height) (s .args .graph .now) (returned (s .args .graph .now) (c .before .before .before .before .before .frame-start .result) (c .before .before .before .before .before .frame-start .result + c .before .before .before .before .frame-size .result) (b .last .0)) (omega arith) (stack-written (s .args .goals) (s .args .graph .now) (s .args .height - 1) (c .before .before .before .before .before .frame-start .result) (c .before .before .before .before .frame-size .result) (s .pre .0) lt (c .before .before .before .before .before .frame-start .ensures .0) (c .before .before .before .before .frame-size .ensures) (b .last .0) (b .kept .0) (markOverflow (frameAt (s .args .goals) (s .args .height - 1) (s .args .graph .now))) (b .ensures ∙ ap (λ (l : List ℕ). markOverflow (frameOf (s .args .goals) l)) (part-is (s .args .goals) (s .args .graph .now) (s .args .height - 1) (c .before .before .before .before .before .frame-start .result) (c .before .before .before .before .frame-size .result) (s .pre .0) lt (c .before .before .before .before .before .frame-start .ensures .0) (c .before .before .before .before .frame-size .ensures)))), entries-written (s .args .goals) (s .args .graph .now) (s .args .height - 1) (c .before .before .before .before .before .frame-start .result) (c .before .before .before .before .frame-size .result) (s .pre .0) lt (c .before .before .before .before .before .frame-start .ensures .0) (c .before .before .before .before .frame-size .ensures) (b .last .0) (b .kept .0))
+returns-2 c =
+    let s = c .before .before .before .before .before .before .before .before in
+    let b = c .before .before .mark-overflow in
+    let lt : s .args .height - 1 < s .args .goals = omega arith in
+    let w = top-written (s .args .goals) (s .args .graph .now) (s .args .height - 1) (c .before .before .before .before .before .frame-start .result) (c .before .before .before .before .frame-size .result) (s .pre .0) lt (c .before .before .before .before .before .frame-start .ensures .0) (c .before .before .before .before .frame-size .ensures) (b .last .0) (b .kept .0) (λ (f : Frame). markOverflow f) (b .ensures) in
+    mark-top (s .args .goals) (s .args .height) (s .args .graph .now) _ (omega arith) w
 
 pub mark-top-overflow-spec : {M : Type 1} → statement M
 mark-top-overflow-spec =

@@ -1,5 +1,5 @@
 use Rattle.definition.specs.Evaluate.{newFrame}
-use Rattle.stack.proofs.Graph.{part-room, stack-written, entries-written}
+use Rattle.stack.proofs.Graph.{part-room, frame-put}
 use borrow.Author.Needs.{needs}
 use Rattle.stack.proofs.push.Statement.{statement}
 use Rattle.stack.proofs.push.Tie as tie
@@ -29,8 +29,10 @@ same-length : tie.Need-same-length
 same-length c = search needs
 
 returns : tie.Need-returns
-returns c = let s = c .before .before .before .before .before .before .before in let b = c .before .before .start in
-    (stack-written (s .args .goals) (s .args .graph .now) (s .args .height) (c .before .before .before .before .before .frame-start .result) (c .before .before .before .before .frame-size .result) (s .pre .0) (s .pre .1 .0) (c .before .before .before .before .before .frame-start .ensures .0) (c .before .before .before .before .frame-size .ensures) (b .last .0) (b .kept .0) (newFrame (s .args .goals) (s .args .goal) (s .args .step) (s .args .available)) (b .ensures), entries-written (s .args .goals) (s .args .graph .now) (s .args .height) (c .before .before .before .before .before .frame-start .result) (c .before .before .before .before .frame-size .result) (s .pre .0) (s .pre .1 .0) (c .before .before .before .before .before .frame-start .ensures .0) (c .before .before .before .before .frame-size .ensures) (b .last .0) (b .kept .0))
+returns c =
+    let s = c .before .before .before .before .before .before .before in
+    let b = c .before .before .start in
+    frame-put (s .args .goals) (s .args .graph .now) (s .args .height) (c .before .before .before .before .before .frame-start .result) (c .before .before .before .before .frame-size .result) (s .pre .0) (s .pre .1 .0) (c .before .before .before .before .before .frame-start .ensures .0) (c .before .before .before .before .frame-size .ensures) (b .last .0) (b .kept .0) (newFrame (s .args .goals) (s .args .goal) (s .args .step) (s .args .available)) (b .ensures)
 
 pub push-spec : {M : Type 1} → statement M
 push-spec =

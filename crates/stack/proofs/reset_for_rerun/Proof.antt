@@ -1,10 +1,6 @@
-use mathlib.Core.Path.{ap, _∙_}
-use mathlib.Core.List.{List}
-use Prim.Native.Nat.{ℕ}
 use Rattle.definition.specs.Task.{rerunFrame}
-use Rattle.layout.specs.Frame.{frameOf}
-use Rattle.stack.specs.Bytes.{frameAt}
-use Rattle.stack.proofs.Graph.{part-room, part-is, stack-written, entries-written}
+use Rattle.definition.specs.Stack.{Frame}
+use Rattle.stack.proofs.Graph.{part-room, top-written}
 use borrow.Author.Needs.{needs}
 use Rattle.stack.proofs.reset_for_rerun.Statement.{statement}
 use Rattle.stack.proofs.reset_for_rerun.Tie as tie
@@ -34,8 +30,10 @@ same-length : tie.Need-same-length
 same-length c = search needs
 
 returns : tie.Need-returns
-returns c = let s = c .before .before .before .before .before .before .before in let b = c .before .before .reset in
-    (stack-written (s .args .goals) (s .args .graph .now) (s .args .own) (c .before .before .before .before .before .frame-start .result) (c .before .before .before .before .frame-size .result) (s .pre .0) (s .pre .1) (c .before .before .before .before .before .frame-start .ensures .0) (c .before .before .before .before .frame-size .ensures) (b .last .0) (b .kept .0) (rerunFrame (frameAt (s .args .goals) (s .args .own) (s .args .graph .now)) (s .args .answer)) (b .ensures ∙ ap (λ (l : List ℕ). rerunFrame (frameOf (s .args .goals) l) (s .args .answer)) (part-is (s .args .goals) (s .args .graph .now) (s .args .own) (c .before .before .before .before .before .frame-start .result) (c .before .before .before .before .frame-size .result) (s .pre .0) (s .pre .1) (c .before .before .before .before .before .frame-start .ensures .0) (c .before .before .before .before .frame-size .ensures))), entries-written (s .args .goals) (s .args .graph .now) (s .args .own) (c .before .before .before .before .before .frame-start .result) (c .before .before .before .before .frame-size .result) (s .pre .0) (s .pre .1) (c .before .before .before .before .before .frame-start .ensures .0) (c .before .before .before .before .frame-size .ensures) (b .last .0) (b .kept .0))
+returns c =
+    let s = c .before .before .before .before .before .before .before in
+    let b = c .before .before .reset in
+    top-written (s .args .goals) (s .args .graph .now) (s .args .own) (c .before .before .before .before .before .frame-start .result) (c .before .before .before .before .frame-size .result) (s .pre .0) (s .pre .1) (c .before .before .before .before .before .frame-start .ensures .0) (c .before .before .before .before .frame-size .ensures) (b .last .0) (b .kept .0) (λ (f : Frame). rerunFrame f (s .args .answer)) (b .ensures)
 
 pub reset-for-rerun-spec : {M : Type 1} → statement M
 reset-for-rerun-spec =

@@ -40,7 +40,7 @@ returns-2 c =
     record {
       is =
           λ root cache next. again-some (a .goals) root (a .own) (a .entries) (a .left) (a .graph .now) cache next (a .overflow)
-          (a .answer) (omega arith) (s .pre .1 .0) (y .result) (y .last .0) (z .last .0) (y .ensures) (z .ensures .0) (z .ensures .1);
+          (a .answer) (omega arith) (s .pre .1 .0) (y .result) (y .last .0) (z .last .0) (y .ensures) (z .ensures .stack) (z .ensures .entries);
       few = (omega (arith, y .ensures .few), omega arith);
     }
 

@@ -55,11 +55,11 @@ returns c =
     let nested-at = c8 .nested-at in
     record {
       stack =
-          z .ensures .0
+          z .ensures .stack
           ∙ parent-child (stackOf (a .goals) (a .height) (a .graph .now)) (a .step) (f .heads) (a .overflow) _ (f .nestedGoals)
           (a .reached) (array-first (a .goals) (s .pre .0 .few) (y .last .0) (y .kept .0) ∙ y .ensures ∙ nested-at .ensures);
-      entries = z .ensures .1 .0;
-      frame = z .ensures .1 .1;
+      entries = z .ensures .entries;
+      frame = z .ensures .above;
     }
 
 pub update-parent-spec : {M : Type 1} → statement M

@@ -27,7 +27,7 @@ returns c =
     let l = c .before .before .push in
     let graph-length = c .before .before .before .before .graph-length in
     pushed (s .args .goals) (s .args .work .now) (graph-length .result) (s .pre .0) (graph-length .ensures .0) (l .last .0) (l .kept .0)
-    (s .args .height) (s .args .goal) (s .args .step) (s .args .available) (l .ensures .0) (l .ensures .1)
+    (s .args .height) (s .args .goal) (s .args .step) (s .args .available) (l .ensures .stack) (l .ensures .entries)
 
 pub push-spec : {M : Type 1} → statement M
 push-spec =

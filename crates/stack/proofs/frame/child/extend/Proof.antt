@@ -1,4 +1,4 @@
-use Prim.Native.Nat.{ℕ, _-_}
+use Prim.Native.Nat.{ℕ}
 use mathlib.Core.List.{List}
 use Rattle.definition.specs.Nested.{extendFromChild}
 use Rattle.stack.proofs.Child as frames

@@ -1,7 +1,7 @@
 use Rattle.stack.proofs.Records.{mark-stored}
 use borrow.Author.Needs.{needs}
-use Rattle.stack.proofs.small.mark_bytes.Statement.{statement}
-use Rattle.stack.proofs.small.mark_bytes.Tie as tie
+use Rattle.stack.proofs.frame.fields.mark_bytes.Statement.{statement}
+use Rattle.stack.proofs.frame.fields.mark_bytes.Tie as tie
 
 load-requires : tie.Need-load-requires
 load-requires c κs = search needs

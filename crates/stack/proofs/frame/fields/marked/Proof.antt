@@ -37,19 +37,19 @@ use denote.Triple.Spec.{Meets, tripleOf}
 use denote.Triple.Table.{entered, cited}
 use denote.Triple.Walked.{says, Stays, stay-none, walkOf, goes-none, Walks, ends-at, walked, walk-meets}
 use denote.Exit.{yes}
-use Rattle.stack.specs.declared.small.FrameRecord.{FrameRecord}
+use Rattle.stack.specs.declared.frame.fields.FrameRecord.{FrameRecord}
 use Rattle.stack.specs.Records.{overflowed}
 use Rattle.stack.proofs.Lent.{values, mach, made, typed, lies-in, lies-out}
-use Rattle.stack.proofs.small.FrameRecord as T
-use Rattle.stack.proofs.small.FrameRecord.Laws as T′
-use Rattle.stack.proofs.small.mark as mark
-use Rattle.stack.proofs.small.mark.Symbol as mark-def
-use Rattle.stack.proofs.small.mark.Symbol.{name as #stack·small·mark}
-use Rattle.stack.proofs.small.mark.Met as mark-thm
-use Rattle.stack.proofs.small.marked.Key.{name as #stack·small·marked}
-use Rattle.stack.proofs.small.marked as f
-use Rattle.stack.proofs.small.marked.Statement as stated
-use Rattle.stack.proofs.small.marked.Code as code
+use Rattle.stack.proofs.frame.fields.FrameRecord as T
+use Rattle.stack.proofs.frame.fields.FrameRecord.Laws as T′
+use Rattle.stack.proofs.frame.fields.mark as mark
+use Rattle.stack.proofs.frame.fields.mark.Symbol as mark-def
+use Rattle.stack.proofs.frame.fields.mark.Symbol.{name as #stack·frame·fields·mark}
+use Rattle.stack.proofs.frame.fields.mark.Met as mark-thm
+use Rattle.stack.proofs.frame.fields.marked.Key.{name as #stack·frame·fields·marked}
+use Rattle.stack.proofs.frame.fields.marked as f
+use Rattle.stack.proofs.frame.fields.marked.Statement as stated
+use Rattle.stack.proofs.frame.fields.marked.Code as code
 
 abbrev stayed : Stays (f.ended .signature .params) (f.ended .kept)
 stayed = (stay-none (λ _. T.the-row) yes, tt)
@@ -99,7 +99,7 @@ module _ {M : Type 1} (𝓤 : URA M) (H : Heap 𝓤) (A : Atoms 𝓤) (W : Given
       suffices ! _ (ends-at 𝓤 H A f.ended stayed (f.clauses 𝓤 H A at-mem run) W ((tt, tt, tt, (h, tt), (values h, tt)), tt) (mach (overflowed h)) (overflowed h) (tt, tt) (tt, tt)) $ says ! refl $
       owned ! T.the-row (Is T.the-row) ((LL.makes T.the-type T′.the-plain) 𝓤 H A) h _ was $ nothing ! $ move ! (1 ∷ 0 ∷ []) $ fjoin ! $ nothing ! $ done !
 
-  module _ (C : Calls 𝓤 H) (Λ : Loops 𝓤 H) (fm : FmC 𝓤 H (W .laws) C) (known : Triple 𝓤 (C #stack·small·mark) (Mark 𝓤 H A at-mem run)) where
+  module _ (C : Calls 𝓤 H) (Λ : Loops 𝓤 H) (fm : FmC 𝓤 H (W .laws) C) (known : Triple 𝓤 (C #stack·frame·fields·mark) (Mark 𝓤 H A at-mem run)) where
     walk : ent 𝓤 (onEntry 𝓤 H A f.signature tt tt (h, tt) (values h, tt)) (WpFn 𝓤 H C Λ code.function (values h) Post)
     walk =
         qed W (‵ ftrue ∷ ‵ (owns (T.the-row ∷ []) (h, tt) (values h, tt)) ∷ []) ∵ move ! (1 ∷ []) $ fsplit ! $ enter ! C Λ code.function (values h) _ $
@@ -125,11 +125,11 @@ module _ {M : Type 1} (𝓤 : URA M) (H : Heap 𝓤) (A : Atoms 𝓤) (W : Given
         keep ! (0 ∷ []) $ by ! exits)))))))))
 
 module _ {M : Type 1} (𝓤 : URA M) (H : Heap 𝓤) (A : Atoms 𝓤) (W : Given 𝓤 H A) (at-mem : Memory → SProp 𝓤) (run : Routine → Fun 𝓤) where
-  walks : (C : Calls 𝓤 H) (Λ : Loops 𝓤 H) → FmC 𝓤 H (W .laws) C → Triple 𝓤 (C #stack·small·mark) (Mark 𝓤 H A at-mem run) → Walks 𝓤 H A f.ended stayed (WpFn 𝓤 H C Λ code.function) (f.clauses 𝓤 H A at-mem run)
+  walks : (C : Calls 𝓤 H) (Λ : Loops 𝓤 H) → FmC 𝓤 H (W .laws) C → Triple 𝓤 (C #stack·frame·fields·mark) (Mark 𝓤 H A at-mem run) → Walks 𝓤 H A f.ended stayed (WpFn 𝓤 H C Λ code.function) (f.clauses 𝓤 H A at-mem run)
   walks C Λ fm known = walked 𝓤 H A f.ended stayed (f.clauses 𝓤 H A at-mem run) (WpFn 𝓤 H C Λ code.function) (λ κs. (values, tt)) (λ κs. (LL.tells T.the-type T′.the-laws, tt))
       (λ κs qs bounds a g are. via 𝓤 _ (fst∗ 𝓤 _ (emp 𝓤)) (walk 𝓤 H A W at-mem run (a .0) (are .0) C Λ fm known))
 
-meets : {M : Type 1} (𝓤 : URA M) (H : Heap 𝓤) (A : Atoms 𝓤) → Given 𝓤 H A → (at-mem : Memory → SProp 𝓤) (run : Routine → Fun 𝓤) (𝓣 : Tables 𝓤 H) → Triple 𝓤 (𝓣 .C #stack·small·mark) (Mark 𝓤 H A at-mem run)
+meets : {M : Type 1} (𝓤 : URA M) (H : Heap 𝓤) (A : Atoms 𝓤) → Given 𝓤 H A → (at-mem : Memory → SProp 𝓤) (run : Routine → Fun 𝓤) (𝓣 : Tables 𝓤 H) → Triple 𝓤 (𝓣 .C #stack·frame·fields·mark) (Mark 𝓤 H A at-mem run)
     → Meets 𝓤 H A f.signature (WpFn 𝓤 H (𝓣 .C) (𝓣 .Λ) code.function) (f.spec 𝓤 H A at-mem run)
 meets 𝓤 H A W at-mem run 𝓣 known = walk-meets 𝓤 H A f.ended stayed W (goes-none 𝓤 H A W 0 (λ _. T.the-row) yes (λ κs x g. refl), tt) (f.clauses 𝓤 H A at-mem run) (WpFn 𝓤 H (𝓣 .C) (𝓣 .Λ) code.function) (WpFn-mono 𝓤 H (W .laws) 𝓣 code.function)
     (walks 𝓤 H A W at-mem run (𝓣 .C) (𝓣 .Λ) (fmOf 𝓤 H (W .laws) 𝓣) known)
@@ -138,6 +138,6 @@ pub marked-spec : {M : Type 1} → stated.statement M
 unfolding code.routine tablesOf
 marked-spec 𝓤 H 𝓜 𝓖 𝓡 =
     entered 𝓤 H (tripleOf 𝓤 H (𝓖 .A) f.signature (f.spec 𝓤 H (𝓖 .A) (𝓜 .mem) (𝓡 .run)))
-    (tables 𝓤 H 𝓜 𝓡 code.env .C) (tables 𝓤 H 𝓜 𝓡 code.env .Λ) #stack·small·marked code.function (code.unfolded 𝓤 H 𝓜 𝓡)
+    (tables 𝓤 H 𝓜 𝓡 code.env .C) (tables 𝓤 H 𝓜 𝓡 code.env .Λ) #stack·frame·fields·marked code.function (code.unfolded 𝓤 H 𝓜 𝓡)
     (meets 𝓤 H (𝓖 .A) (givenOf 𝓤 H 𝓜 𝓖) (𝓜 .mem) (𝓡 .run) (tablesOf 𝓤 H 𝓜 (tables 𝓤 H 𝓜 𝓡 code.env))
-    (cited 𝓤 H (Mark 𝓤 H (𝓖 .A) (𝓜 .mem) (𝓡 .run)) 𝓜 𝓡 code.env #stack·small·mark mark-def.routine code.calls-stack·small·mark (mark-thm.met 𝓤 H 𝓜 𝓖 𝓡)))
+    (cited 𝓤 H (Mark 𝓤 H (𝓖 .A) (𝓜 .mem) (𝓡 .run)) 𝓜 𝓡 code.env #stack·frame·fields·mark mark-def.routine code.calls-stack·frame·fields·mark (mark-thm.met 𝓤 H 𝓜 𝓖 𝓡)))

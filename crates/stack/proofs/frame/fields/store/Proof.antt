@@ -2,8 +2,8 @@ use native.Mathlib.Omega.{arith}
 use lib.ListN.{length-set}
 use Rattle.stack.proofs.Records.{stored}
 use borrow.Author.Needs.{needs}
-use Rattle.stack.proofs.small.store.Statement.{statement}
-use Rattle.stack.proofs.small.store.Tie as tie
+use Rattle.stack.proofs.frame.fields.store.Statement.{statement}
+use Rattle.stack.proofs.frame.fields.store.Tie as tie
 
 slice-write-b : tie.Need-slice-write-b
 slice-write-b c = search needs

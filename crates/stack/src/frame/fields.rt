@@ -1,5 +1,5 @@
-// The small fields of a frame, its first eight bytes, as a record that is lent and
-// changed in place.
+// The fields of a frame, its first eight bytes, as a record that is lent and changed in
+// place.
 use layout::offsets;
 ghost use mathlib.Core.Path.{_≡_};
 ghost use lib.ListN.{length, set};

@@ -1,7 +1,7 @@
 use Rattle.stack.proofs.Records.{loaded}
 use borrow.Author.Needs.{needs}
-use Rattle.stack.proofs.small.load.Statement.{statement}
-use Rattle.stack.proofs.small.load.Tie as tie
+use Rattle.stack.proofs.frame.fields.load.Statement.{statement}
+use Rattle.stack.proofs.frame.fields.load.Tie as tie
 
 shared-slice-read-t3 : tie.Need-shared-slice-read-t3
 shared-slice-read-t3 c = search needs
