@@ -27,7 +27,8 @@ use Rattle.stack.specs.declared.OnStack.{OnStack}
 use Rattle.stack.specs.declared.OnStack.the-variants.{At, Nowhere}
 use Rattle.provisional_cache.specs.Entries.{entryAt, entryFound}
 use Rattle.provisional_cache.proofs.Outcomes.{found-some, found-none}
-use Rattle.lookup.specs.Lookups.{applicable, hitOf, found}
+use Rattle.lookup.specs.Lookups.{applicable, found}
+use Rattle.lookup.specs.Hits.{hitOf}
 use Rattle.lookup.specs.declared.Hit.{Hit}
 use Rattle.lookup.specs.declared.Hit.the-variants.{Result, Nothing}
 use Rattle.lookup.specs.declared.Found.the-variants.{Known, Push}

@@ -1,19 +1,18 @@
--- What the lookups are given, and what they find.
-use mathlib.Core.Bool.{Bool}
-use mathlib.Core.Option.{Option, none, some}
+-- What the lookups are given, which slot applies, and the outcome that is found.
+use mathlib.Core.Bool.{Bool, _&&_}
 use mathlib.Core.List.{List, []}
 use Prim.Native.Nat.{ℕ, _*_, _≤_, _<_}
+use lib.Dec.{leb}
 use Rattle.definition.specs.declared.paths.PathKind.{PathKind}
 use Rattle.definition.specs.declared.format.Header.{Header}
 use Rattle.definition.specs.Nested.{NestedGoals}
+use Rattle.definition.specs.GlobalCache.{slotHeld, slotDepth, slotNested}
 use Rattle.definition.specs.Graph.{Graph, Outcome, Done}
 use Rattle.definition.specs.Lookup.{candidateIsApplicable}
 use Rattle.definition.specs.Evaluate.{evaluateNewFrame}
 use Rattle.layout.specs.Work.{graphOf}
 use Rattle.global_cache.specs.Cache.{CacheBytes}
 use Rattle.stack.specs.Bytes.{GraphBytes}
-use Rattle.lookup.specs.declared.Hit.{Hit}
-use Rattle.lookup.specs.declared.Hit.the-variants.{Result, Nothing}
 use Rattle.lookup.specs.declared.Found.{Found}
 use Rattle.lookup.specs.declared.Found.the-variants.{Known, Push}
 
@@ -44,10 +43,14 @@ pub record Asked (h : Header) (slots bs : List ℕ) (depth frames n input : ℕ)
 abbrev pub applicable : ℕ → ℕ → ℕ → List ℕ → PathKind → NestedGoals → Bool
 applicable goals height n bs step nested = candidateIsApplicable (graphOf goals 0 height n bs []) step nested
 
--- what a lookup found, with the graph that it leaves
-abbrev pub hitOf : Hit → Graph → Option Outcome
-hitOf (Result a) g = some (Done g a)
-hitOf Nothing g = none
+-- whether the overflow slot is held and applies
+abbrev pub overflowApplies : ℕ → ℕ → ℕ → List ℕ → PathKind → List ℕ → Bool
+overflowApplies goals height n bs step s = slotHeld s && applicable goals height n bs step (slotNested s)
+
+-- whether the success slot is held, needs no more than the available depth and applies
+abbrev pub successApplies : ℕ → ℕ → ℕ → List ℕ → PathKind → ℕ → List ℕ → Bool
+successApplies goals height n bs step available s =
+    slotHeld s && leb (slotDepth s) available && applicable goals height n bs step (slotNested s)
 
 -- the goal's outcome: its answer, or that of a new frame
 unfoldable pub found : Header → (ℕ → Graph → Outcome) → ℕ → PathKind → Found → Graph → Outcome

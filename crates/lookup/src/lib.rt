@@ -12,22 +12,13 @@ use stack::OnStack;
 use stack::frame::Depth;
 use stack::frame::Provisional;
 ghost use mathlib.Core.Path.{_≡_};
-ghost use mathlib.Core.Bool.{_&&_};
-ghost use mathlib.Core.List.{List};
-ghost use mathlib.Core.Option.{some};
-ghost use Prim.Native.Nat.{ℕ, _-_, _*_, _<_, _≤_};
-ghost use lib.Dec.{leb};
-ghost use Rattle.definition.specs.Graph.{Graph, Outcome, Done};
-ghost use Rattle.definition.specs.GlobalCache.{slotHeld, slotDepth, slotNested, cacheData};
-ghost use Rattle.definition.specs.Lookup.{useEntry, useCacheData, cycleResult, closeCycle, lookupProvisionalCache, lookupGlobalCache, checkCycleOnStack};
-ghost use Rattle.definition.specs.Evaluate.{evaluateAtDepth, evaluateGoalWith};
-ghost use Rattle.layout.specs.Work.{graphOf};
+ghost use Prim.Native.Nat.{_*_, _<_, _≤_};
+ghost use Rattle.definition.specs.Lookup.{cycleResult};
 ghost use Rattle.stack.specs.Bytes.{GraphBytes};
 ghost use Rattle.stack.specs.Results.{provisionalOf};
-ghost use Rattle.provisional_cache.specs.Entries.{entryAt};
-ghost use Rattle.lookup.specs.Lookups.{Counted, AskedAt, Asked, applicable, hitOf, found};
-ghost use Rattle.lookup.specs.declared.Found.the-variants.{Push};
-ghost use Rattle.lookup.specs.declared.Hit.the-variants.{Nothing};
+ghost use Rattle.lookup.specs.Lookups.{Counted, AskedAt, Asked, applicable, overflowApplies, successApplies};
+ghost use Rattle.lookup.specs.Hits.{EntryUsed, EntriesTried, SlotUsed, SlotsTried, CycleClosed, StackTried};
+ghost use Rattle.lookup.specs.Answers.{AnsweredAt, Answered};
 
 // What one lookup finds.
 pub enum Hit {
@@ -53,11 +44,11 @@ fn use_entry(
     i: usize,
 ) -> Answer
     requires { ⌜ GraphBytes goals (now graph) × ((height ≤ goals) × (i < 2 * goals)) ⌝ }
-    ensures { λ r. ⌜ ((root n : ℕ) (cache : List ℕ) → some (Done (graphOf goals root height n (now (graph .exit)) cache) r) ≡ useEntry (graphOf goals root height n (now (graph .entry)) cache) step available (some (entryAt goals i (now (graph .entry))))) ⌝ }
+    ensures { λ r. ⌜ EntryUsed goals height step available i (now (graph .entry)) (now (graph .exit)) r ⌝ }
 {
-    let e = provisional_cache::entry_at(graph, goals, i);
-    let overflow = entry::encountered_overflow(e, goals);
-    let answer = entry::result(e, goals);
+    let entry = provisional_cache::entry_at(graph, goals, i);
+    let overflow = entry::encountered_overflow(entry, goals);
+    let answer = entry::result(entry, goals);
     parent::update_from_entry(graph, goals, height, step, i, overflow, available);
     answer
 }
@@ -72,7 +63,8 @@ pub fn lookup_provisional_cache(
     available: usize,
 ) -> Hit
     requires { ⌜ Counted (h .goals) height entries (now graph) ⌝ }
-    ensures { λ r. ⌜ ((root : ℕ) (cache : List ℕ) → hitOf r (graphOf (h .goals) root height entries (now (graph .exit)) cache) ≡ lookupProvisionalCache h (graphOf (h .goals) root height entries (now (graph .entry)) cache) goal step available) × (r ≡ Nothing → now (graph .exit) ≡ now (graph .entry)) ⌝ }
+    ensures { λ r. ⌜ EntriesTried h height entries goal step available
+        (now (graph .entry)) (now (graph .exit)) r ⌝ }
 {
     if !h.provisional {
         return Hit::Nothing;
@@ -86,7 +78,10 @@ pub fn lookup_provisional_cache(
 
 // ---- lookup_global_cache
 
-// Whether a slot with these nested goals applies here.
+// Whether a slot with these nested goals applies here. Its result was found where none of
+// them was on the stack. If one is now, an evaluation would close a cycle there; if an entry
+// would answer one of them, the evaluation would take the entry's result, which leans on the
+// stack as well. Either may change the answer, so that the slot does not count.
 fn candidate_is_applicable(
     graph: &[u8],
     goals: usize,
@@ -117,7 +112,7 @@ fn overflow_applies(
     step: PathKind,
 ) -> bool
     requires { ⌜ Counted goals height entries (now graph) ⌝ }
-    ensures { λ r. ⌜ r ≡ (slotHeld (now (s .entry)) && applicable goals height entries (now (graph .entry)) step (slotNested (now (s .entry)))) ⌝ }
+    ensures { λ r. ⌜ r ≡ overflowApplies goals height entries (now (graph .entry)) step (now (s .entry)) ⌝ }
 {
     if !slot::is_held(s) {
         return false;
@@ -137,7 +132,7 @@ fn success_applies(
     available: usize,
 ) -> bool
     requires { ⌜ Counted goals height entries (now graph) ⌝ }
-    ensures { λ r. ⌜ r ≡ (slotHeld (now (s .entry)) && leb (slotDepth (now (s .entry))) available && applicable goals height entries (now (graph .entry)) step (slotNested (now (s .entry)))) ⌝ }
+    ensures { λ r. ⌜ r ≡ successApplies goals height entries (now (graph .entry)) step available (now (s .entry)) ⌝ }
 {
     if !slot::is_held(s) {
         return false;
@@ -160,7 +155,8 @@ fn use_slot(
     overflow: bool,
 ) -> Answer
     requires { ⌜ GraphBytes (h .goals) (now graph) × (height ≤ h .goals) ⌝ }
-    ensures { λ r. ⌜ ((root n : ℕ) (cache : List ℕ) → some (Done (graphOf (h .goals) root height n (now (graph .exit)) cache) r) ≡ useCacheData h (graphOf (h .goals) root height n (now (graph .entry)) cache) step available (some (cacheData (now (s .entry)) overflow))) ⌝ }
+    ensures { λ r. ⌜ SlotUsed h height step available (now (s .entry)) overflow
+        (now (graph .entry)) (now (graph .exit)) r ⌝ }
 {
     let reached = scalars::minus(available, slot::depth_of(s));
     let nested = slot::nested_of(s);
@@ -179,7 +175,8 @@ pub fn lookup_global_cache(
     available: usize,
 ) -> Hit
     requires { ⌜ AskedAt h (now cache) (now graph) height entries goal available ⌝ }
-    ensures { λ r. ⌜ ((root : ℕ) → hitOf r (graphOf (h .goals) root height entries (now (graph .exit)) (now (cache .entry))) ≡ lookupGlobalCache h (graphOf (h .goals) root height entries (now (graph .entry)) (now (cache .entry))) goal step available) × (r ≡ Nothing → now (graph .exit) ≡ now (graph .entry)) ⌝ }
+    ensures { λ r. ⌜ SlotsTried h height entries goal step available (now (cache .entry))
+        (now (graph .entry)) (now (graph .exit)) r ⌝ }
 {
     let success = global_cache::slot_at(cache, h.goals, h.top, goal, 0);
     if success_applies(success, graph, h.goals, height, entries, step, available) {
@@ -204,7 +201,8 @@ fn cycle_result(provisional: Provisional, kind: PathKind) -> Answer
     }
 }
 
-// The goal is on the stack, at index `head`.
+// The goal is on the stack, at index `head`: a cycle. It counts in the kind of the whole way
+// round, not in that of its last step.
 fn close_cycle(
     graph: &mut [u8],
     h: Header,
@@ -216,7 +214,8 @@ fn close_cycle(
     provisional: Provisional,
 ) -> Answer
     requires { ⌜ GraphBytes (h .goals) (now graph) × ((height ≤ h .goals) × (head < height)) ⌝ }
-    ensures { λ r. ⌜ ((root n : ℕ) (cache : List ℕ) → Done (graphOf (h .goals) root height n (now (graph .exit)) cache) r ≡ closeCycle h (graphOf (h .goals) root height n (now (graph .entry)) cache) goal step available (record { index = head; provisionalResult = provisionalOf provisional })) ⌝ }
+    ensures { λ r. ⌜ CycleClosed h height goal step available head provisional
+        (now (graph .entry)) (now (graph .exit)) r ⌝ }
 {
     let kind = stack::cycle_path_kind(graph, h.goals, height, step, head);
     let usages = HeadUsages::none().add_usage(kind);
@@ -233,7 +232,7 @@ pub fn check_cycle_on_stack(
     available: usize,
 ) -> Hit
     requires { ⌜ GraphBytes (h .goals) (now graph) × (height ≤ h .goals) ⌝ }
-    ensures { λ r. ⌜ ((root n : ℕ) (cache : List ℕ) → hitOf r (graphOf (h .goals) root height n (now (graph .exit)) cache) ≡ checkCycleOnStack h (graphOf (h .goals) root height n (now (graph .entry)) cache) goal step available) × (r ≡ Nothing → now (graph .exit) ≡ now (graph .entry)) ⌝ }
+    ensures { λ r. ⌜ StackTried h height goal step available (now (graph .entry)) (now (graph .exit)) r ⌝ }
 {
     let place = stack::find(graph, h.goals, height, goal);
     if let OnStack::At(head, provisional) = place {
@@ -256,7 +255,8 @@ fn lookup_at_depth(
     available: usize,
 ) -> Found
     requires { ⌜ AskedAt h (now cache) (now graph) height entries goal available ⌝ }
-    ensures { λ r. ⌜ ((root : ℕ) (compute : ℕ → Graph → Outcome) → evaluateAtDepth h compute (graphOf (h .goals) root height entries (now (graph .entry)) (now (cache .entry))) goal step available ≡ found h compute goal step r (graphOf (h .goals) root height entries (now (graph .exit)) (now (cache .entry)))) × ((d : ℕ) → r ≡ Push d → d < 256) ⌝ }
+    ensures { λ r. ⌜ AnsweredAt h height entries goal step available (now (cache .entry))
+        (now (graph .entry)) (now (graph .exit)) r ⌝ }
 {
     let provisional = lookup_provisional_cache(graph, h, height, entries, goal, step, available);
     if let Hit::Result(answer) = provisional {
@@ -285,7 +285,8 @@ pub fn lookup(
     lower: bool,
 ) -> Found
     requires { ⌜ Asked h (now cache) (now graph) root height entries goal ⌝ }
-    ensures { λ r. ⌜ ((compute : ℕ → Graph → Outcome) → evaluateGoalWith h compute (graphOf (h .goals) root height entries (now (graph .entry)) (now (cache .entry))) goal step lower ≡ found h compute goal step r (graphOf (h .goals) root height entries (now (graph .exit)) (now (cache .entry)))) × ((d : ℕ) → r ≡ Push d → d < 256) ⌝ }
+    ensures { λ r. ⌜ Answered h root height entries goal step lower (now (cache .entry))
+        (now (graph .entry)) (now (graph .exit)) r ⌝ }
 {
     let depth = stack::allowed_depth_for_nested(graph, h.goals, h.divisor, root, height, lower);
     if let Depth::Allowed(available) = depth {

@@ -1,5 +1,5 @@
 -- One entry of a graph: its bytes, and what its reads and writes give.
-use mathlib.Core.Path.{_≡_, refl, sym, ap, ap₂, _∙_, subst}
+use mathlib.Core.Path.{_≡_, sym, ap, ap₂, _∙_, subst}
 use mathlib.Core.Bool.{Bool}
 use mathlib.Core.List.{List}
 use Prim.Native.Nat.{ℕ, _+_, _*_, _-_, _≤_, _<_}
@@ -7,21 +7,23 @@ use native.Mathlib.Omega.{arith}
 use lib.ListN.{length, set, take, drop, length-set}
 use Rattle.definition.specs.declared.paths.PathKind.{PathKind}
 use Rattle.definition.specs.declared.answers.Answer.{Answer}
-use Rattle.definition.specs.Paths.{kindNumber, kindOf}
+use Rattle.definition.specs.Paths.{kindNumber, kindOf, extend}
 use Rattle.definition.specs.Answers.{answerNumber, answerOf}
+use Rattle.definition.specs.Heads.{CycleHeads}
+use Rattle.definition.specs.Graph.{Entry, withEntryHeads, withPathFromHead}
 use Rattle.definition.proofs.Numbers.{answer-back}
 use Rattle.buffer.specs.Regions.{region, overwrite}
 use Rattle.buffer.proofs.Regions.{length-region}
-use Rattle.layout.specs.Blocks.{headsSize, HeadsBlock}
-use Rattle.layout.specs.Frame.{truth, headsStart}
+use Rattle.layout.specs.Blocks.{headsSize, headsOf, HeadsBlock}
+use Rattle.layout.specs.Frame.{truth}
 use Rattle.layout.specs.Entry.{entryHeadsStart, entrySize, entryOf}
 use Rattle.layout.specs.Work.{entryStart}
-use Rattle.layout.proofs.Frames.{entry-byte, withEntryByte}
+use Rattle.layout.proofs.Frames.{entry-byte, entry-heads, withEntryByte}
 use Rattle.layout.proofs.Graphs.{entry-room}
-use Rattle.stack.specs.Bytes.{FrameBytes, GraphBytes}
+use Rattle.stack.specs.Bytes.{GraphBytes}
 use Rattle.stack.proofs.Parts.{part, returned, part-length, part-back}
 use Rattle.stack.proofs.Fields.{kind-back}
-use Rattle.provisional_cache.specs.Entries.{EntryBytes, entryBytes, withPath, withFields}
+use Rattle.provisional_cache.specs.Entries.{EntryBytes, entryBytes, withFields, withLongerPath}
 
 -- the bytes of an entry are an entry's
 pub entry-bytes : (goals : ℕ) (bs r : List ℕ) (i : ℕ) → GraphBytes goals bs → i < 2 * goals → r ≡ entryBytes goals i bs → EntryBytes goals r
@@ -53,17 +55,12 @@ entry-heads-block goals bs r b e =
     let l = b .long in
     record { few = b .few; long = ap length e ∙ length-region entryHeadsStart (headsSize goals) bs (omega arith) }
 
-pub frame-heads-block : (goals : ℕ) (bs r : List ℕ) → FrameBytes goals bs → r ≡ region headsStart (headsSize goals) bs → HeadsBlock goals r
-frame-heads-block goals bs r b e =
-    let l = b .long in
-    record { few = b .few; long = ap length e ∙ length-region headsStart (headsSize goals) bs (omega arith) }
-
 -- ---- writes
 module _ (goals : ℕ) (bs : List ℕ) (long : length bs ≡ entrySize goals) where
-  pub path-written : (path : PathKind) (k : ℕ) → k ≡ kindNumber path → entryOf goals (set bs 2 k) ≡ withPath (entryOf goals bs) path
+  pub path-written : (path : PathKind) (k : ℕ) → k ≡ kindNumber path → entryOf goals (set bs 2 k) ≡ withPathFromHead (entryOf goals bs) path
   path-written path k is =
       entry-byte goals bs long 2 k (omega arith)
-      ∙ (let e = ap kindOf is ∙ kind-back path in λ t. withPath (entryOf goals bs) (e t))
+      ∙ (let e = ap kindOf is ∙ kind-back path in λ t. withPathFromHead (entryOf goals bs) (e t))
 
   pub fields-written : (goal : ℕ) (overflow : Bool) (path : PathKind) (answer : Answer) (g o k a : ℕ) → g ≡ goal → truth o ≡ overflow → k ≡ kindNumber path → a ≡ answerNumber answer
       → entryOf goals (set (set (set (set bs 0 g) 1 o) 2 k) 3 a) ≡ withFields (entryOf goals bs) goal overflow path answer
@@ -81,3 +78,20 @@ module _ (goals : ℕ) (bs : List ℕ) (long : length bs ≡ entrySize goals) wh
       let ek = ap kindOf is-k ∙ kind-back path in
       let ea = ap answerOf is-a ∙ answer-back answer in
       e4 ∙ (λ t. withFields (entryOf goals bs) (is-g t) (is-o t) (ek t) (ea t))
+
+-- ---- the heads of one entry's bytes are written, in the n bytes from 8 on
+pub heads-written : (goals : ℕ) (bs : List ℕ) (n : ℕ) (ys : List ℕ) (f : CycleHeads → CycleHeads) → EntryBytes goals bs → n ≡ headsSize goals → length ys ≡ length (part bs 8 (8 + n))
+    → headsOf goals ys ≡ f (headsOf goals (part bs 8 (8 + n))) → entryOf goals (returned bs 8 (8 + n) ys) ≡ withEntryHeads (entryOf goals bs) (f ((entryOf goals bs) .heads))
+unfolding entryOf
+heads-written goals bs n ys f b is-n kept e =
+    let long = b .long in
+    let fits : 8 + n ≤ length bs = omega arith in
+    let w : 8 + n - 8 ≡ n = omega arith in
+    let whole : length ys ≡ headsSize goals = part-length bs 8 (8 + n) ys (omega arith) fits kept ∙ w ∙ is-n in
+    ap (entryOf goals) (part-back bs 8 (8 + n) ys (omega arith) fits kept)
+    ∙ entry-heads goals bs long ys whole
+    ∙ ap (withEntryHeads (entryOf goals bs)) (e ∙ ap (λ (l : List ℕ). f (headsOf goals l)) (heads-part bs 8 n (headsSize goals) is-n))
+
+-- the path goes on
+pub path-extended : (e n : Entry) (before after kind : PathKind) → n ≡ withPathFromHead e after → after ≡ extend before kind → before ≡ e .pathFromHead → n ≡ withLongerPath e kind
+path-extended e n before after kind is is-after is-before = is ∙ ap (withPathFromHead e) (is-after ∙ ap (λ (x : PathKind). extend x kind) is-before)

@@ -19,7 +19,8 @@ use Rattle.layout.specs.Entry.{entryOf}
 use Rattle.layout.specs.Work.{entriesOf}
 use Rattle.layout.proofs.Graphs.{no-entries, length-entries, entries-at}
 use Rattle.stack.specs.Bytes.{GraphBytes}
-use Rattle.provisional_cache.specs.Entries.{entryBytes, entryAt, entryFound, FramesKept, keptOf, Compacted}
+use Rattle.provisional_cache.specs.Entries.{entryBytes, entryAt, entryFound, FramesKept}
+use Rattle.provisional_cache.specs.Reruns.{keptOf, Compacted}
 
 -- what is read of entry i's bytes
 pub read-at : {A : Type 0} (read : Entry → A) (goals : ℕ) (bs : List ℕ) (i : ℕ) (r : List ℕ) → r ≡ entryBytes goals i bs → read (entryOf goals r) ≡ read (entryAt goals i bs)
@@ -71,7 +72,7 @@ module _ (goals : ℕ) (bs : List ℕ) (n i : ℕ) where
     any-none h = sym (ap (anyEntryApplies s step nested) (rest-none h)) ∙ rest
 
 -- ---- `clear_for_rerun`
-pub record Cleared (goals rerun n : ℕ) (old new : List ℕ) (kept i : ℕ) : Type 0 where
+pub record Clearing (goals rerun n : ℕ) (old new : List ℕ) (kept i : ℕ) : Type 0 where
   pub kept-few : kept ≤ i
   pub few : i ≤ n
   pub same-length : length new ≡ length old
@@ -96,7 +97,7 @@ kept-first rerun e es keep is = go keep (survivesRerun rerun e) is
     go a false d = ap (λ (t : Bool). keptOf t e ++ survivors rerun es) d
 
 module _ (goals rerun n : ℕ) (old : List ℕ) where
-  pub clear-start : Cleared goals rerun n old old 0 0
+  pub clear-start : Clearing goals rerun n old old 0 0
   clear-start =
       record {
         kept-few = omega arith;
@@ -106,8 +107,8 @@ module _ (goals rerun n : ℕ) (old : List ℕ) where
         entries = ap (λ (l : List Entry). l ++ survivors rerun (entriesOf goals n old)) (no-entries goals old);
       }
 
-  pub clear-next : (g new : List ℕ) (kept i r : ℕ) (keep : Bool) (b : List ℕ) → Cleared goals rerun n old g kept i → i < n → n ≤ 2 * goals → b ≡ entryBytes goals i g → keep ≡ survivesRerun rerun (entryOf goals b)
-      → Compacted goals i kept keep g new r → length new ≡ length g → Cleared goals rerun n old new r (i + 1)
+  pub clear-next : (g new : List ℕ) (kept i r : ℕ) (keep : Bool) (b : List ℕ) → Clearing goals rerun n old g kept i → i < n → n ≤ 2 * goals → b ≡ entryBytes goals i g → keep ≡ survivesRerun rerun (entryOf goals b)
+      → Compacted goals i kept keep g new r → length new ≡ length g → Clearing goals rerun n old new r (i + 1)
   clear-next g new kept i r keep b inv lt room is-b is-keep made len =
       let k0 = inv .kept-few in
       let k1 = made .most in
@@ -128,7 +129,7 @@ module _ (goals rerun n : ℕ) (old : List ℕ) where
             ∙ inv .entries;
       }
 
-  pub clear-done : (g : List ℕ) (kept i : ℕ) → Cleared goals rerun n old g kept i → n ≤ i → entriesOf goals kept g ≡ survivors rerun (entriesOf goals n old)
+  pub clear-done : (g : List ℕ) (kept i : ℕ) → Clearing goals rerun n old g kept i → n ≤ i → entriesOf goals kept g ≡ survivors rerun (entriesOf goals n old)
   clear-done g kept i inv h =
       sym (append-nil (entriesOf goals kept g))
       ∙ sym (ap (λ (l : List Entry). entriesOf goals kept g ++ survivors rerun l) (rest-none goals g n i h))

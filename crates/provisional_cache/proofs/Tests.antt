@@ -153,5 +153,3 @@ module _ (e : Entry) (rerun h : ℕ) (is-h : h ≡ highestIndex (e .heads)) wher
   survives-unused same hs is-hs u is-u r is-r =
       is-r ∙ ap isEmpty (is-u ∙ ap (λ (x : CycleHeads). usagesAt x rerun) is-hs)
       ∙ sym (ap (λ (t : Bool). not t || isEmpty (usagesAt (e .heads) rerun)) (eq-eqb h rerun same)) ∙ survives-open
-
--- ---- a test that is turned round

@@ -2,7 +2,7 @@
 use mathlib.Core.Path.{_≡_, refl, sym, ap, ap₂, _∙_, subst}
 use mathlib.Core.Bool.{Bool, true, false}
 use mathlib.Core.List.{List, [], _∷_, _++_, append-nil}
-use Prim.Native.Nat.{ℕ, _+_, _*_, _-_, _≤_, _<_}
+use Prim.Native.Nat.{ℕ, _+_, _*_, _≤_, _<_}
 use native.Mathlib.Nat.{zero-add, le-refl, add-le-add, mul-le-mul-right}
 use native.Mathlib.Numerals.{add-one}
 use native.Mathlib.Omega.{arith}
@@ -21,7 +21,9 @@ use Rattle.layout.proofs.Frames.{entry-heads}
 use Rattle.layout.proofs.Graphs.{into-fits, entry-room, frame-room, fits-entry, fits-whole, entries-behind, entries-under, entries-push-back, stack-entry, stack-entry-whole}
 use Rattle.stack.specs.Bytes.{GraphBytes, frameBytes, frameAt}
 use Rattle.stack.proofs.Parts.{part, returned}
-use Rattle.provisional_cache.specs.Entries.{entryBytes, entryAt, withFields, FramesKept, keptOf, Compacted}
+use Rattle.provisional_cache.specs.Entries.{entryBytes, entryAt, entryOn, withFields, FramesKept}
+use Rattle.provisional_cache.specs.Reruns.{keptOf, Compacted}
+use Rattle.provisional_cache.specs.Inserts.{Appended}
 use Rattle.provisional_cache.proofs.Entries.{part-is, entry-back, entry-whole}
 use Rattle.provisional_cache.proofs.Loops.{frames-same, frames-then, graph-bytes}
 
@@ -181,15 +183,18 @@ module _ (goals height k : ℕ) (bs mid : List ℕ) (g : GraphBytes goals bs) (u
     whole : length ys ≡ entrySize goals
     whole = entry-whole goals mid k a n mid-bytes lt is-a is-n ys kept
 
-    pub append-frames : FramesKept goals bs (returned mid a (a + n) ys)
+    append-frames : FramesKept goals bs (returned mid a (a + n) ys)
     append-frames = subst (FramesKept goals bs) (sym back) (frames-then goals bs mid (overwrite mid (entryStart goals k) ys) mid-frames (frames-whole goals mid mid-bytes k ys lt whole))
 
-    pub append-entries : (goal : ℕ) (overflow : Bool) (path : PathKind) (answer : Answer) → entryOf goals ys ≡ withFields (entryOf goals (part mid a (a + n))) goal overflow path answer
-        → entriesOf goals (k + 1) (returned mid a (a + n) ys)
-        ≡ entriesOf goals k bs ++ (record { input = goal; encounteredOverflow = overflow; heads = (frameAt goals height bs) .heads; pathFromHead = path; result = answer } ∷ [])
-    append-entries goal overflow path answer is =
-        ap₂ (λ (m : ℕ) (l : List ℕ). entriesOf goals m l) (add-one k) back
-        ∙ entries-push-back goals mid (mid-bytes .long) k ys lt whole
-        ∙ ap₂ (λ (l : List Entry) (e : Entry). l ++ (e ∷ [])) mid-entries
-        (is ∙ (let e = ap (λ (l : List ℕ). (entryOf goals l) .heads) (part-is goals mid k a n mid-bytes lt is-a is-n) ∙ mid-heads in
-        λ t. record { input = goal; encounteredOverflow = overflow; heads = e t; pathFromHead = path; result = answer }))
+    pub appended : (goal : ℕ) (overflow : Bool) (path : PathKind) (answer : Answer) → entryOf goals ys ≡ withFields (entryOf goals (part mid a (a + n))) goal overflow path answer
+        → Appended goals k (entryOn goal overflow ((frameAt goals height bs) .heads) path answer) bs (returned mid a (a + n) ys)
+    appended goal overflow path answer is =
+        record {
+          entries =
+              ap₂ (λ (m : ℕ) (l : List ℕ). entriesOf goals m l) (add-one k) back
+              ∙ entries-push-back goals mid (mid-bytes .long) k ys lt whole
+              ∙ ap₂ (λ (l : List Entry) (e : Entry). l ++ (e ∷ [])) mid-entries
+              (is ∙ (let e = ap (λ (l : List ℕ). (entryOf goals l) .heads) (part-is goals mid k a n mid-bytes lt is-a is-n) ∙ mid-heads in
+              λ t. entryOn goal overflow (e t) path answer));
+          frames = append-frames;
+        }

@@ -1,2 +1,4 @@
 pub mod Entries
+pub mod Matches
+pub mod Reruns
 pub mod Inserts

@@ -5,23 +5,21 @@ use definition::paths::PathKind;
 use definition::paths::PathsToNested;
 use layout::heads;
 use layout::offsets;
+use stack::frame;
 ghost use mathlib.Core.Path.{_≡_};
-ghost use mathlib.Core.Bool.{_&&_};
-ghost use mathlib.Core.List.{[], _∷_, _++_};
 ghost use Prim.Native.Nat.{_+_, _*_, _≤_, _<_};
 ghost use lib.ListN.{length};
 ghost use Rattle.buffer.specs.Regions.{region, overwrite};
-ghost use Rattle.definition.specs.Heads.{optLowestIndex, highestIndex};
-ghost use Rattle.definition.specs.Stack.{cyclePathKind};
-ghost use Rattle.definition.specs.Lookup.{noneOrAbove, lastHeads, entryMatches, firstMatch, entryApplies, anyEntryApplies};
-ghost use Rattle.definition.specs.ProvisionalCache.{survivors};
+ghost use Rattle.definition.specs.Lookup.{noneOrAbove, entryMatches, entryApplies, anyEntryApplies};
 ghost use Rattle.layout.specs.Blocks.{headsSize};
 ghost use Rattle.layout.specs.Frame.{headsStart};
-ghost use Rattle.layout.specs.Entry.{entryOf};
+ghost use Rattle.layout.specs.Entry.{entryHeadsStart, entryOf};
 ghost use Rattle.layout.specs.Work.{entryStart, stackOf, entriesOf};
-ghost use Rattle.stack.specs.Bytes.{FrameBytes, GraphBytes, frameBytes, frameAt};
-ghost use Rattle.provisional_cache.specs.Entries.{EntryBytes, entryBytes, entryFound, entryOn, FramesKept, Compacted};
-ghost use Rattle.provisional_cache.specs.Inserts.{Inserted};
+ghost use Rattle.stack.specs.Bytes.{GraphBytes, frameBytes, frameAt};
+ghost use Rattle.provisional_cache.specs.Entries.{EntryBytes, entryBytes, entryOn};
+ghost use Rattle.provisional_cache.specs.Matches.{lowestHead, hidden, FirstMatch};
+ghost use Rattle.provisional_cache.specs.Reruns.{Compacted, Cleared};
+ghost use Rattle.provisional_cache.specs.Inserts.{pathFromHighest, Appended, Inserted};
 
 pub mod entry;
 
@@ -36,70 +34,68 @@ pub fn entry_at(graph: &[u8], goals: usize, i: usize) -> &[u8]
     requires { ⌜ GraphBytes goals (now graph) × (i < 2 * goals) ⌝ }
     ensures { λ r. ⌜ now r ≡ entryBytes goals i (now (graph .entry)) ⌝ }
 {
-    let a = offsets::entry_start(goals, i);
-    let e = a + offsets::entry_size(goals);
-    &graph[a..e]
-}
-
-// The block of heads of a frame.
-pub fn frame_heads(frame: &[u8], goals: usize) -> &[u8]
-    requires { ⌜ FrameBytes goals (now frame) ⌝ }
-    ensures { λ r. ⌜ now r ≡ region headsStart (headsSize goals) (now (frame .entry)) ⌝ }
-{
-    let e = 40 + offsets::heads_size(goals);
-    &frame[40..e]
+    let start = offsets::entry_start(goals, i);
+    let end = start + offsets::entry_size(goals);
+    &graph[start..end]
 }
 
 // is_none_or(|lowest| lowest > head), of the lowest head of the top frame
 fn none_or_above(graph: &[u8], goals: usize, height: usize, head: usize) -> bool
     requires { ⌜ GraphBytes goals (now graph) × (height ≤ goals) ⌝ }
-    ensures { λ r. ⌜ r ≡ noneOrAbove (optLowestIndex (lastHeads (stackOf goals height (now (graph .entry))))) head ⌝ }
+    ensures { λ r. ⌜ r ≡ noneOrAbove (lowestHead goals height (now (graph .entry))) head ⌝ }
 {
     if height == 0 {
         return true;
     }
-    let hs = frame_heads(stack::frame_at(graph, goals, height - 1), goals);
+    let hs = frame::heads(stack::frame_at(graph, goals, height - 1), goals);
     if heads::is_empty(hs, goals) {
         return true;
     }
     head < bits::lowest(heads::mask(hs, goals))
 }
 
-// Whether the entry encountered overflow and is not to be used for that.
-fn is_hidden(e: &[u8], graph: &[u8], goals: usize, height: usize, head: usize) -> bool
-    requires { ⌜ EntryBytes goals (now e) × (GraphBytes goals (now graph) × (height ≤ goals)) ⌝ }
-    ensures { λ r. ⌜ r ≡ ((entryOf goals (now (e .entry))) .encounteredOverflow && noneOrAbove (optLowestIndex (lastHeads (stackOf goals height (now (graph .entry))))) head) ⌝ }
+// Whether the entry met overflow and is hidden for that. After an overflow a slot of the
+// global cache may lean on goals that its nested goals do not name, and `any_applies` cannot
+// look for them. So such an entry answers only inside its own cycle: where the top frame
+// depends on the entry's highest head already, or on one below it.
+fn is_hidden(entry: &[u8], graph: &[u8], goals: usize, height: usize, head: usize) -> bool
+    requires { ⌜ EntryBytes goals (now entry) × (GraphBytes goals (now graph) × (height ≤ goals)) ⌝ }
+    ensures { λ r. ⌜ r ≡ hidden goals height (now (graph .entry)) head (entryOf goals (now (entry .entry))) ⌝ }
 {
-    if entry::encountered_overflow(e, goals) {
+    if entry::encountered_overflow(entry, goals) {
         return none_or_above(graph, goals, height, head);
     }
     false
 }
 
-// Whether the entry answers the goal as it is reached here.
+// Whether the entry answers the goal as it is reached here: its result is right only for
+// paths of one kind from its highest head to the goal.
 fn is_match(
-    e: &[u8],
+    entry: &[u8],
     graph: &[u8],
     goals: usize,
     height: usize,
     goal: usize,
     step: PathKind,
 ) -> bool
-    requires { ⌜ EntryBytes goals (now e) × (GraphBytes goals (now graph) × (height ≤ goals)) ⌝ }
-    ensures { λ r. ⌜ r ≡ entryMatches (stackOf goals height (now (graph .entry))) goal step (entryOf goals (now (e .entry))) ⌝ }
+    requires { ⌜ EntryBytes goals (now entry) × (GraphBytes goals (now graph) × (height ≤ goals)) ⌝ }
+    ensures { λ r. ⌜ r
+        ≡ entryMatches (stackOf goals height (now (graph .entry))) goal step (entryOf goals (now (entry .entry))) ⌝ }
 {
-    if entry::input(e, goals) != goal {
+    if entry::input(entry, goals) != goal {
         return false;
     }
-    let head = entry::highest_head(e, goals);
-    if is_hidden(e, graph, goals, height, head) {
+    let head = entry::highest_head(entry, goals);
+    if is_hidden(entry, graph, goals, height, head) {
         return false;
     }
-    let path = entry::path_from_head(e, goals);
+    let path = entry::path_from_head(entry, goals);
     path.same(stack::cycle_path_kind(graph, goals, height, step, head))
 }
 
-// The first of the entries that answers the goal, or their number where none does.
+// The first of the entries that answers the goal, or their number where none does. Entries
+// of one goal under different heads may all fit; which one is taken decides what the parent
+// learns, so it is the one that was inserted first, as in mod.rs.
 pub fn first_match(
     graph: &[u8],
     goals: usize,
@@ -109,12 +105,12 @@ pub fn first_match(
     step: PathKind,
 ) -> usize
     requires { ⌜ GraphBytes goals (now graph) × ((height ≤ goals) × (entries ≤ 2 * goals)) ⌝ }
-    ensures { λ r. ⌜ (r ≤ entries) × (entryFound goals entries r (now (graph .entry)) ≡ firstMatch (stackOf goals height (now (graph .entry))) goal step (entriesOf goals entries (now (graph .entry)))) ⌝ }
+    ensures { λ r. ⌜ FirstMatch goals height entries goal step (now (graph .entry)) r ⌝ }
 {
     let mut i: usize = 0;
     while i < entries {
-        let e = entry_at(graph, goals, i);
-        if is_match(e, graph, goals, height, goal, step) {
+        let entry = entry_at(graph, goals, i);
+        if is_match(entry, graph, goals, height, goal, step) {
             return i;
         }
         i = i + 1;
@@ -122,29 +118,32 @@ pub fn first_match(
     entries
 }
 
-// Whether the entry would apply to one of the nested goals.
+// Whether the entry would apply to one of the nested goals. One that met overflow would not:
+// it is hidden outside its cycle.
 fn applies(
-    e: &[u8],
+    entry: &[u8],
     graph: &[u8],
     goals: usize,
     height: usize,
     step: PathKind,
     nested: &[u8],
 ) -> bool
-    requires { ⌜ EntryBytes goals (now e) × (GraphBytes goals (now graph) × (height ≤ goals)) ⌝ }
-    ensures { λ r. ⌜ r ≡ entryApplies (stackOf goals height (now (graph .entry))) step (now (nested .entry)) (entryOf goals (now (e .entry))) ⌝ }
+    requires { ⌜ EntryBytes goals (now entry) × (GraphBytes goals (now graph) × (height ≤ goals)) ⌝ }
+    ensures { λ r. ⌜ r
+        ≡ entryApplies (stackOf goals height (now (graph .entry))) step (now (nested .entry))
+        (entryOf goals (now (entry .entry))) ⌝ }
 {
-    let paths = buffer::get(nested, entry::input(e, goals));
+    let paths = buffer::get(nested, entry::input(entry, goals));
     if paths == 0 {
         return false;
     }
-    if entry::encountered_overflow(e, goals) {
+    if entry::encountered_overflow(entry, goals) {
         return false;
     }
-    let head = entry::highest_head(e, goals);
+    let head = entry::highest_head(entry, goals);
     let here = stack::cycle_path_kind(graph, goals, height, step, head);
     let full = PathsToNested { bits: paths }.extend_with(here);
-    full.contains(entry::path_from_head(e, goals))
+    full.contains(entry::path_from_head(entry, goals))
 }
 
 // Whether one of the entries would apply to one of the nested goals.
@@ -157,12 +156,14 @@ pub fn any_applies(
     nested: &[u8],
 ) -> bool
     requires { ⌜ GraphBytes goals (now graph) × ((height ≤ goals) × (entries ≤ 2 * goals)) ⌝ }
-    ensures { λ r. ⌜ r ≡ anyEntryApplies (stackOf goals height (now (graph .entry))) step (now (nested .entry)) (entriesOf goals entries (now (graph .entry))) ⌝ }
+    ensures { λ r. ⌜ r
+        ≡ anyEntryApplies (stackOf goals height (now (graph .entry))) step (now (nested .entry))
+        (entriesOf goals entries (now (graph .entry))) ⌝ }
 {
     let mut i: usize = 0;
     while i < entries {
-        let e = entry_at(graph, goals, i);
-        if applies(e, graph, goals, height, step, nested) {
+        let entry = entry_at(graph, goals, i);
+        if applies(entry, graph, goals, height, step, nested) {
             return true;
         }
         i = i + 1;
@@ -173,7 +174,8 @@ pub fn any_applies(
 // Entry `from` takes the place of entry `to`, which does not come after it.
 fn move_entry(graph: &mut [u8], goals: usize, from: usize, to: usize)
     requires { ⌜ GraphBytes goals (now graph) × ((to ≤ from) × (from < 2 * goals)) ⌝ }
-    ensures { λ _. ⌜ now (graph .exit) ≡ overwrite (now (graph .entry)) (entryStart goals to) (entryBytes goals from (now (graph .entry))) ⌝ }
+    ensures { λ _. ⌜ now (graph .exit)
+        ≡ overwrite (now (graph .entry)) (entryStart goals to) (entryBytes goals from (now (graph .entry))) ⌝ }
 {
     if from == to {
         return;
@@ -196,10 +198,12 @@ pub fn keep_if(graph: &mut [u8], goals: usize, keep: bool, i: usize, kept: usize
     kept + 1
 }
 
-// clear_dependent_provisional_results_for_rerun: how many entries are left
+// clear_dependent_provisional_results_for_rerun: how many entries are left. The frame at
+// index `rerun` has a new provisional result, so that entries that were given the old one are
+// wrong. An entry that only came by the frame, and used no result of it, is kept.
 pub fn clear_for_rerun(graph: &mut [u8], goals: usize, rerun: usize, entries: usize) -> usize
     requires { ⌜ GraphBytes goals (now graph) × ((rerun < goals) × (entries ≤ 2 * goals)) ⌝ }
-    ensures { λ r. ⌜ (r ≤ entries) × ((entriesOf goals r (now (graph .exit)) ≡ survivors rerun (entriesOf goals entries (now (graph .entry)))) × FramesKept goals (now (graph .entry)) (now (graph .exit))) ⌝ }
+    ensures { λ r. ⌜ Cleared goals rerun entries (now (graph .entry)) (now (graph .exit)) r ⌝ }
 {
     let mut kept: usize = 0;
     let mut i: usize = 0;
@@ -226,10 +230,12 @@ fn copy_up(s: &mut [u8], from: usize, to: usize, n: usize)
 // The heads of the frame at index `height` become those of entry i.
 fn copy_heads(graph: &mut [u8], goals: usize, height: usize, i: usize)
     requires { ⌜ GraphBytes goals (now graph) × ((height < goals) × (i < 2 * goals)) ⌝ }
-    ensures { λ _. ⌜ now (graph .exit) ≡ overwrite (now (graph .entry)) (entryStart goals i + 8) (region headsStart (headsSize goals) (frameBytes goals height (now (graph .entry)))) ⌝ }
+    ensures { λ _. ⌜ now (graph .exit)
+        ≡ overwrite (now (graph .entry)) (entryStart goals i + entryHeadsStart)
+        (region headsStart (headsSize goals) (frameBytes goals height (now (graph .entry)))) ⌝ }
 {
-    let a = offsets::frame_start(goals, height) + 40;
-    let b = offsets::entry_start(goals, i) + 8;
+    let a = offsets::frame_start(goals, height) + offsets::FRAME_HEADS;
+    let b = offsets::entry_start(goals, i) + offsets::ENTRY_HEADS;
     copy_up(graph, a, b, offsets::heads_size(goals));
 }
 
@@ -245,20 +251,22 @@ fn write_entry(
     answer: Answer,
 )
     requires { ⌜ GraphBytes goals (now graph) × ((height < goals) × ((i < 2 * goals) × (goal < 256))) ⌝ }
-    ensures { λ _. ⌜ (entriesOf goals (i + 1) (now (graph .exit)) ≡ entriesOf goals i (now (graph .entry)) ++ (entryOn goal overflow ((frameAt goals height (now (graph .entry))) .heads) path answer ∷ [])) × FramesKept goals (now (graph .entry)) (now (graph .exit)) ⌝ }
+    ensures { λ _. ⌜ Appended goals i
+        (entryOn goal overflow ((frameAt goals height (now (graph .entry))) .heads) path answer)
+        (now (graph .entry)) (now (graph .exit)) ⌝ }
 {
     copy_heads(graph, goals, height, i);
-    let a = offsets::entry_start(goals, i);
-    let e = a + offsets::entry_size(goals);
-    entry::start(&mut graph[a..e], goals, goal, overflow, path, answer);
+    let start = offsets::entry_start(goals, i);
+    let end = start + offsets::entry_size(goals);
+    entry::start(&mut graph[start..end], goals, goal, overflow, path, answer);
 }
 
 // The kind of the path from the highest head of the frame at index `height` to it.
 fn path_from_head(graph: &[u8], goals: usize, height: usize, step: PathKind) -> PathKind
     requires { ⌜ GraphBytes goals (now graph) × (height < goals) ⌝ }
-    ensures { λ r. ⌜ r ≡ cyclePathKind (stackOf goals height (now (graph .entry))) step (highestIndex ((frameAt goals height (now (graph .entry))) .heads)) ⌝ }
+    ensures { λ r. ⌜ r ≡ pathFromHighest goals height step (now (graph .entry)) ⌝ }
 {
-    let hs = frame_heads(stack::frame_at(graph, goals, height), goals);
+    let hs = frame::heads(stack::frame_at(graph, goals, height), goals);
     let highest = heads::highest(hs, goals);
     stack::cycle_path_kind(graph, goals, height, step, highest)
 }
@@ -276,7 +284,8 @@ pub fn insert(
     answer: Answer,
 ) -> Insertion
     requires { ⌜ GraphBytes goals (now graph) × ((height < goals) × (goal < 256)) ⌝ }
-    ensures { λ r. ⌜ Inserted goals height entries goal step overflow answer (now (graph .entry)) (now (graph .exit)) r ⌝ }
+    ensures { λ r. ⌜ Inserted goals height entries goal step overflow answer
+        (now (graph .entry)) (now (graph .exit)) r ⌝ }
 {
     if 2 * goals <= entries {
         return Insertion::Full;

@@ -19,16 +19,12 @@ use Rattle.definition.specs.Usages.{noUsages, isEmpty, isSingle}
 use Rattle.definition.specs.Answers.{sameAnswer, isAmbiguous}
 use Rattle.definition.specs.Heads.{CycleHeads, optHighestIndex, headsEmpty, highestIndex, usagesAt, pathsAt, removeHead, forEachHead}
 use Rattle.definition.specs.Stack.{Stack, Frame, cyclePathKind}
-use Rattle.definition.specs.Graph.{Entry}
+use Rattle.definition.specs.Graph.{Entry, withEntryHeads, withPathFromHead}
 use Rattle.definition.specs.ProvisionalCache.{unusedHead, headThrough, pathsKeepKind, reasonKeeps, rebasedHeads, underNewHead, rebaseEntry}
-use Rattle.stack.specs.Bytes.{frameAt}
-use Rattle.provisional_cache.specs.Entries.{entryAt, withPath}
-use Rattle.rebase.specs.Rebased.{gainedHead, gainHead, withHeads, underHeads, keptEntry, OthersKept}
-use Rattle.rebase.proofs.Writes.{frame-after}
-
--- ---- `entry::extend_path`
-pub path-extended : (e n : Entry) (before after kind : PathKind) → n ≡ withPath e after → after ≡ extend before kind → before ≡ e .pathFromHead → n ≡ withPath e (extend (e .pathFromHead) kind)
-path-extended e n before after kind is is-after is-before = is ∙ ap (withPath e) (is-after ∙ ap (λ (x : PathKind). extend x kind) is-before)
+use Rattle.provisional_cache.specs.Entries.{entryAt, withoutHead}
+use Rattle.rebase.specs.Heads.{gainedHead, gainHead, withGained, gainedEntry, replacedEntry}
+use Rattle.rebase.specs.Rebased.{underHeads, keptEntry, EntryWritten}
+use Rattle.rebase.proofs.Writes.{others-then, frame-after}
 
 -- ---- `gained`
 module _ (used : Bool) (ep : ℕ) (head : CycleHead) (paths : ℕ) where
@@ -39,12 +35,13 @@ module _ (used : Bool) (ep : ℕ) (head : CycleHead) (paths : ℕ) where
   gained-unused t is u is-u = (λ i. record { paths = is i; usages = is-u i }) ∙ sym (ap (λ (x : Bool). gainedHead x ep head) t)
 
 -- ---- `replace_head`: the head is taken out, then the heads of the popped frame are gained
-pub replaced : (goals popped k : ℕ) (used : Bool) (ep : ℕ) (old mid new : List ℕ) → popped < goals → entryAt goals k mid ≡ withHeads (entryAt goals k old) (removeHead ((entryAt goals k old) .heads) popped) → OthersKept goals k old mid
-    → entryAt goals k new ≡ withHeads (entryAt goals k mid) (forEachHead (gainHead used ep) ((entryAt goals k mid) .heads) ((frameAt goals popped mid) .heads))
-    → entryAt goals k new ≡ withHeads (entryAt goals k old) (forEachHead (gainHead used ep) (removeHead ((entryAt goals k old) .heads) popped) ((frameAt goals popped old) .heads))
-replaced goals popped k used ep old mid new lt first others second =
-    second
-    ∙ ap₂ (λ (e : Entry) (f : Frame). withHeads e (forEachHead (gainHead used ep) (e .heads) (f .heads))) first (frame-after goals k old mid others popped lt)
+pub replaced : (goals popped k : ℕ) (used : Bool) (ep : ℕ) (old mid new : List ℕ) → popped < goals → EntryWritten goals k (withoutHead (entryAt goals k old) popped) old mid
+    → EntryWritten goals k (gainedEntry goals popped k used ep mid) mid new → EntryWritten goals k (replacedEntry goals popped k used ep old) old new
+replaced goals popped k used ep old mid new lt first second =
+    record {
+      entry = second .entry ∙ ap₂ (λ (e : Entry) (f : Frame). withGained used ep e (f .heads)) (first .entry) (frame-after goals k old mid (first .others) popped lt);
+      others = others-then goals k old mid new (first .others) (second .others);
+    }
 
 -- ---- `reason_keeps`
 module _ (reason : RebaseReason) (kind result : Answer) (u : HeadUsages) (is : reason ≡ Ambiguity kind) (t : Bool) (is-t : t ≡ isAmbiguous result) where
@@ -98,9 +95,9 @@ module _ (s : Stack) (p : Frame) (reason : RebaseReason) (e : Entry) (popped : �
     same = ap₂ (λ (x : HeadUsages) (y : ℕ). underHeads e (rebasedHeads s p reason e x y)) is-u is-ep
 
     module _ (t : Bool) (is-t : t ≡ isEmpty u) where
-      pub heads-unused : t ≡ true → (n : Entry) → n ≡ withHeads e (forEachHead (gainHead false ep) (removeHead (e .heads) popped) (p .heads)) → some n ≡ underHeads e (rebasedHeads s p reason e u0 ep0)
+      pub heads-unused : t ≡ true → (n : Entry) → n ≡ withEntryHeads e (forEachHead (gainHead false ep) (removeHead (e .heads) popped) (p .heads)) → some n ≡ underHeads e (rebasedHeads s p reason e u0 ep0)
       heads-unused now n is =
-          ap some (is ∙ ap (λ (x : ℕ). withHeads e (forEachHead unusedHead (removeHead (e .heads) x) (p .heads))) (sym high))
+          ap some (is ∙ ap (λ (x : ℕ). withEntryHeads e (forEachHead unusedHead (removeHead (e .heads) x) (p .heads))) (sym high))
           ∙ sym (ap (λ (x : Bool). underHeads e (headsBy x stay)) now)
           ∙ by t stay is-t refl ∙ same
 
@@ -108,15 +105,15 @@ module _ (s : Stack) (p : Frame) (reason : RebaseReason) (e : Entry) (popped : �
         pub heads-dropped : not v ≡ true → none ≡ underHeads e (rebasedHeads s p reason e u0 ep0)
         heads-dropped d = sym (ap₂ (λ (x y : Bool). underHeads e (headsBy x y)) now (not-true v d)) ∙ by t v is-t is-v ∙ same
 
-        pub heads-through : not v ≡ false → (n : Entry) → n ≡ withHeads e (forEachHead (gainHead true ep) (removeHead (e .heads) popped) (p .heads)) → some n ≡ underHeads e (rebasedHeads s p reason e u0 ep0)
+        pub heads-through : not v ≡ false → (n : Entry) → n ≡ withEntryHeads e (forEachHead (gainHead true ep) (removeHead (e .heads) popped) (p .heads)) → some n ≡ underHeads e (rebasedHeads s p reason e u0 ep0)
         heads-through d n is =
-            ap some (is ∙ ap (λ (x : ℕ). withHeads e (forEachHead (headThrough ep) (removeHead (e .heads) x) (p .heads))) (sym high))
+            ap some (is ∙ ap (λ (x : ℕ). withEntryHeads e (forEachHead (headThrough ep) (removeHead (e .heads) x) (p .heads))) (sym high))
             ∙ sym (ap₂ (λ (x y : Bool). underHeads e (headsBy x y)) now (not-false v d)) ∙ by t v is-t is-v ∙ same
 
 -- ---- `rebase_path`
 module _ (s : Stack) (p : Frame) (e : Entry) where
   abbrev newPath : ℕ → Entry
-  newPath i = withPath e (extend (e .pathFromHead) (cyclePathKind s (p .stepKindFromParent) i))
+  newPath i = withPathFromHead e (extend (e .pathFromHead) (cyclePathKind s (p .stepKindFromParent) i))
 
   abbrev under : Option ℕ → Option Entry
   under o = elim o [ none ↦ none | some i ↦ some (newPath i) ]
@@ -132,7 +129,7 @@ module _ (s : Stack) (p : Frame) (e : Entry) where
         go none q = sym (ap under q)
         go (some i) q = let x = empty-is (some i) q in let z : _≡_ {A = ℕ} 0 1 = cc in absurd (omega arith)
 
-    pub path-some : t ≡ false → (i : ℕ) → i ≡ highestIndex hs → (k : PathKind) → k ≡ cyclePathKind s (p .stepKindFromParent) i → (n : Entry) → n ≡ withPath e (extend (e .pathFromHead) k)
+    pub path-some : t ≡ false → (i : ℕ) → i ≡ highestIndex hs → (k : PathKind) → k ≡ cyclePathKind s (p .stepKindFromParent) i → (n : Entry) → n ≡ withPathFromHead e (extend (e .pathFromHead) k)
         → some n ≡ underNewHead s p e (e .heads)
     path-some now i is-i k is-k n is-n = go (optHighestIndex (e .heads)) refl
       where
@@ -142,7 +139,7 @@ module _ (s : Stack) (p : Frame) (e : Entry) where
         go : (o : Option ℕ) → optHighestIndex (e .heads) ≡ o → some n ≡ under (optHighestIndex (e .heads))
         go none q = let x = empty-is none q in let z : _≡_ {A = ℕ} 0 1 = cc in absurd (omega arith)
         go (some j) q =
-            ap some (is-n ∙ ap (λ (x : PathKind). withPath e (extend (e .pathFromHead) x)) (is-k ∙ ap (cyclePathKind s (p .stepKindFromParent)) (high (some j) q)))
+            ap some (is-n ∙ ap (λ (x : PathKind). withPathFromHead e (extend (e .pathFromHead) x)) (is-k ∙ ap (cyclePathKind s (p .stepKindFromParent)) (high (some j) q)))
             ∙ sym (ap under q)
 
 -- ---- `rebase_entry`
@@ -175,7 +172,7 @@ module _ (s : Stack) (p : Frame) (reason : RebaseReason) (e : Entry) (popped : �
 
           go : (o : Option CycleHeads) → rebased popped ≡ o → none ≡ then (rebased popped)
           go none q = sym (ap then q)
-          go (some hs) q = absurd (Option·none-ne-some (withHeads e hs) (gone ∙ ap (underHeads e) q))
+          go (some hs) q = absurd (Option·none-ne-some (withEntryHeads e hs) (gone ∙ ap (underHeads e) q))
 
       pub entry-under : not keep ≡ false → (o : Option Entry) (s1 : Stack) (p1 : Frame) → s1 ≡ s → p1 ≡ p → o ≡ underNewHead s1 p1 mid (mid .heads) → o ≡ rebaseEntry s p reason e
       entry-under d o s1 p1 is-s is-p is-o = is-o ∙ ap₂ (λ (x : Stack) (y : Frame). underNewHead x y mid (mid .heads)) is-s is-p ∙ go (rebased popped) refl ∙ opened
@@ -187,5 +184,5 @@ module _ (s : Stack) (p : Frame) (reason : RebaseReason) (e : Entry) (popped : �
           go none q = absurd (Option·some-ne-none mid (stays ∙ ap (underHeads e) q))
           go (some hs) q =
               let x = stays ∙ ap (underHeads e) q in
-              let m : mid ≡ withHeads e hs = cc in
+              let m : mid ≡ withEntryHeads e hs = cc in
               ap (λ (y : Entry). underNewHead s p y (y .heads)) m ∙ sym (ap then q)

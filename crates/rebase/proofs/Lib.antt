@@ -3,4 +3,3 @@ pub mod Writes
 pub mod Loops
 pub mod Entries
 pub mod Rounds
-pub mod Outcomes

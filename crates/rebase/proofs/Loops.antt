@@ -11,16 +11,18 @@ use lib.ListN.{length, getD, set, replicate}
 use Rattle.definition.specs.declared.paths.PathKind.{PathKind}
 use Rattle.definition.specs.declared.heads.CycleHead.{CycleHead}
 use Rattle.definition.specs.Paths.{extend, iterPaths}
-use Rattle.definition.specs.Heads.{CycleHeads, joinHead, insertHead, forEachHead}
+use Rattle.definition.specs.Heads.{CycleHeads, joinHead, forEachHead}
 use Rattle.definition.specs.Stack.{Stack, Frame, cyclePathKind}
-use Rattle.definition.specs.Graph.{Entry}
+use Rattle.definition.specs.Graph.{Entry, withEntryHeads}
 use Rattle.definition.specs.ProvisionalCache.{everyPhKeeps, pathsKeepKind}
 use Rattle.bits.specs.Masks.{flags, firstPlace, placeOr}
 use Rattle.layout.specs.Blocks.{present}
 use Rattle.layout.proofs.Marks.{keep, Within, start-all, start-within, turn-small, turn-head, turn-kept, turn-rest, turn-within, end-none, each-one, each-clear}
 use Rattle.stack.specs.Bytes.{frameAt}
-use Rattle.provisional_cache.specs.Entries.{entryAt}
-use Rattle.rebase.specs.Rebased.{gainedHead, gainHead, withHeads, OthersKept}
+use Rattle.provisional_cache.specs.Entries.{entryAt, withJoinedHead}
+use Rattle.rebase.specs.Popped.{PoppedHead}
+use Rattle.rebase.specs.Heads.{gainedHead, gainHead, gainedEntry}
+use Rattle.rebase.specs.Rebased.{OthersKept, EntryWritten}
 use Rattle.rebase.proofs.Writes.{others-same, others-then, frame-after, popped-length}
 
 -- ---- `paths_keep_kind`
@@ -104,16 +106,13 @@ module _ (goals popped k : ℕ) (used : Bool) (ep : ℕ) (old : List ℕ) where
   abbrev cs : CycleHeads
   cs = (frameAt goals popped old) .heads
 
-  abbrev whole : CycleHeads
-  whole = forEachHead (gainHead used ep) ((entryAt goals k old) .heads) cs
-
   -- the entry so far, and the heads that are left, make the whole
   pub record Gaining (new : List ℕ) (left : ℕ) : Type 0 where
     pub same-length : length new ≡ length old
     pub small : left < 2 ^ 64
     pub within : Within left ((frameAt goals popped old) .heads)
     pub others : OthersKept goals k old new
-    pub entry : entryAt goals k new ≡ withHeads (entryAt goals k old) ((entryAt goals k new) .heads)
+    pub entry : entryAt goals k new ≡ withEntryHeads (entryAt goals k old) ((entryAt goals k new) .heads)
     pub rest : forEachHead (gainHead used ep) ((entryAt goals k new) .heads) (keep (flags 64 left) ((frameAt goals popped old) .heads)) ≡ forEachHead (gainHead used ep) ((entryAt goals k old) .heads) ((frameAt goals popped old) .heads)
 
   pub gaining-start : (left n : ℕ) → left < 2 ^ 64 → flags 64 left ≡ present cs ++ replicate n false → Gaining old left
@@ -131,8 +130,8 @@ module _ (goals popped k : ℕ) (used : Bool) (ep : ℕ) (old : List ℕ) where
     pub gaining-small : i < goals
     gaining-small = turn-small cs left i pos (inv .small) (inv .within) is goals (popped-length goals popped old)
 
-    module _ (lt : popped < goals) (r head : CycleHead) (is-r : (c : CycleHead) → getD ((frameAt goals popped now) .heads) i none ≡ some c → r ≡ c) (is-head : head ≡ gainedHead used ep r) (new : List ℕ)
-        (joined : entryAt goals k new ≡ withHeads (entryAt goals k now) (insertHead ((entryAt goals k now) .heads) i (head .paths) (head .usages))) where
+    module _ (lt : popped < goals) (r head : CycleHead) (is-r : (c : CycleHead) → PoppedHead goals popped now i c → r ≡ c) (is-head : head ≡ gainedHead used ep r) (new : List ℕ)
+        (joined : EntryWritten goals k (withJoinedHead (entryAt goals k now) i head) now new) where
       abbrev hs : CycleHeads
       hs = (entryAt goals k now) .heads
 
@@ -141,12 +140,12 @@ module _ (goals popped k : ℕ) (used : Bool) (ep : ℕ) (old : List ℕ) where
 
       new-heads : (c : CycleHead) → getD cs i none ≡ some c → (entryAt goals k new) .heads ≡ set hs i (some (gainHead used ep c (getD hs i none)))
       new-heads c e =
-          ap (λ (x : Entry). x .heads) joined
+          ap (λ (x : Entry). x .heads) (joined .entry)
           ∙ ap (λ (x : CycleHead). set hs i (some (joinHead (getD hs i none) (x .paths) (x .usages))))
           (is-head ∙ ap (gainedHead used ep) (is-r c (ap (λ (l : CycleHeads). getD l i none) same-heads ∙ e)))
 
-      pub gaining-next : OthersKept goals k now new → length new ≡ length now → (left′ : ℕ) → flags 64 left′ ≡ set (flags 64 left) (placeOr 64 (firstPlace (flags 64 left))) false → left′ < left → Gaining new left′
-      gaining-next others len left′ is-left less =
+      pub gaining-next : length new ≡ length now → (left′ : ℕ) → flags 64 left′ ≡ set (flags 64 left) (placeOr 64 (firstPlace (flags 64 left))) false → left′ < left → Gaining new left′
+      gaining-next len left′ is-left less =
           let was = inv .small in
           let t = turn-head cs left i pos (inv .small) (inv .within) is in
           let ms : CycleHeads = keep (flags 64 left) cs in
@@ -154,17 +153,17 @@ module _ (goals popped k : ℕ) (used : Bool) (ep : ℕ) (old : List ℕ) where
             same-length = len ∙ inv .same-length;
             small = omega arith;
             within = turn-within cs left i pos (inv .small) (inv .within) is left′ is-left;
-            others = others-then goals k old now new (inv .others) others;
+            others = others-then goals k old now new (inv .others) (joined .others);
             entry =
-                joined
-                ∙ ap₂ withHeads (inv .entry) (sym (ap (λ (x : Entry). x .heads) joined));
+                joined .entry
+                ∙ ap₂ withEntryHeads (inv .entry) (sym (ap (λ (x : Entry). x .heads) (joined .entry)));
             rest =
                 ap₂ (forEachHead (gainHead used ep)) (new-heads (t .0) (t .1)) (turn-rest cs left i pos (inv .small) (inv .within) is left′ is-left)
                 ∙ each-one (gainHead used ep) hs ms i (t .0) (turn-kept cs left i pos (inv .small) (inv .within) is ∙ t .1)
                 ∙ inv .rest;
           }
 
-  pub gaining-done : (now : List ℕ) (left : ℕ) → Gaining now left → left ≤ 0 → entryAt goals k now ≡ withHeads (entryAt goals k old) whole
+  pub gaining-done : (now : List ℕ) (left : ℕ) → Gaining now left → left ≤ 0 → entryAt goals k now ≡ gainedEntry goals popped k used ep old
   gaining-done now left inv h =
       inv .entry
-      ∙ ap (withHeads (entryAt goals k old)) (sym (each-clear (gainHead used ep) ((entryAt goals k now) .heads) (keep (flags 64 left) cs) (end-none cs left h)) ∙ inv .rest)
+      ∙ ap (withEntryHeads (entryAt goals k old)) (sym (each-clear (gainHead used ep) ((entryAt goals k now) .heads) (keep (flags 64 left) cs) (end-none cs left h)) ∙ inv .rest)

@@ -2,7 +2,7 @@
 use mathlib.Core.Path.{_≡_, refl, sym, ap, ap₂, _∙_}
 use mathlib.Core.Bool.{Bool, true, false}
 use mathlib.Core.Option.{Option, none, some}
-use mathlib.Core.List.{List, [], _∷_, _++_, append-nil, append-assoc}
+use mathlib.Core.List.{List, _∷_, _++_, append-nil, append-assoc}
 use Prim.Native.Nat.{ℕ, _+_, _*_, _≤_, _<_}
 use native.Mathlib.Omega.{arith}
 use lib.ListN.{length, drop}
@@ -13,10 +13,11 @@ use Rattle.definition.specs.ProvisionalCache.{rebaseEntry, rebaseEntries}
 use Rattle.layout.specs.Work.{stackOf, entriesOf}
 use Rattle.layout.proofs.Graphs.{no-entries}
 use Rattle.stack.specs.Bytes.{frameAt}
-use Rattle.provisional_cache.specs.Entries.{entryAt, FramesKept, keptOf, Compacted}
+use Rattle.provisional_cache.specs.Entries.{entryAt, FramesKept}
+use Rattle.provisional_cache.specs.Reruns.{keptOf, Compacted}
 use Rattle.provisional_cache.proofs.Loops.{frames-same, frames-then, rest-open, rest-none}
 use Rattle.provisional_cache.proofs.Writes.{frame-kept}
-use Rattle.rebase.specs.Rebased.{keptEntry, OthersKept}
+use Rattle.rebase.specs.Rebased.{keptEntry, EntryRebased, rebasedEntry}
 
 -- one entry of the rest
 abbrev first : Stack → Frame → RebaseReason → List Entry → Option Entry → List Entry
@@ -56,22 +57,22 @@ module _ (goals popped : ℕ) (reason : RebaseReason) (count : ℕ) (old : List 
       }
 
   pub rebasing-next : (now mid new : List ℕ) (kept k r : ℕ) (keep : Bool) → Rebasing now kept k → k < count → count ≤ 2 * goals → popped < goals
-      → keptEntry keep (entryAt goals k mid) ≡ rebaseEntry (stackOf goals popped now) (frameAt goals popped now) reason (entryAt goals k now) → OthersKept goals k now mid → length mid ≡ length now
+      → EntryRebased goals k (rebasedEntry goals popped reason k now) keep now mid → length mid ≡ length now
       → Compacted goals k kept keep mid new r → length new ≡ length mid → Rebasing new r (k + 1)
-  rebasing-next now mid new kept k r keep inv lt room under is others len1 made len2 =
+  rebasing-next now mid new kept k r keep inv lt room under is len1 made len2 =
       let k0 = inv .kept-few in
       let k1 = made .most in
       let es : List Entry = drop (k + 1) (entriesOf goals count now) in
-      let front = made .entries ∙ ap (λ (l : List Entry). l ++ keptOf keep (entryAt goals k mid)) (others .before kept k0) in
-      let back = made .rest count room ∙ others .behind count in
+      let front = made .entries ∙ ap (λ (l : List Entry). l ++ keptOf keep (entryAt goals k mid)) (is .others .before kept k0) in
+      let back = made .rest count room ∙ is .others .behind count in
       let is-s = inv .frames .stacks popped (omega arith) in
       let is-p = frame-kept goals old now popped (inv .frames) under in
-      let here = is ∙ ap₂ (λ (x : Stack) (y : Frame). rebaseEntry x y reason (entryAt goals k now)) is-s is-p in
+      let here = is .entry ∙ ap₂ (λ (x : Stack) (y : Frame). rebaseEntry x y reason (entryAt goals k now)) is-s is-p in
       record {
         kept-few = omega arith;
         few = omega arith;
         same-length = len2 ∙ len1 ∙ inv .same-length;
-        frames = frames-then goals old now new (inv .frames) (frames-then goals now mid new (others .frames) (made .frames));
+        frames = frames-then goals old now new (inv .frames) (frames-then goals now mid new (is .others .frames) (made .frames));
         entries =
             ap₂ (λ (x y : List Entry). x ++ rebaseEntries s p reason y) front back
             ∙ append-assoc (entriesOf goals kept now) (keptOf keep (entryAt goals k mid)) (rebaseEntries s p reason es)

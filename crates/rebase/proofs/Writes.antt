@@ -1,40 +1,27 @@
 -- What a write of entry k does to a graph.
 use mathlib.Core.Path.{_≡_, refl, sym, ap, _∙_, subst}
 use mathlib.Core.List.{List}
-use Prim.Native.Nat.{ℕ, _+_, _*_, _-_, _≤_, _<_}
+use Prim.Native.Nat.{ℕ, _+_, _*_, _<_}
 use native.Mathlib.Omega.{arith}
 use lib.ListN.{length}
 use Rattle.definition.specs.Graph.{Entry}
-use Rattle.definition.specs.Heads.{CycleHeads}
 use Rattle.buffer.specs.Regions.{region, overwrite}
 use Rattle.buffer.proofs.Tables.{record-whole}
 use Rattle.layout.specs.Blocks.{headsSize, headsOf, HeadsBlock}
 use Rattle.layout.specs.Entry.{entryHeadsStart, entrySize, entryOf}
 use Rattle.layout.specs.Frame.{headsStart, frameOf}
 use Rattle.layout.specs.Work.{entriesStart, entryStart, stackOf}
-use Rattle.layout.proofs.Frames.{length-heads, entry-heads}
+use Rattle.layout.proofs.Frames.{length-heads}
 use Rattle.layout.proofs.Graphs.{entry-room, entries-before, entries-behind}
 use Rattle.stack.specs.Bytes.{GraphBytes, frameBytes, frameAt}
+use Rattle.stack.proofs.Blocks.{heads-block}
 use Rattle.stack.proofs.Graph.{frame-bytes}
-use Rattle.stack.proofs.Parts.{part, returned, part-length, part-back}
-use Rattle.provisional_cache.specs.Entries.{EntryBytes, entryBytes, entryAt}
-use Rattle.provisional_cache.proofs.Entries.{entry-bytes, part-is, entry-back, entry-whole, heads-part, entry-heads-block, frame-heads-block}
+use Rattle.stack.proofs.Parts.{part, returned}
+use Rattle.provisional_cache.specs.Entries.{entryBytes, entryAt}
+use Rattle.provisional_cache.proofs.Entries.{entry-bytes, part-is, entry-back, entry-whole, entry-heads-block}
 use Rattle.provisional_cache.proofs.Loops.{frames-same, frames-then}
 use Rattle.provisional_cache.proofs.Writes.{frame-kept, frames-whole}
-use Rattle.rebase.specs.Rebased.{withHeads, OthersKept}
-
--- ---- the heads of one entry's bytes are written, in the n bytes from 8 on
-pub heads-written : (goals : ℕ) (bs : List ℕ) (n : ℕ) (ys : List ℕ) (f : CycleHeads → CycleHeads) → EntryBytes goals bs → n ≡ headsSize goals → length ys ≡ length (part bs 8 (8 + n))
-    → headsOf goals ys ≡ f (headsOf goals (part bs 8 (8 + n))) → entryOf goals (returned bs 8 (8 + n) ys) ≡ withHeads (entryOf goals bs) (f ((entryOf goals bs) .heads))
-unfolding entryOf
-heads-written goals bs n ys f b is-n kept e =
-    let long = b .long in
-    let fits : 8 + n ≤ length bs = omega arith in
-    let w : 8 + n - 8 ≡ n = omega arith in
-    let whole : length ys ≡ headsSize goals = part-length bs 8 (8 + n) ys (omega arith) fits kept ∙ w ∙ is-n in
-    ap (entryOf goals) (part-back bs 8 (8 + n) ys (omega arith) fits kept)
-    ∙ entry-heads goals bs long ys whole
-    ∙ ap (withHeads (entryOf goals bs)) (e ∙ ap (λ (l : List ℕ). f (headsOf goals l)) (heads-part bs 8 n (headsSize goals) is-n))
+use Rattle.rebase.specs.Rebased.{OthersKept, EntryWritten}
 
 -- ---- all but entry k
 pub others-same : (goals k : ℕ) (bs : List ℕ) → OthersKept goals k bs bs
@@ -64,20 +51,21 @@ module _ (goals : ℕ) (bs : List ℕ) (k a n : ℕ) (g : GraphBytes goals bs) (
   whole : length ys ≡ entrySize goals
   whole = entry-whole goals bs k a n g lt is-a is-n ys kept
 
-  pub entry-written : (f : Entry → Entry) → entryOf goals ys ≡ f (entryOf goals (part bs a (a + n))) → entryAt goals k (returned bs a (a + n) ys) ≡ f (entryAt goals k bs)
-  entry-written f e =
-      ap (entryAt goals k) back
-      ∙ record-whole (entryOf goals) (entrySize goals) (entriesStart goals) bs k ys whole (entry-room goals bs (g .long) k lt)
-      ∙ e ∙ ap (λ (l : List ℕ). f (entryOf goals l)) (part-is goals bs k a n g lt is-a is-n)
-
-  pub others-written : OthersKept goals k bs (returned bs a (a + n) ys)
-  others-written =
-      subst (OthersKept goals k bs) (sym back)
-      (record {
-        frames = frames-whole goals bs g k ys lt whole;
-        before = entries-before goals bs (g .long) k ys lt whole;
-        behind = entries-behind goals bs (g .long) k ys lt whole k (omega arith);
-      })
+  pub written : (f : Entry → Entry) → entryOf goals ys ≡ f (entryOf goals (part bs a (a + n))) → EntryWritten goals k (f (entryAt goals k bs)) bs (returned bs a (a + n) ys)
+  written f e =
+      record {
+        entry =
+            ap (entryAt goals k) back
+            ∙ record-whole (entryOf goals) (entrySize goals) (entriesStart goals) bs k ys whole (entry-room goals bs (g .long) k lt)
+            ∙ e ∙ ap (λ (l : List ℕ). f (entryOf goals l)) (part-is goals bs k a n g lt is-a is-n);
+        others =
+            subst (OthersKept goals k bs) (sym back)
+            (record {
+              frames = frames-whole goals bs g k ys lt whole;
+              before = entries-before goals bs (g .long) k ys lt whole;
+              behind = entries-behind goals bs (g .long) k ys lt whole k (omega arith);
+            });
+      }
 
 -- ---- blocks of heads in a graph
 pub popped-block : (goals popped : ℕ) (bs hs : List ℕ) → hs ≡ region headsStart (headsSize goals) (frameBytes goals popped bs) → headsOf goals hs ≡ (frameAt goals popped bs) .heads
@@ -89,7 +77,7 @@ unfolding entryOf
 entry-block goals k bs hs e = ap (headsOf goals) e
 
 pub popped-heads-block : (goals popped : ℕ) (bs hs : List ℕ) → GraphBytes goals bs → popped < goals → hs ≡ region headsStart (headsSize goals) (frameBytes goals popped bs) → HeadsBlock goals hs
-popped-heads-block goals popped bs hs g lt e = frame-heads-block goals (frameBytes goals popped bs) hs (frame-bytes goals bs (frameBytes goals popped bs) popped g lt refl) e
+popped-heads-block goals popped bs hs g lt e = heads-block goals (frameBytes goals popped bs) hs (frame-bytes goals bs (frameBytes goals popped bs) popped g lt refl) e
 
 pub entry-heads-at : (goals k : ℕ) (bs hs : List ℕ) → GraphBytes goals bs → k < 2 * goals → hs ≡ region entryHeadsStart (headsSize goals) (entryBytes goals k bs) → HeadsBlock goals hs
 entry-heads-at goals k bs hs g lt e = entry-heads-block goals (entryBytes goals k bs) hs (entry-bytes goals bs (entryBytes goals k bs) k g lt refl) e

@@ -1,1 +1,3 @@
+pub mod Popped
+pub mod Heads
 pub mod Rebased

@@ -1,6 +1,10 @@
 // rebase_provisional_cache_entries of mod.rs: an entry e whose highest head p, the frame
 // at index `popped`, leaves the stack. The heads of p are the h; ep, ph, hp and he are
 // paths between them.
+//
+// The result of e leans on p, and p leaned on its heads. With p gone, e is kept as if p were
+// evaluated again as a goal nested in e. So e takes over the heads of p: whoever uses e then
+// depends on them, and its result goes to no global cache before they are settled.
 use definition::answers::Answer;
 use definition::answers::RebaseReason;
 use definition::heads::CycleHead;
@@ -9,28 +13,28 @@ use definition::paths::PathsToNested;
 use definition::usages::HeadUsages;
 use layout::heads;
 use layout::offsets;
+use provisional_cache::entry;
+use stack::frame;
 ghost use mathlib.Core.Path.{_≡_};
-ghost use mathlib.Core.Bool.{false, _&&_};
+ghost use mathlib.Core.Bool.{false};
 ghost use mathlib.Core.List.{_++_};
-ghost use mathlib.Core.Option.{none, some};
 ghost use Prim.Native.Nat.{_-_, _*_, _≤_, _<_};
-ghost use lib.ListN.{getD, replicate};
+ghost use lib.ListN.{replicate};
 ghost use Rattle.definition.specs.declared.heads.CycleHead.{CycleHead};
-ghost use Rattle.definition.specs.Paths.{extend, iterPaths};
-ghost use Rattle.definition.specs.Heads.{usagesAt, pathsAt, removeHead, insertHead, forEachHead};
-ghost use Rattle.definition.specs.Stack.{cyclePathKind};
-ghost use Rattle.definition.specs.ProvisionalCache.{everyPhKeeps, pathsKeepKind, reasonKeeps, rebasedHeads, underNewHead, rebaseEntry, rebaseEntries};
+ghost use Rattle.definition.specs.Heads.{usagesAt, pathsAt};
+ghost use Rattle.definition.specs.ProvisionalCache.{reasonKeeps};
 ghost use Rattle.bits.specs.Masks.{flags};
 ghost use Rattle.buffer.specs.Regions.{region};
 ghost use Rattle.layout.specs.Blocks.{headsSize, present};
 ghost use Rattle.layout.specs.Entry.{entryHeadsStart};
 ghost use Rattle.layout.specs.Frame.{headsStart};
-ghost use Rattle.layout.specs.Work.{stackOf, entriesOf};
 ghost use Rattle.stack.specs.Bytes.{GraphBytes, frameBytes, frameAt};
-ghost use Rattle.provisional_cache.specs.Entries.{entryBytes, entryAt, withPath, FramesKept};
-ghost use Rattle.rebase.specs.Rebased.{gainedHead, gainHead, withHeads, underHeads, keptEntry, OthersKept};
+ghost use Rattle.provisional_cache.specs.Entries.{entryBytes, entryAt, withoutHead, withJoinedHead, withLongerPath};
+ghost use Rattle.rebase.specs.Popped.{PoppedHead, pathToPopped, headKeeps, headsKeep};
+ghost use Rattle.rebase.specs.Heads.{gainedHead, gainedEntry, replacedEntry, entryStays};
+ghost use Rattle.rebase.specs.Rebased.{EntryWritten, EntryRebased, Rebased};
+ghost use Rattle.rebase.specs.Rebased.{entryUnderHeads, entryUnderNewHead, rebasedEntry};
 
-mod entry;
 mod paths;
 
 // ---- the popped frame p
@@ -38,15 +42,17 @@ mod paths;
 // The block of the heads of p.
 fn popped_heads(graph: &[u8], goals: usize, popped: usize) -> &[u8]
     requires { ⌜ GraphBytes goals (now graph) × (popped < goals) ⌝ }
-    ensures { λ r. ⌜ now r ≡ region headsStart (headsSize goals) (frameBytes goals popped (now (graph .entry))) ⌝ }
+    ensures { λ r. ⌜ now r
+        ≡ region headsStart (headsSize goals) (frameBytes goals popped (now (graph .entry))) ⌝ }
 {
-    provisional_cache::frame_heads(stack::frame_at(graph, goals, popped), goals)
+    frame::heads(stack::frame_at(graph, goals, popped), goals)
 }
 
 // The indices of the heads of p.
 fn popped_mask(graph: &[u8], goals: usize, popped: usize) -> u64
     requires { ⌜ GraphBytes goals (now graph) × (popped < goals) ⌝ }
-    ensures { λ r. ⌜ flags 64 r ≡ present ((frameAt goals popped (now (graph .entry))) .heads) ++ replicate (64 - goals) false ⌝ }
+    ensures { λ r. ⌜ flags 64 r
+        ≡ present ((frameAt goals popped (now (graph .entry))) .heads) ++ replicate (64 - goals) false ⌝ }
 {
     heads::mask(popped_heads(graph, goals, popped), goals)
 }
@@ -54,7 +60,7 @@ fn popped_mask(graph: &[u8], goals: usize, popped: usize) -> u64
 // The head of p at index i, where there is one.
 fn popped_head(graph: &[u8], goals: usize, popped: usize, i: usize) -> CycleHead
     requires { ⌜ GraphBytes goals (now graph) × ((popped < goals) × (i < goals)) ⌝ }
-    ensures { λ r. ⌜ ((c : CycleHead) → getD ((frameAt goals popped (now (graph .entry))) .heads) i none ≡ some c → r ≡ c) ⌝ }
+    ensures { λ r. ⌜ ((c : CycleHead) → PoppedHead goals popped (now (graph .entry)) i c → r ≡ c) ⌝ }
 {
     heads::record(popped_heads(graph, goals, popped), goals, i)
 }
@@ -62,9 +68,9 @@ fn popped_head(graph: &[u8], goals: usize, popped: usize, i: usize) -> CycleHead
 // The kind of the path from the head at index i to p.
 fn path_to_popped(graph: &[u8], goals: usize, popped: usize, i: usize) -> PathKind
     requires { ⌜ GraphBytes goals (now graph) × (popped < goals) ⌝ }
-    ensures { λ r. ⌜ r ≡ cyclePathKind (stackOf goals popped (now (graph .entry))) ((frameAt goals popped (now (graph .entry))) .stepKindFromParent) i ⌝ }
+    ensures { λ r. ⌜ r ≡ pathToPopped goals popped (now (graph .entry)) i ⌝ }
 {
-    let step = stack::frame::step_kind(stack::frame_at(graph, goals, popped), goals);
+    let step = frame::step_kind(stack::frame_at(graph, goals, popped), goals);
     stack::cycle_path_kind(graph, goals, popped, step, i)
 }
 
@@ -80,17 +86,18 @@ fn head_keeps(
     i: usize,
 ) -> bool
     requires { ⌜ GraphBytes goals (now graph) × ((popped < goals) × (i < goals)) ⌝ }
-    ensures { λ r. ⌜ ((c : CycleHead) → getD ((frameAt goals popped (now (graph .entry))) .heads) i none ≡ some c
-        → r ≡ everyPhKeeps (cyclePathKind (stackOf goals popped (now (graph .entry))) ((frameAt goals popped (now (graph .entry))) .stepKindFromParent) i)
-        (extend (cyclePathKind (stackOf goals popped (now (graph .entry))) ((frameAt goals popped (now (graph .entry))) .stepKindFromParent) i) path) (iterPaths (eps .bits)) (iterPaths (c .paths))) ⌝ }
+    ensures { λ r. ⌜ ((c : CycleHead) → PoppedHead goals popped (now (graph .entry)) i c
+        → r ≡ headKeeps goals popped (now (graph .entry)) path (eps .bits) i c) ⌝ }
 {
     let hp = path_to_popped(graph, goals, popped, i);
-    let h = popped_head(graph, goals, popped, i);
-    let phs = PathsToNested { bits: h.paths };
+    let head = popped_head(graph, goals, popped, i);
+    let phs = PathsToNested { bits: head.paths };
     paths::every_ph_keeps(hp, hp.extend(path), eps, phs)
 }
 
-// Whether the paths from each head of p keep their kind.
+// Whether the paths from each head of p keep their kind. As a goal nested in e, p closes its
+// cycles by way of e. What a cycle is given depends on its kind: p would come to the same
+// result there only if each cycle by way of e has the kind that it had without e.
 fn paths_keep_kind(
     graph: &[u8],
     goals: usize,
@@ -99,7 +106,7 @@ fn paths_keep_kind(
     eps: PathsToNested,
 ) -> bool
     requires { ⌜ GraphBytes goals (now graph) × (popped < goals) ⌝ }
-    ensures { λ r. ⌜ r ≡ pathsKeepKind (stackOf goals popped (now (graph .entry))) ((frameAt goals popped (now (graph .entry))) .stepKindFromParent) path (eps .bits) 0 ((frameAt goals popped (now (graph .entry))) .heads) ⌝ }
+    ensures { λ r. ⌜ r ≡ headsKeep goals popped (now (graph .entry)) path (eps .bits) ⌝ }
 {
     let mut left = popped_mask(graph, goals, popped);
     while 0 < left {
@@ -112,7 +119,10 @@ fn paths_keep_kind(
     true
 }
 
-// Whether the reason lets an entry with this result and these usages of p stay.
+// Whether the reason lets an entry with this result and these usages of p stay. The entry was
+// given the provisional result of p, which is what p came to only at a fixpoint. At the first
+// one that was the initial result of a kind, so the entry must have used p in that kind alone.
+// Without a fixpoint an entry stays only where p is ambiguous, and it is so in the same way.
 fn reason_keeps(reason: RebaseReason, result: Answer, usages: HeadUsages) -> bool
     ensures { λ r. ⌜ r ≡ reasonKeeps reason result usages ⌝ }
 {
@@ -140,15 +150,14 @@ fn stays(
     eps: PathsToNested,
 ) -> bool
     requires { ⌜ GraphBytes goals (now graph) × ((popped < goals) × (k < 2 * goals)) ⌝ }
-    ensures { λ r. ⌜ r ≡ (pathsKeepKind (stackOf goals popped (now (graph .entry))) ((frameAt goals popped (now (graph .entry))) .stepKindFromParent) ((entryAt goals k (now (graph .entry))) .pathFromHead) (eps .bits) 0 ((frameAt goals popped (now (graph .entry))) .heads)
-        && reasonKeeps reason ((entryAt goals k (now (graph .entry))) .result) usages) ⌝ }
+    ensures { λ r. ⌜ r ≡ entryStays goals popped reason k (now (graph .entry)) usages (eps .bits) ⌝ }
 {
-    let e = provisional_cache::entry_at(graph, goals, k);
-    let path = provisional_cache::entry::path_from_head(e, goals);
+    let entry = provisional_cache::entry_at(graph, goals, k);
+    let path = entry::path_from_head(entry, goals);
     if !paths_keep_kind(graph, goals, popped, path, eps) {
         return false;
     }
-    reason_keeps(reason, provisional_cache::entry::result(e, goals), usages)
+    reason_keeps(reason, entry::result(entry, goals), usages)
 }
 
 // ---- entry k
@@ -156,9 +165,10 @@ fn stays(
 // The block of its heads.
 fn entry_heads(graph: &[u8], goals: usize, k: usize) -> &[u8]
     requires { ⌜ GraphBytes goals (now graph) × (k < 2 * goals) ⌝ }
-    ensures { λ r. ⌜ now r ≡ region entryHeadsStart (headsSize goals) (entryBytes goals k (now (graph .entry))) ⌝ }
+    ensures { λ r. ⌜ now r
+        ≡ region entryHeadsStart (headsSize goals) (entryBytes goals k (now (graph .entry))) ⌝ }
 {
-    provisional_cache::entry::heads(provisional_cache::entry_at(graph, goals, k), goals)
+    entry::heads(provisional_cache::entry_at(graph, goals, k), goals)
 }
 
 // How it used its head at index i.
@@ -182,31 +192,34 @@ fn head_paths(graph: &[u8], goals: usize, k: usize, i: usize) -> PathsToNested
 // Its head at index i is taken out.
 fn remove_head(graph: &mut [u8], goals: usize, k: usize, i: usize)
     requires { ⌜ GraphBytes goals (now graph) × ((k < 2 * goals) × (i < goals)) ⌝ }
-    ensures { λ _. ⌜ (entryAt goals k (now (graph .exit)) ≡ withHeads (entryAt goals k (now (graph .entry))) (removeHead ((entryAt goals k (now (graph .entry))) .heads) i)) × OthersKept goals k (now (graph .entry)) (now (graph .exit)) ⌝ }
+    ensures { λ _. ⌜ EntryWritten goals k (withoutHead (entryAt goals k (now (graph .entry))) i)
+        (now (graph .entry)) (now (graph .exit)) ⌝ }
 {
-    let a = offsets::entry_start(goals, k);
-    let z = a + offsets::entry_size(goals);
-    entry::remove_head(&mut graph[a..z], goals, i);
+    let start = offsets::entry_start(goals, k);
+    let end = start + offsets::entry_size(goals);
+    entry::remove_head(&mut graph[start..end], goals, i);
 }
 
 // Its head at index i is joined with `head`.
 fn join_head(graph: &mut [u8], goals: usize, k: usize, i: usize, head: CycleHead)
     requires { ⌜ GraphBytes goals (now graph) × ((k < 2 * goals) × (i < goals)) ⌝ }
-    ensures { λ _. ⌜ (entryAt goals k (now (graph .exit)) ≡ withHeads (entryAt goals k (now (graph .entry))) (insertHead ((entryAt goals k (now (graph .entry))) .heads) i (head .paths) (head .usages))) × OthersKept goals k (now (graph .entry)) (now (graph .exit)) ⌝ }
+    ensures { λ _. ⌜ EntryWritten goals k (withJoinedHead (entryAt goals k (now (graph .entry))) i head)
+        (now (graph .entry)) (now (graph .exit)) ⌝ }
 {
-    let a = offsets::entry_start(goals, k);
-    let z = a + offsets::entry_size(goals);
-    entry::join_head(&mut graph[a..z], goals, i, head);
+    let start = offsets::entry_start(goals, k);
+    let end = start + offsets::entry_size(goals);
+    entry::join_head(&mut graph[start..end], goals, i, head);
 }
 
 // Its path from its highest head goes on by a path of a kind.
 fn extend_path(graph: &mut [u8], goals: usize, k: usize, kind: PathKind)
     requires { ⌜ GraphBytes goals (now graph) × (k < 2 * goals) ⌝ }
-    ensures { λ _. ⌜ (entryAt goals k (now (graph .exit)) ≡ withPath (entryAt goals k (now (graph .entry))) (extend ((entryAt goals k (now (graph .entry))) .pathFromHead) kind)) × OthersKept goals k (now (graph .entry)) (now (graph .exit)) ⌝ }
+    ensures { λ _. ⌜ EntryWritten goals k (withLongerPath (entryAt goals k (now (graph .entry))) kind)
+        (now (graph .entry)) (now (graph .exit)) ⌝ }
 {
-    let a = offsets::entry_start(goals, k);
-    let z = a + offsets::entry_size(goals);
-    entry::extend_path(&mut graph[a..z], goals, kind);
+    let start = offsets::entry_start(goals, k);
+    let end = start + offsets::entry_size(goals);
+    entry::extend_path(&mut graph[start..end], goals, kind);
 }
 
 // ---- entry k after p
@@ -239,7 +252,8 @@ fn gain_heads(
     eps: PathsToNested,
 )
     requires { ⌜ GraphBytes goals (now graph) × ((popped < goals) × (k < 2 * goals)) ⌝ }
-    ensures { λ _. ⌜ (entryAt goals k (now (graph .exit)) ≡ withHeads (entryAt goals k (now (graph .entry))) (forEachHead (gainHead used (eps .bits)) ((entryAt goals k (now (graph .entry))) .heads) ((frameAt goals popped (now (graph .entry))) .heads))) × OthersKept goals k (now (graph .entry)) (now (graph .exit)) ⌝ }
+    ensures { λ _. ⌜ EntryWritten goals k (gainedEntry goals popped k used (eps .bits) (now (graph .entry)))
+        (now (graph .entry)) (now (graph .exit)) ⌝ }
 {
     let mut left = popped_mask(graph, goals, popped);
     while 0 < left {
@@ -260,13 +274,15 @@ fn replace_head(
     eps: PathsToNested,
 )
     requires { ⌜ GraphBytes goals (now graph) × ((popped < goals) × (k < 2 * goals)) ⌝ }
-    ensures { λ _. ⌜ (entryAt goals k (now (graph .exit)) ≡ withHeads (entryAt goals k (now (graph .entry))) (forEachHead (gainHead used (eps .bits)) (removeHead ((entryAt goals k (now (graph .entry))) .heads) popped) ((frameAt goals popped (now (graph .entry))) .heads))) × OthersKept goals k (now (graph .entry)) (now (graph .exit)) ⌝ }
+    ensures { λ _. ⌜ EntryWritten goals k (replacedEntry goals popped k used (eps .bits) (now (graph .entry)))
+        (now (graph .entry)) (now (graph .exit)) ⌝ }
 {
     remove_head(graph, goals, k, popped);
     gain_heads(graph, goals, popped, k, used, eps);
 }
 
-// Its heads after p; false where it is dropped.
+// Its heads after p; false where it is dropped. Where it was given no result of p, it stays
+// whatever p comes to, and depends on the heads of p without having used them.
 fn rebase_heads(
     graph: &mut [u8],
     goals: usize,
@@ -275,9 +291,8 @@ fn rebase_heads(
     k: usize,
 ) -> bool
     requires { ⌜ GraphBytes goals (now graph) × ((popped < goals) × (k < 2 * goals)) ⌝ }
-    ensures { λ r. ⌜ (keptEntry r (entryAt goals k (now (graph .exit)))
-        ≡ underHeads (entryAt goals k (now (graph .entry))) (rebasedHeads (stackOf goals popped (now (graph .entry))) (frameAt goals popped (now (graph .entry))) reason (entryAt goals k (now (graph .entry))) (usagesAt ((entryAt goals k (now (graph .entry))) .heads) popped) (pathsAt ((entryAt goals k (now (graph .entry))) .heads) popped)))
-        × OthersKept goals k (now (graph .entry)) (now (graph .exit)) ⌝ }
+    ensures { λ r. ⌜ EntryRebased goals k (entryUnderHeads goals popped reason k (now (graph .entry))) r
+        (now (graph .entry)) (now (graph .exit)) ⌝ }
 {
     let usages = head_usages(graph, goals, k, popped);
     let eps = head_paths(graph, goals, k, popped);
@@ -295,7 +310,8 @@ fn rebase_heads(
 // Its path starts at its new highest head; false where it has no head.
 fn rebase_path(graph: &mut [u8], goals: usize, popped: usize, k: usize) -> bool
     requires { ⌜ GraphBytes goals (now graph) × ((popped < goals) × (k < 2 * goals)) ⌝ }
-    ensures { λ r. ⌜ (keptEntry r (entryAt goals k (now (graph .exit))) ≡ underNewHead (stackOf goals popped (now (graph .entry))) (frameAt goals popped (now (graph .entry))) (entryAt goals k (now (graph .entry))) ((entryAt goals k (now (graph .entry))) .heads)) × OthersKept goals k (now (graph .entry)) (now (graph .exit)) ⌝ }
+    ensures { λ r. ⌜ EntryRebased goals k (entryUnderNewHead goals popped k (now (graph .entry))) r
+        (now (graph .entry)) (now (graph .exit)) ⌝ }
 {
     let hs = entry_heads(graph, goals, k);
     if heads::is_empty(hs, goals) {
@@ -316,10 +332,11 @@ fn rebase_entry(
     k: usize,
 ) -> bool
     requires { ⌜ GraphBytes goals (now graph) × ((popped < goals) × (k < 2 * goals)) ⌝ }
-    ensures { λ r. ⌜ (keptEntry r (entryAt goals k (now (graph .exit))) ≡ rebaseEntry (stackOf goals popped (now (graph .entry))) (frameAt goals popped (now (graph .entry))) reason (entryAt goals k (now (graph .entry)))) × OthersKept goals k (now (graph .entry)) (now (graph .exit)) ⌝ }
+    ensures { λ r. ⌜ EntryRebased goals k (rebasedEntry goals popped reason k (now (graph .entry))) r
+        (now (graph .entry)) (now (graph .exit)) ⌝ }
 {
-    let e = provisional_cache::entry_at(graph, goals, k);
-    if provisional_cache::entry::highest_head(e, goals) != popped {
+    let entry = provisional_cache::entry_at(graph, goals, k);
+    if entry::highest_head(entry, goals) != popped {
         return true;
     }
     if !rebase_heads(graph, goals, popped, reason, k) {
@@ -337,7 +354,7 @@ pub fn rebase_provisional_cache_entries(
     entries: usize,
 ) -> usize
     requires { ⌜ GraphBytes goals (now graph) × ((popped < goals) × (entries ≤ 2 * goals)) ⌝ }
-    ensures { λ r. ⌜ (entriesOf goals r (now (graph .exit)) ≡ rebaseEntries (stackOf goals popped (now (graph .entry))) (frameAt goals popped (now (graph .entry))) reason (entriesOf goals entries (now (graph .entry)))) × (FramesKept goals (now (graph .entry)) (now (graph .exit))) × (r ≤ entries) ⌝ }
+    ensures { λ r. ⌜ Rebased goals popped reason entries (now (graph .entry)) (now (graph .exit)) r ⌝ }
 {
     let mut kept: usize = 0;
     let mut k: usize = 0;

@@ -10,7 +10,9 @@ ghost use Rattle.definition.specs.ProvisionalCache.{everyEpKeeps, everyPhKeeps}
 
 // Whether the path by way of ep keeps the kind hph, where ep is among the paths.
 fn ep_keeps(hph: PathKind, he: PathKind, ph: PathKind, eps: PathsToNested, ep: PathKind) -> bool
-    ensures { λ r. ⌜ ((ks : List PathKind) → (r && everyEpKeeps hph he ph (containedIn (eps .bits) ks)) ≡ everyEpKeeps hph he ph (containedIn (eps .bits) (ep ∷ ks))) ⌝ }
+    ensures { λ r. ⌜ ((ks : List PathKind)
+        → (r && everyEpKeeps hph he ph (containedIn (eps .bits) ks))
+        ≡ everyEpKeeps hph he ph (containedIn (eps .bits) (ep ∷ ks))) ⌝ }
 {
     if !eps.contains(ep) {
         return true;
@@ -43,7 +45,9 @@ fn ph_keeps(
     phs: PathsToNested,
     ph: PathKind,
 ) -> bool
-    ensures { λ r. ⌜ ((ks : List PathKind) → (r && everyPhKeeps hp he (iterPaths (eps .bits)) (containedIn (phs .bits) ks)) ≡ everyPhKeeps hp he (iterPaths (eps .bits)) (containedIn (phs .bits) (ph ∷ ks))) ⌝ }
+    ensures { λ r. ⌜ ((ks : List PathKind)
+        → (r && everyPhKeeps hp he (iterPaths (eps .bits)) (containedIn (phs .bits) ks))
+        ≡ everyPhKeeps hp he (iterPaths (eps .bits)) (containedIn (phs .bits) (ph ∷ ks))) ⌝ }
 {
     if !phs.contains(ph) {
         return true;

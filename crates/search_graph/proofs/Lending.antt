@@ -2,54 +2,51 @@
 use mathlib.Core.Path.{_≡_, sym, ap, _∙_}
 use mathlib.Core.Bool.{Bool}
 use mathlib.Core.List.{List, _∷_}
-use Prim.Native.Nat.{ℕ, _+_, _<_}
+use Prim.Native.Nat.{ℕ, _+_}
 use lib.ListN.{length}
 use Rattle.definition.specs.declared.paths.PathKind.{PathKind}
 use Rattle.definition.specs.declared.format.Header.{Header}
-use Rattle.definition.specs.Graph.{Graph}
-use Rattle.definition.specs.Graph as graph
-use Rattle.definition.specs.Task as task
 use Rattle.definition.specs.Evaluate.{evaluateGoalWith, newFrame, afterTask}
 use Rattle.layout.specs.Work.{graphLength, stackOf, entriesOf, graphOf}
 use Rattle.stack.proofs.Parts.{part, returned}
 use Rattle.evaluation.specs.declared.Outcome.{Outcome}
 use Rattle.evaluation.specs.declared.TaskOutcome.{TaskOutcome}
 use Rattle.evaluation.specs.Workspace.{WorkBytes, graphIn}
-use Rattle.evaluation.specs.Outcomes.{outcomeOf, taskOutcomeOf, FewEntries}
+use Rattle.evaluation.specs.Outcomes.{outcomeOf, taskOutcomeOf}
 use Rattle.evaluation.proofs.Lent.{lent-graph, graph-back, merged-back}
 use Rattle.lookup.specs.declared.Found.{Found}
-use Rattle.lookup.specs.declared.Found.the-variants.{Push}
 use Rattle.lookup.specs.Lookups.{found}
+use Rattle.lookup.specs.Answers.{Answered}
 use Rattle.task.specs.declared.Iteration.{Iteration}
-use Rattle.task.specs.Turns.{turn, turned, FewTurned}
+use Rattle.task.specs.Turns.{turn, turned}
+use Rattle.task.specs.Iterations.{TurnTaken}
+use Rattle.task.specs.Results as results
 use Rattle.search_graph.specs.Between.{LookedUp, Pushed, IterationEnded, Finished}
 
 module _ (h : Header) (work : List ℕ) (n : ℕ) (w : WorkBytes (h .goals) work) (is : n ≡ graphLength (h .goals)) (ys : List ℕ) (kept : length ys ≡ length (part work 0 n)) where
   pub looked-up : (root height m goal : ℕ) (step : PathKind) (lower : Bool) (cache : List ℕ) (r : Found)
-      → ((compute : ℕ → Graph → graph.Outcome) → evaluateGoalWith h compute (graphOf (h .goals) root height m (part work 0 n) cache) goal step lower ≡ found h compute goal step r (graphOf (h .goals) root height m ys cache))
-      → ((d : ℕ) → r ≡ Push d → d < 256)
+      → Answered h root height m goal step lower cache (part work 0 n) ys r
       → LookedUp h root height m goal step lower work (returned work 0 n ys) cache r
-  looked-up root height m goal step lower cache r e low =
+  looked-up root height m goal step lower cache r answered =
       record {
         is = λ compute.
             ap (λ (bs : List ℕ). evaluateGoalWith h compute (graphOf (h .goals) root height m bs cache) goal step lower) (sym (lent-graph (h .goals) work w n is))
-            ∙ e compute
+            ∙ answered .is compute
             ∙ ap (λ (bs : List ℕ). found h compute goal step r (graphOf (h .goals) root height m bs cache)) (sym (graph-back (h .goals) work w n is ys kept));
-        low = low;
+        low = answered .low;
         merged = merged-back (h .goals) work w n is ys kept;
       }
 
   pub finished : (height goal : ℕ) (step : PathKind) (available : ℕ) (o : TaskOutcome) (cache cacheAfter : List ℕ) (r : Outcome)
-      → ((root : ℕ) → outcomeOf (h .goals) root height ys cacheAfter r ≡ afterTask h goal step available (taskOutcomeOf (h .goals) root height (part work 0 n) cache o))
-      → FewEntries (h .goals) r
+      → results.Finished h height goal step available o cache cacheAfter (part work 0 n) ys r
       → Finished h height goal step available o work (returned work 0 n ys) cache cacheAfter r
-  finished height goal step available o cache cacheAfter r e few =
+  finished height goal step available o cache cacheAfter r made =
       record {
         is = λ root.
             ap (λ (bs : List ℕ). outcomeOf (h .goals) root height bs cacheAfter r) (graph-back (h .goals) work w n is ys kept)
-            ∙ e root
+            ∙ made .is root
             ∙ ap (λ (bs : List ℕ). afterTask h goal step available (taskOutcomeOf (h .goals) root height bs cache o)) (lent-graph (h .goals) work w n is);
-        few = few;
+        few = made .few;
         merged = merged-back (h .goals) work w n is ys kept;
       }
 
@@ -71,15 +68,14 @@ module _ (goals : ℕ) (work : List ℕ) (n : ℕ) (w : WorkBytes goals work) (i
       }
 
   pub iteration-ended : (height left : ℕ) (overflow : Bool) (o : Outcome) (r : Iteration)
-      → ((root : ℕ) (cache : List ℕ) (next : Bool → Graph → task.TaskOutcome) → turn left next overflow (outcomeOf goals root height (part work 0 n) cache o) ≡ turned goals root height next ys cache r)
-      → FewTurned goals left r
+      → TurnTaken goals height left overflow o (part work 0 n) ys r
       → IterationEnded goals height left overflow o work (returned work 0 n ys) r
-  iteration-ended height left overflow o r e few =
+  iteration-ended height left overflow o r taken =
       record {
         is = λ root cache next.
             ap (λ (bs : List ℕ). turn left next overflow (outcomeOf goals root height bs cache o)) (sym (lent-graph goals work w n is))
-            ∙ e root cache next
+            ∙ taken .is root cache next
             ∙ ap (λ (bs : List ℕ). turned goals root height next bs cache r) (sym (graph-back goals work w n is ys kept));
-        few = few;
+        few = taken .few;
         merged = merged-back goals work w n is ys kept;
       }

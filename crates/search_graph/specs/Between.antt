@@ -34,7 +34,8 @@ pub record Looking (h : Header) (root height n goal : ℕ) (work cache : List �
   pub divides : 1 ≤ h .divisor
   pub shallow : root < 256
 
-pub record LookedUp (h : Header) (root height n goal : ℕ) (step : PathKind) (lower : Bool) (old new cache : List ℕ) (r : Found) : Type 0 where
+pub record LookedUp (h : Header) (root height n goal : ℕ) (step : PathKind) (lower : Bool)
+    (old new cache : List ℕ) (r : Found) : Type 0 where
   pub is : (compute : ℕ → Graph → graph.Outcome)
       → evaluateGoalWith h compute (graphOf (h .goals) root height n (graphIn (h .goals) old) cache) goal step lower
       ≡ found h compute goal step r (graphOf (h .goals) root height n (graphIn (h .goals) new) cache)
@@ -44,12 +45,14 @@ pub record LookedUp (h : Header) (root height n goal : ℕ) (step : PathKind) (l
 pub record Pushed (goals height goal : ℕ) (step : PathKind) (available : ℕ) (old new : List ℕ) : Type 0 where
   pub is : (root n : ℕ) (cache : List ℕ)
       → graphOf goals root (height + 1) n (graphIn goals new) cache
-      ≡ withStack (graphOf goals root height n (graphIn goals old) cache) (newFrame goals goal step available ∷ (graphOf goals root height n (graphIn goals old) cache) .stack)
+      ≡ withStack (graphOf goals root height n (graphIn goals old) cache)
+      (newFrame goals goal step available ∷ (graphOf goals root height n (graphIn goals old) cache) .stack)
   pub merged : MergedKept goals old new
 
 pub record IterationEnded (goals height left : ℕ) (overflow : Bool) (o : Outcome) (old new : List ℕ) (r : Iteration) : Type 0 where
   pub is : (root : ℕ) (cache : List ℕ) (next : Bool → Graph → task.TaskOutcome)
-      → turn left next overflow (outcomeOf goals root height (graphIn goals old) cache o) ≡ turned goals root height next (graphIn goals new) cache r
+      → turn left next overflow (outcomeOf goals root height (graphIn goals old) cache o)
+      ≡ turned goals root height next (graphIn goals new) cache r
   pub few : FewTurned goals left r
   pub merged : MergedKept goals old new
 
@@ -60,7 +63,8 @@ pub record Finishing (h : Header) (height goal : ℕ) (o : TaskOutcome) (work ca
   pub known : goal < h .goals
   pub few : FewTaskEntries (h .goals) o
 
-pub record Finished (h : Header) (height goal : ℕ) (step : PathKind) (available : ℕ) (o : TaskOutcome) (old new cache cacheAfter : List ℕ) (r : Outcome) : Type 0 where
+pub record Finished (h : Header) (height goal : ℕ) (step : PathKind) (available : ℕ) (o : TaskOutcome)
+    (old new cache cacheAfter : List ℕ) (r : Outcome) : Type 0 where
   pub is : (root : ℕ)
       → outcomeOf (h .goals) root height (graphIn (h .goals) new) cacheAfter r
       ≡ afterTask h goal step available (taskOutcomeOf (h .goals) root height (graphIn (h .goals) old) cache o)

@@ -19,8 +19,8 @@ use Rattle.definition.specs.Parent.{updateParentGoal, Ordinary}
 use Rattle.definition.specs.GlobalCache.{cacheInsert}
 use Rattle.definition.specs.Evaluate.{insertInSlot, insertGlobalCache, insertProvisionalCache, insertResult, afterTask}
 use Rattle.layout.specs.Frame.{frameOf}
-use Rattle.layout.specs.Work.{stackOf, entriesOf, graphOf}
-use Rattle.stack.specs.Bytes.{frameBytes, frameAt}
+use Rattle.layout.specs.Work.{stackOf, graphOf}
+use Rattle.stack.specs.Bytes.{frameAt}
 use Rattle.global_cache.specs.declared.Insertion.{Insertion}
 use Rattle.global_cache.specs.declared.Insertion.the-variants.{Kept, Conflict}
 use Rattle.global_cache.specs.Cache.{headerWith, evaluated, inserted}
@@ -33,6 +33,7 @@ use Rattle.evaluation.specs.declared.Outcome.the-variants.{Done, Stopped}
 use Rattle.evaluation.specs.declared.TaskOutcome.{TaskOutcome}
 use Rattle.evaluation.specs.declared.TaskOutcome.the-variants.{Evaluated, TaskStopped}
 use Rattle.evaluation.specs.Outcomes.{outcomeOf, taskOutcomeOf, FewTaskEntries}
+use Rattle.task.specs.Results.{ParentUpdated}
 
 module _ (h : Header) (root height n goal : ℕ) (overflow : Bool) (answer : Answer) (bs cache : List ℕ) where
   -- the popped frame, the result and the graph
@@ -114,17 +115,15 @@ module _ (h : Header) (root height goal available : ℕ) (step : PathKind) (bs c
   finish-stopped r is = sym (ap (λ (x : TaskOutcome). afterTask h goal step available (taskOutcomeOf (h .goals) root height bs cache x)) is)
 
   pub finish-evaluated : (answer : Answer) (overflow : Bool) (n : ℕ) → o ≡ Evaluated answer overflow n → (d reached : ℕ) → d ≡ requiredDepthOf (frameAt (h .goals) height bs) → reached ≡ available - d
-      → (mid : List ℕ)
-      → stackOf (h .goals) height mid ≡ updateParentGoal (stackOf (h .goals) height bs) step ((frameAt (h .goals) height bs) .heads) overflow (Ordinary ((frameAt (h .goals) height bs) .nestedGoals)) reached
-      → ((k : ℕ) → entriesOf (h .goals) k mid ≡ entriesOf (h .goals) k bs) → frameBytes (h .goals) height mid ≡ frameBytes (h .goals) height bs
+      → (mid : List ℕ) → ParentUpdated (h .goals) height step overflow reached bs mid
       → insertResult h (graphOf (h .goals) root height n mid cache) goal step (finalize (frameAt (h .goals) height mid) overflow answer)
       ≡ afterTask h goal step available (taskOutcomeOf (h .goals) root height bs cache o)
   unfolding taskOutcomeOf
-  finish-evaluated answer overflow n is d reached is-d is-reached mid stack entries bytes =
+  finish-evaluated answer overflow n is d reached is-d is-reached mid updated =
       let e : reached ≡ available - requiredDepthOf (frameAt (h .goals) height bs) = is-reached ∙ ap (λ (x : ℕ). available - x) is-d in
-      let s = stack ∙ ap (updateParentGoal (stackOf (h .goals) height bs) step ((frameAt (h .goals) height bs) .heads) overflow (Ordinary ((frameAt (h .goals) height bs) .nestedGoals))) e in
-      let es = entries n in
-      let fs : frameAt (h .goals) height mid ≡ frameAt (h .goals) height bs = ap (frameOf (h .goals)) bytes in
+      let s = updated .stack ∙ ap (updateParentGoal (stackOf (h .goals) height bs) step ((frameAt (h .goals) height bs) .heads) overflow (Ordinary ((frameAt (h .goals) height bs) .nestedGoals))) e in
+      let es = updated .entries n in
+      let fs : frameAt (h .goals) height mid ≡ frameAt (h .goals) height bs = ap (frameOf (h .goals)) (updated .frame) in
       (λ t. insertResult h (record { rootDepth = root; stack = s t; provisionalCache = es t; globalCache = cache }) goal step (finalize (fs t) overflow answer))
       ∙ sym (ap (λ (x : TaskOutcome). afterTask h goal step available (taskOutcomeOf (h .goals) root height bs cache x)) is)
 

@@ -5,11 +5,11 @@ use mathlib.Core.List.{List}
 use Prim.Native.Nat.{ℕ, _+_, _-_, _≤_, _<_}
 use native.Mathlib.Nat.{zero-add}
 use native.Mathlib.Omega.{arith}
-use lib.ListN.{length, getD, take, drop, set, replicate}
+use lib.ListN.{length, getD, set, replicate}
 use lib.Seq.{paste}
 use Rattle.buffer.specs.Regions.{region}
 use Rattle.buffer.proofs.Loops.{pasted-more, pasted-all}
-use Rattle.buffer.proofs.Regions.{length-region, region-region, region-same}
+use Rattle.buffer.proofs.Regions.{length-region, region-same}
 use Rattle.definition.specs.declared.paths.PathKind.{PathKind}
 use Rattle.definition.specs.Heads.{CycleHeads, headsEmpty}
 use Rattle.definition.specs.Stack.{Stack, requiredDepthOf}
@@ -20,25 +20,6 @@ use Rattle.layout.specs.Work.{frameStart}
 use Rattle.layout.proofs.Graphs.{frame-room}
 use Rattle.stack.specs.Bytes.{GraphBytes, frameBytes, frameAt}
 use Rattle.stack.proofs.Parts.{part, returned, part-length, part-back, returned-length}
-
--- ---- `nested_at`
-module _ (goals : ℕ) (bs : List ℕ) (i s n : ℕ) (is-s : s ≡ frameStart goals i) (is-n : n ≡ nestedStart goals) where
-  pub nested-room : GraphBytes goals bs → i < goals → s + n + goals ≤ length bs
-  nested-room g lt =
-      let room = frame-room goals bs (g .long) i lt in
-      let inner : nestedStart goals + goals ≤ frameSize goals = omega arith in
-      fits (frameStart goals i) (frameSize goals) (nestedStart goals) s n goals (length bs) is-s is-n room inner
-    where
-      fits : (a m b s n goals l : ℕ) → s ≡ a → n ≡ b → a + m ≤ l → b + goals ≤ m → s + n + goals ≤ l
-      fits a m b s n goals l p q room inner = omega arith
-
-  pub nested-is : part bs (s + n) (s + n + goals) ≡ (frameAt goals i bs) .nestedGoals
-  unfolding frameOf
-  nested-is =
-      let e : s + n + goals - (s + n) ≡ goals = omega arith in
-      let inner : nestedStart goals + goals ≤ frameSize goals = omega arith in
-      ap₂ (λ (m k : ℕ). take m (drop k bs)) e (ap₂ (λ (x y : ℕ). x + y) is-s is-n)
-      ∙ sym (region-region (frameStart goals i) (frameSize goals) (nestedStart goals) goals bs inner)
 
 -- there are as many as goals
 pub nested-length : (goals : ℕ) (bs : List ℕ) (i : ℕ) → GraphBytes goals bs → i < goals → length ((frameAt goals i bs) .nestedGoals) ≡ goals

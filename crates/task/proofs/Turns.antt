@@ -12,15 +12,15 @@ use Rattle.definition.specs.declared.replies.Refusal.{Refusal}
 use Rattle.definition.specs.Stack.{Stack, Frame}
 use Rattle.definition.specs.Graph.{Graph, finalize}
 use Rattle.definition.specs.Graph as graph
-use Rattle.definition.specs.ProvisionalCache.{survivors, rebaseEntries}
 use Rattle.definition.specs.Task as task
 use Rattle.layout.specs.Frame.{frameOf}
 use Rattle.layout.specs.Work.{stackOf, entriesOf, graphOf}
 use Rattle.stack.specs.Bytes.{frameBytes, frameAt}
 use Rattle.stack.proofs.Loops.{top}
-use Rattle.provisional_cache.specs.Entries.{FramesKept}
+use Rattle.provisional_cache.specs.Reruns.{Cleared}
 use Rattle.provisional_cache.proofs.Outcomes.{cleared-graph}
 use Rattle.provisional_cache.proofs.Writes.{frame-kept}
+use Rattle.rebase.specs.Rebased.{Rebased}
 use Rattle.evaluation.specs.declared.Outcome.{Outcome}
 use Rattle.evaluation.specs.declared.Outcome.the-variants.{Done, Stopped}
 use Rattle.evaluation.specs.declared.TaskOutcome.{TaskOutcome}
@@ -33,13 +33,13 @@ use Rattle.task.specs.declared.after.Next.the-variants.{Finish, Rebase, 
 use Rattle.task.specs.Turns.{nextFor, rerunBy, turn, turned}
 
 -- ---- `rebased`
-pub rebased-task : (goals root own n r : ℕ) (old new cache : List ℕ) (reason : RebaseReason) (overflow : Bool) (answer : Answer) → own < goals → FramesKept goals old new
-    → entriesOf goals r new ≡ rebaseEntries (stackOf goals own old) (frameAt goals own old) reason (entriesOf goals n old)
+pub rebased-task : (goals root own n r : ℕ) (old new cache : List ℕ) (reason : RebaseReason) (overflow : Bool) (answer : Answer) → own < goals → Rebased goals own reason n old new r
     → taskOutcomeOf goals root own new cache (Evaluated answer overflow r) ≡ task.rebased (graphOf goals root own n old cache) (frameAt goals own old) reason overflow answer
 unfolding taskOutcomeOf
-rebased-task goals root own n r old new cache reason overflow answer lt kept es =
-    let s = kept .stacks own (omega arith) in
-    let f = frame-kept goals old new own kept lt in
+rebased-task goals root own n r old new cache reason overflow answer lt made =
+    let s = made .frames .stacks own (omega arith) in
+    let f = frame-kept goals old new own (made .frames) lt in
+    let es = made .entries in
     λ t. task.Evaluated (record { rootDepth = root; stack = s t; provisionalCache = es t; globalCache = cache }) (finalize (f t) overflow answer)
 
 -- ---- an end, in a turn with one frame more
@@ -55,15 +55,16 @@ module _ (goals root own n left : ℕ) (old cache : List ℕ) (next : Bool → G
   again-none z new o e =
       ap (λ (k : ℕ). rerunBy k next overflow (graphOf goals root own n old cache) (frameAt goals own old) answer) z ∙ sym e ∙ end-turn goals root own next new cache o
 
-  pub again-some : 0 < left → own < goals → (r : ℕ) (mid new : List ℕ) → FramesKept goals old mid → entriesOf goals r mid ≡ survivors own (entriesOf goals n old)
+  pub again-some : 0 < left → own < goals → (r : ℕ) (mid new : List ℕ) → Cleared goals own n old mid r
       → stackOf goals (own + 1) new ≡ task.rerunFrame (frameAt goals own mid) answer ∷ stackOf goals own mid → ((k : ℕ) → entriesOf goals k new ≡ entriesOf goals k mid)
       → rerunBy left next overflow (graphOf goals root own n old cache) (frameAt goals own old) answer ≡ turned goals root (own + 1) next new cache (Again overflow r)
   unfolding turned
-  again-some pos lt r mid new kept es stack entries =
+  again-some pos lt r mid new cleared stack entries =
       let z : left ≡ suc (left - 1) = omega arith in
+      let kept = cleared .frames in
       let f = sym (frame-kept goals old mid own kept lt) in
       let s = (λ t. task.rerunFrame (f t) answer ∷ sym (kept .stacks own (omega arith)) t) ∙ sym stack in
-      let c = sym (cleared-graph goals root own n r old mid cache (omega arith) kept es) in
+      let c = sym (cleared-graph goals root own n r old mid cache (omega arith) kept (cleared .entries)) in
       let e = ap (λ (x : Graph). x .provisionalCache) c ∙ sym (entries r) in
       ap (λ (k : ℕ). rerunBy k next overflow (graphOf goals root own n old cache) (frameAt goals own old) answer) z
       ∙ ap (next overflow) (λ t. record { rootDepth = root; stack = s t; provisionalCache = e t; globalCache = cache })

@@ -23,6 +23,8 @@ pub enum Next {
     Rerun,
 }
 
+// The answer is what the cycles were given: the provisional result or, in the first iteration,
+// the initial result of a kind, where they were all of that kind.
 fn reached_fixpoint(provisional: Provisional, usages: HeadUsages, answer: Answer) -> Fixpoint
     ensures { λ r. ⌜ fixpointOf r ≡ reachedFixpoint (provisionalOf provisional) usages answer ⌝ }
 {
@@ -43,6 +45,8 @@ fn reached_fixpoint(provisional: Provisional, usages: HeadUsages, answer: Answer
     }
 }
 
+// Where no cycle used the frame, the answer leans on no provisional result. An ambiguous answer
+// hardly becomes another in a rerun, which may cost much, and is never wrong.
 fn without_fixpoint(usages: HeadUsages, answer: Answer) -> Next
     ensures { λ r. ⌜ nextFor r ≡ withoutFixpoint usages answer ⌝ }
 {

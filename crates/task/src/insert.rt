@@ -5,27 +5,20 @@ use definition::paths::PathKind;
 use definition::replies::Refusal;
 use evaluation::Outcome;
 use layout::heads;
-use layout::offsets;
 use stack::frame;
 ghost use mathlib.Core.Path.{_≡_};
-ghost use mathlib.Core.List.{List};
-ghost use Prim.Native.Nat.{ℕ, _<_};
-ghost use Rattle.definition.specs.Graph.{finalize};
+ghost use Prim.Native.Nat.{_<_};
 ghost use Rattle.definition.specs.Heads.{headsEmpty};
-ghost use Rattle.definition.specs.Evaluate.{insertGlobalCache, insertProvisionalCache, insertResult};
-ghost use Rattle.layout.specs.Work.{graphOf};
 ghost use Rattle.stack.specs.Bytes.{GraphBytes, frameAt};
-ghost use Rattle.evaluation.specs.Outcomes.{outcomeOf, FewEntries};
 ghost use Rattle.task.specs.Places.{Popped, Room};
+ghost use Rattle.task.specs.Results.{InGlobalCache, InProvisionalCache, InCache};
 
 // The nested goals of the frame.
 pub fn nested_at(graph: &[u8], goals: usize, height: usize) -> &[u8]
     requires { ⌜ GraphBytes goals (now graph) × (height < goals) ⌝ }
     ensures { λ r. ⌜ now r ≡ (frameAt goals height (now (graph .entry))) .nestedGoals ⌝ }
 {
-    let a = offsets::frame_start(goals, height) + offsets::nested_start(goals);
-    let e = a + goals;
-    &graph[a..e]
+    frame::nested(stack::frame_at(graph, goals, height), goals)
 }
 
 // Whether the frame has no heads.
@@ -33,8 +26,10 @@ fn is_headless(graph: &[u8], goals: usize, height: usize) -> bool
     requires { ⌜ GraphBytes goals (now graph) × (height < goals) ⌝ }
     ensures { λ r. ⌜ r ≡ headsEmpty ((frameAt goals height (now (graph .entry))) .heads) ⌝ }
 {
-    let f = stack::frame_at(graph, goals, height);
-    heads::is_empty(provisional_cache::frame_heads(f, goals), goals)
+    heads::is_empty(
+        frame::heads(stack::frame_at(graph, goals, height), goals),
+        goals,
+    )
 }
 
 fn in_global_cache(
@@ -48,7 +43,8 @@ fn in_global_cache(
     answer: Answer,
 ) -> Outcome
     requires { ⌜ Popped h height entries goal (now graph) (now cache) ⌝ }
-    ensures { λ r. ⌜ ((root : ℕ) → outcomeOf (h .goals) root height (now (graph .entry)) (now (cache .exit)) r ≡ insertGlobalCache h (graphOf (h .goals) root height entries (now (graph .entry)) (now (cache .entry))) goal (finalize (frameAt (h .goals) height (now (graph .entry))) overflow answer)) × FewEntries (h .goals) r ⌝ }
+    ensures { λ r. ⌜ InGlobalCache h height entries goal overflow answer (now (graph .entry))
+        (now (cache .entry)) (now (cache .exit)) r ⌝ }
 {
     let goals = h.goals;
     let top = h.top;
@@ -75,7 +71,8 @@ fn in_provisional_cache(
     answer: Answer,
 ) -> Outcome
     requires { ⌜ Room h height entries goal (now graph) ⌝ }
-    ensures { λ r. ⌜ ((root : ℕ) (cache : List ℕ) → outcomeOf (h .goals) root height (now (graph .exit)) cache r ≡ insertProvisionalCache h (graphOf (h .goals) root height entries (now (graph .entry)) cache) goal step (finalize (frameAt (h .goals) height (now (graph .entry))) overflow answer)) × FewEntries (h .goals) r ⌝ }
+    ensures { λ r. ⌜ InProvisionalCache h height entries goal step overflow answer
+        (now (graph .entry)) (now (graph .exit)) r ⌝ }
 {
     let goals = h.goals;
     let made = provisional_cache::insert(
@@ -94,7 +91,8 @@ fn in_provisional_cache(
     }
 }
 
-// insert_global_cache where the frame has no heads, else insert_provisional_cache.
+// insert_global_cache where the frame has no heads, else insert_provisional_cache: a result
+// that leans on frames below holds only as long as they are on the stack.
 pub fn result(
     cache: &mut [u8],
     graph: &mut [u8],
@@ -107,7 +105,8 @@ pub fn result(
     answer: Answer,
 ) -> Outcome
     requires { ⌜ Popped h height entries goal (now graph) (now cache) ⌝ }
-    ensures { λ r. ⌜ ((root : ℕ) → outcomeOf (h .goals) root height (now (graph .exit)) (now (cache .exit)) r ≡ insertResult h (graphOf (h .goals) root height entries (now (graph .entry)) (now (cache .entry))) goal step (finalize (frameAt (h .goals) height (now (graph .entry))) overflow answer)) × FewEntries (h .goals) r ⌝ }
+    ensures { λ r. ⌜ InCache h height entries goal step overflow answer
+        (now (cache .entry)) (now (cache .exit)) (now (graph .entry)) (now (graph .exit)) r ⌝ }
 {
     let goals = h.goals;
     if is_headless(graph, goals, height) {

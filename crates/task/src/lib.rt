@@ -10,19 +10,12 @@ use evaluation::Outcome;
 use evaluation::TaskOutcome;
 use stack::frame;
 ghost use mathlib.Core.Path.{_≡_};
-ghost use mathlib.Core.Bool.{Bool, _||_};
-ghost use mathlib.Core.List.{List};
-ghost use Prim.Native.Nat.{ℕ, _+_, _-_, _*_, _≤_, _<_};
+ghost use Prim.Native.Nat.{_*_, _≤_, _<_};
 ghost use lib.ListN.{length};
-ghost use Rattle.definition.specs.Graph.{Graph};
-ghost use Rattle.definition.specs.Task as task;
-ghost use Rattle.definition.specs.Parent.{updateParentGoal, Ordinary};
-ghost use Rattle.definition.specs.Evaluate.{afterTask};
-ghost use Rattle.layout.specs.Work.{stackOf, entriesOf, graphOf};
-ghost use Rattle.stack.specs.Bytes.{GraphBytes, frameBytes, frameAt};
-ghost use Rattle.evaluation.specs.Outcomes.{outcomeOf, taskOutcomeOf, FewEntries, FewTaskEntries};
-ghost use Rattle.task.specs.Turns.{rerunBy, turn, turned, FewTurned};
+ghost use Rattle.stack.specs.Bytes.{GraphBytes};
 ghost use Rattle.task.specs.Places.{IterationEnded, TaskEnded};
+ghost use Rattle.task.specs.Iterations.{TaskRebased, RunAgain, FramePopped, TurnTaken};
+ghost use Rattle.task.specs.Results.{ParentUpdated, Finished};
 
 mod after;
 mod insert;
@@ -47,13 +40,16 @@ fn rebased(
     answer: Answer,
 ) -> TaskOutcome
     requires { ⌜ GraphBytes goals (now graph) × ((own < goals) × (entries ≤ 2 * goals)) ⌝ }
-    ensures { λ r. ⌜ ((root : ℕ) (cache : List ℕ) → taskOutcomeOf goals root own (now (graph .exit)) cache r ≡ task.rebased (graphOf goals root own entries (now (graph .entry)) cache) (frameAt goals own (now (graph .entry))) reason overflow answer) × FewTaskEntries goals r ⌝ }
+    ensures { λ r. ⌜ TaskRebased goals own entries reason overflow answer
+        (now (graph .entry)) (now (graph .exit)) r ⌝ }
 {
     let left = rebase::rebase_provisional_cache_entries(graph, goals, own, reason, entries);
     TaskOutcome::Evaluated(answer, overflow, left)
 }
 
-// Another iteration, unless none is left.
+// Another iteration, unless none is left. Entries that used the frame's last provisional
+// result go, for it has another one now. The frame keeps what is read only once its goal is
+// done: its heads, nested goals and the depth reached. Its overflow and usages start afresh.
 fn again(
     graph: &mut [u8],
     goals: usize,
@@ -64,7 +60,8 @@ fn again(
     answer: Answer,
 ) -> Iteration
     requires { ⌜ GraphBytes goals (now graph) × ((own < goals) × (entries ≤ 2 * goals)) ⌝ }
-    ensures { λ r. ⌜ ((root : ℕ) (cache : List ℕ) (next : Bool → Graph → task.TaskOutcome) → rerunBy left next overflow (graphOf goals root own entries (now (graph .entry)) cache) (frameAt goals own (now (graph .entry))) answer ≡ turned goals root (own + 1) next (now (graph .exit)) cache r) × FewTurned goals left r ⌝ }
+    ensures { λ r. ⌜ RunAgain goals own entries left overflow answer
+        (now (graph .entry)) (now (graph .exit)) r ⌝ }
 {
     if left == 0 {
         let reason = RebaseReason::Ambiguity(Answer::Overflow);
@@ -84,6 +81,8 @@ fn again(
     Iteration::Again(overflow, kept)
 }
 
+// What follows the iteration. That an iteration met overflow counts for the goal, though the
+// frame forgets it in a rerun.
 fn popped(
     graph: &mut [u8],
     goals: usize,
@@ -94,7 +93,8 @@ fn popped(
     answer: Answer,
 ) -> Iteration
     requires { ⌜ GraphBytes goals (now graph) × ((own < goals) × (entries ≤ 2 * goals)) ⌝ }
-    ensures { λ r. ⌜ ((root : ℕ) (cache : List ℕ) (next : Bool → Graph → task.TaskOutcome) → task.endIteration (rerunBy left next) (overflow || (frameAt goals own (now (graph .entry))) .encounteredOverflow) (graphOf goals root own entries (now (graph .entry)) cache) (frameAt goals own (now (graph .entry))) answer ≡ turned goals root (own + 1) next (now (graph .exit)) cache r) × FewTurned goals left r ⌝ }
+    ensures { λ r. ⌜ FramePopped goals own entries left overflow answer
+        (now (graph .entry)) (now (graph .exit)) r ⌝ }
 {
     let f = stack::frame_at(graph, goals, own);
     let met = scalars::either(overflow, frame::overflow(f, goals));
@@ -119,7 +119,7 @@ pub fn end_iteration(
     overflow: bool,
 ) -> Iteration
     requires { ⌜ IterationEnded goals height (now graph) o ⌝ }
-    ensures { λ r. ⌜ ((root : ℕ) (cache : List ℕ) (next : Bool → Graph → task.TaskOutcome) → turn left next overflow (outcomeOf goals root height (now (graph .entry)) cache o) ≡ turned goals root height next (now (graph .exit)) cache r) × FewTurned goals left r ⌝ }
+    ensures { λ r. ⌜ TurnTaken goals height left overflow o (now (graph .entry)) (now (graph .exit)) r ⌝ }
 {
     match o {
         Outcome::Stopped(r) => Iteration::End(TaskOutcome::TaskStopped(r)),
@@ -153,7 +153,7 @@ fn update_parent(
     reached: usize,
 )
     requires { ⌜ GraphBytes goals (now graph) × (height < goals) ⌝ }
-    ensures { λ _. ⌜ (stackOf goals height (now (graph .exit)) ≡ updateParentGoal (stackOf goals height (now (graph .entry))) step ((frameAt goals height (now (graph .entry))) .heads) overflow (Ordinary ((frameAt goals height (now (graph .entry))) .nestedGoals)) reached) × (((n : ℕ) → entriesOf goals n (now (graph .exit)) ≡ entriesOf goals n (now (graph .entry))) × (frameBytes goals height (now (graph .exit)) ≡ frameBytes goals height (now (graph .entry)))) ⌝ }
+    ensures { λ _. ⌜ ParentUpdated goals height step overflow reached (now (graph .entry)) (now (graph .exit)) ⌝ }
 {
     let mut nested = [0u8; 64];
     copy(
@@ -183,7 +183,8 @@ pub fn finish(
     available: usize,
 ) -> Outcome
     requires { ⌜ TaskEnded h height goal (now graph) (now cache) o ⌝ }
-    ensures { λ r. ⌜ ((root : ℕ) → outcomeOf (h .goals) root height (now (graph .exit)) (now (cache .exit)) r ≡ afterTask h goal step available (taskOutcomeOf (h .goals) root height (now (graph .entry)) (now (cache .entry)) o)) × FewEntries (h .goals) r ⌝ }
+    ensures { λ r. ⌜ Finished h height goal step available o
+        (now (cache .entry)) (now (cache .exit)) (now (graph .entry)) (now (graph .exit)) r ⌝ }
 {
     match o {
         TaskOutcome::TaskStopped(r) => Outcome::Stopped(r),

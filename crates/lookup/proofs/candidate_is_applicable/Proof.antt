@@ -16,13 +16,29 @@ any-on-stack-requires : tie.Need-any-on-stack-requires
 any-on-stack-requires c κs = search needs
 
 returns-2 : tie.Need-returns-2
-returns-2 c = let a = c .before .before .before .before .before .before .args in apply-on-stack (nestedEmpty (a .nested .now)) (anyOnStack (stackOf (a .goals) (a .height) (a .graph .now)) (a .nested .now)) (anyEntryApplies (stackOf (a .goals) (a .height) (a .graph .now)) (a .step) (a .nested .now) (entriesOf (a .goals) (a .entries) (a .graph .now))) (c .before .before .before .is-empty .result) (c .before .any-on-stack .result) (c .before .before .before .is-empty .ensures) (c .before .any-on-stack .ensures) (c .before .before .if1 .left) (c .if2 .taken)
+returns-2 c =
+    let a = c .before .before .before .before .before .before .args in
+    let is-empty = c .before .before .before .is-empty in
+    let any-on-stack = c .before .any-on-stack in
+    apply-on-stack (nestedEmpty (a .nested .now)) (anyOnStack (stackOf (a .goals) (a .height) (a .graph .now)) (a .nested .now))
+    (anyEntryApplies (stackOf (a .goals) (a .height) (a .graph .now)) (a .step) (a .nested .now)
+    (entriesOf (a .goals) (a .entries) (a .graph .now))) (is-empty .result) (any-on-stack .result) (is-empty .ensures)
+    (any-on-stack .ensures) (c .before .before .if1 .left) (c .if2 .taken)
 
 any-applies-requires : tie.Need-any-applies-requires
 any-applies-requires c κs = search needs
 
 returns-3 : tie.Need-returns-3
-returns-3 c = let a = c .before .before .before .before .before .before .before .args in apply-unless (nestedEmpty (a .nested .now)) (anyOnStack (stackOf (a .goals) (a .height) (a .graph .now)) (a .nested .now)) (anyEntryApplies (stackOf (a .goals) (a .height) (a .graph .now)) (a .step) (a .nested .now) (entriesOf (a .goals) (a .entries) (a .graph .now))) (c .before .before .before .before .is-empty .result) (c .before .before .any-on-stack .result) (c .before .before .before .before .is-empty .ensures) (c .before .before .any-on-stack .ensures) (c .before .before .before .if1 .left) (c .before .if2 .left) (c .any-applies .result) (c .any-applies .ensures)
+returns-3 c =
+    let a = c .before .before .before .before .before .before .before .args in
+    let is-empty = c .before .before .before .before .is-empty in
+    let if1 = c .before .before .before .if1 in
+    let any-on-stack = c .before .before .any-on-stack in
+    let any-applies = c .any-applies in
+    apply-unless (nestedEmpty (a .nested .now)) (anyOnStack (stackOf (a .goals) (a .height) (a .graph .now)) (a .nested .now))
+    (anyEntryApplies (stackOf (a .goals) (a .height) (a .graph .now)) (a .step) (a .nested .now)
+    (entriesOf (a .goals) (a .entries) (a .graph .now))) (is-empty .result) (any-on-stack .result) (is-empty .ensures)
+    (any-on-stack .ensures) (if1 .left) (c .before .if2 .left) (any-applies .result) (any-applies .ensures)
 
 pub candidate-is-applicable-spec : {M : Type 1} → statement M
 candidate-is-applicable-spec =

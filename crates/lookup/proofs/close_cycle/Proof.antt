@@ -22,7 +22,18 @@ same-length : tie.Need-same-length
 same-length c = search needs
 
 returns : tie.Need-returns
-returns c = let a = c .before .before .before .before .before .before .before .before .before .before .args in let y = c .before .before .before .update-from-cycle in cycle-closed (a .h) (a .height) (a .graph .now) (y .last .0) (a .step) (a .available) (y .ensures .entries) (a .goal) (a .head) (a .provisional) (c .before .before .before .before .before .before .before .cycle-path-kind .result) (c .before .before .before .before .before .before .none .result) (c .before .before .before .before .before .add-usage .result) (c .cycle-result .result) (c .before .before .before .before .before .before .before .cycle-path-kind .ensures) (c .before .before .before .before .before .before .none .ensures) (c .before .before .before .before .before .add-usage .ensures) (c .cycle-result .ensures) (y .ensures .stack)
+returns c =
+    let c3 = c .before .before .before in let c5 = c3 .before .before in let c6 = c5 .before in let c7 = c6 .before in
+    let c10 = c7 .before .before .before in
+    let a = c10 .args in
+    let y = c3 .update-from-cycle in
+    let cycle-path-kind = c7 .cycle-path-kind in
+    let none = c6 .none in
+    let add-usage = c5 .add-usage in
+    let cycle-result = c .cycle-result in
+    cycle-closed (a .h) (a .height) (a .graph .now) (y .last .0) (a .step) (a .available) (y .ensures .entries) (a .goal) (a .head)
+    (a .provisional) (cycle-path-kind .result) (none .result) (add-usage .result) (cycle-result .result) (cycle-path-kind .ensures)
+    (none .ensures) (add-usage .ensures) (cycle-result .ensures) (y .ensures .stack)
 
 pub close-cycle-spec : {M : Type 1} → statement M
 close-cycle-spec =

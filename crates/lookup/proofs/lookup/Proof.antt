@@ -12,13 +12,36 @@ enum-known-depth : tie.Need-enum-known-depth
 enum-known-depth c = search needs
 
 lookup-at-depth-requires : tie.Need-lookup-at-depth-requires
-lookup-at-depth-requires c κs = let q = c .before .before .before .before .before .before .before .before .pre in let p = c .before .before .depth in record { graph = record { bytes = q .bytes; height = q .height; entries = q .entries }; cache = q .cache; goal = q .goal; available = c .before .before .before .before .allowed-depth-for-nested .ensures .small (p .given .0 .0) (p .given .1) }
+lookup-at-depth-requires c κs =
+    let q = c .before .before .before .before .before .before .before .before .pre in
+    let p = c .before .before .depth in
+    let allowed-depth-for-nested = c .before .before .before .before .allowed-depth-for-nested in
+    record {
+      graph = record { bytes = q .bytes; height = q .height; entries = q .entries };
+      cache = q .cache;
+      goal = q .goal;
+      available = allowed-depth-for-nested .ensures .small (p .given .0 .0) (p .given .1);
+    }
 
 same-length : tie.Need-same-length
 same-length c = search needs
 
 returns : tie.Need-returns
-returns c = let a = c .before .before .before .before .before .before .before .before .before .before .before .args in let p = c .before .before .before .before .before .depth in let y = c .before .before .lookup-at-depth in (λ compute. depth-allowed (a .h) (a .root) (a .height) (a .entries) (a .goal) (a .step) (a .lower) (a .graph .now) (a .cache .now) (c .before .before .before .before .before .before .before .allowed-depth-for-nested .result) (c .before .before .before .before .before .before .before .allowed-depth-for-nested .ensures .is (a .h) refl) compute (p .given .0 .0) (p .given .1) ∙ y .ensures .0 (a .root) compute, λ d e. y .ensures .1 d e)
+returns c =
+    let c2 = c .before .before in let c5 = c2 .before .before .before in let c7 = c5 .before .before in
+    let c11 = c7 .before .before .before .before in
+    let a = c11 .args in
+    let p = c5 .depth in
+    let y = c2 .lookup-at-depth in
+    let allowed-depth-for-nested = c7 .allowed-depth-for-nested in
+    record {
+      is =
+          λ compute. depth-allowed (a .h) (a .root) (a .height) (a .entries) (a .goal) (a .step) (a .lower) (a .graph .now)
+          (a .cache .now) (allowed-depth-for-nested .result) (allowed-depth-for-nested .ensures .is (a .h) refl) compute (p .given .0 .0)
+          (p .given .1)
+          ∙ y .ensures .is (a .root) compute;
+      low = y .ensures .low;
+    }
 
 enum-told : tie.Need-enum-told
 enum-told c = search needs
@@ -30,7 +53,20 @@ same-length-2 : tie.Need-same-length-2
 same-length-2 c = search needs
 
 returns-2 : tie.Need-returns-2
-returns-2 c = let a = c .before .before .before .before .before .before .before .before .before .before .args in let y = c .before .before .mark-top-overflow in (λ compute. depth-overflow (a .h) (a .root) (a .height) (a .entries) (a .goal) (a .step) (a .lower) (a .graph .now) (a .cache .now) (c .before .before .before .before .before .before .allowed-depth-for-nested .result) (c .before .before .before .before .before .before .allowed-depth-for-nested .ensures .is (a .h) refl) compute (c .before .before .before .before .enum-told .given .1) (y .last .0) (y .ensures .stack) (y .ensures .entries), λ d e. known-pushes answer.Overflow d e)
+returns-2 c =
+    let c2 = c .before .before in let c4 = c2 .before .before in let c6 = c4 .before .before in
+    let c10 = c6 .before .before .before .before in
+    let a = c10 .args in
+    let y = c2 .mark-top-overflow in
+    let allowed-depth-for-nested = c6 .allowed-depth-for-nested in
+    let enum-told = c4 .enum-told in
+    record {
+      is =
+          λ compute. depth-overflow (a .h) (a .root) (a .height) (a .entries) (a .goal) (a .step) (a .lower) (a .graph .now)
+          (a .cache .now) (allowed-depth-for-nested .result) (allowed-depth-for-nested .ensures .is (a .h) refl) compute
+          (enum-told .given .1) (y .last .0) (y .ensures .stack) (y .ensures .entries);
+      low = λ d e. known-pushes answer.Overflow d e;
+    }
 
 pub lookup-spec : {M : Type 1} → statement M
 lookup-spec =

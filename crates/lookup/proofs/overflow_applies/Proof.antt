@@ -9,7 +9,11 @@ is-held-requires : tie.Need-is-held-requires
 is-held-requires c κs = search needs
 
 returns : tie.Need-returns
-returns c = let a = c .before .before .before .before .args in slot-empty (slotHeld (a .s .now)) (applicable (a .goals) (a .height) (a .entries) (a .graph .now) (a .step)) (slotNested (a .s .now)) (c .before .is-held .result) (c .before .is-held .ensures) (c .if1 .taken)
+returns c =
+    let a = c .before .before .before .before .args in
+    let is-held = c .before .is-held in
+    slot-empty (slotHeld (a .s .now)) (applicable (a .goals) (a .height) (a .entries) (a .graph .now) (a .step)) (slotNested (a .s .now))
+    (is-held .result) (is-held .ensures) (c .if1 .taken)
 
 nested-of-requires : tie.Need-nested-of-requires
 nested-of-requires c κs = search needs
@@ -18,7 +22,14 @@ candidate-is-applicable-requires : tie.Need-candidate-is-applicable-requires
 candidate-is-applicable-requires c κs = search needs
 
 returns-2 : tie.Need-returns-2
-returns-2 c = let a = c .before .before .before .before .before .before .args in slot-held (slotHeld (a .s .now)) (applicable (a .goals) (a .height) (a .entries) (a .graph .now) (a .step)) (slotNested (a .s .now)) (c .before .before .before .is-held .result) (c .before .before .before .is-held .ensures) (c .before .before .if1 .left) (c .before .nested-of .result .now) (c .before .nested-of .ensures) (c .candidate-is-applicable .result) (c .candidate-is-applicable .ensures)
+returns-2 c =
+    let a = c .before .before .before .before .before .before .args in
+    let is-held = c .before .before .before .is-held in
+    let nested-of = c .before .nested-of in
+    let candidate-is-applicable = c .candidate-is-applicable in
+    slot-held (slotHeld (a .s .now)) (applicable (a .goals) (a .height) (a .entries) (a .graph .now) (a .step)) (slotNested (a .s .now))
+    (is-held .result) (is-held .ensures) (c .before .before .if1 .left) (nested-of .result .now) (nested-of .ensures)
+    (candidate-is-applicable .result) (candidate-is-applicable .ensures)
 
 pub overflow-applies-spec : {M : Type 1} → statement M
 overflow-applies-spec =

@@ -22,7 +22,18 @@ same-length : tie.Need-same-length
 same-length c = search needs
 
 returns : tie.Need-returns
-returns c = let a = c .before .before .before .before .before .before .before .before .before .before .args in let y = c .before .before .before .update-from-slot in slot-used (a .h) (a .height) (a .graph .now) (y .last .0) (a .step) (a .available) (y .ensures .entries) (a .s .now) (c .before .before .before .before .before .nested-of .result .now) (a .overflow) (c .before .before .before .before .before .before .before .depth-of .result) (c .before .before .before .before .before .before .minus .result) (c .result-of .result) (c .before .before .before .before .before .before .before .depth-of .ensures) (c .before .before .before .before .before .before .minus .ensures) (c .before .before .before .before .before .nested-of .ensures) (c .result-of .ensures) (y .ensures .stack)
+returns c =
+    let c3 = c .before .before .before in let c5 = c3 .before .before in let c6 = c5 .before in let c7 = c6 .before in
+    let c10 = c7 .before .before .before in
+    let a = c10 .args in
+    let y = c3 .update-from-slot in
+    let depth-of = c7 .depth-of in
+    let minus = c6 .minus in
+    let nested-of = c5 .nested-of in
+    let result-of = c .result-of in
+    slot-used (a .h) (a .height) (a .graph .now) (y .last .0) (a .step) (a .available) (y .ensures .entries) (a .s .now)
+    (nested-of .result .now) (a .overflow) (depth-of .result) (minus .result) (result-of .result) (depth-of .ensures) (minus .ensures)
+    (nested-of .ensures) (result-of .ensures) (y .ensures .stack)
 
 pub use-slot-spec : {M : Type 1} → statement M
 use-slot-spec =

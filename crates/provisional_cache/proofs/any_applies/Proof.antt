@@ -11,7 +11,10 @@ use Rattle.provisional_cache.proofs.any_applies.Statement.{statement}
 use Rattle.provisional_cache.proofs.any_applies.Tie as tie
 
 abbrev Inv-loop : tie.InvT-loop
-Inv-loop graph goals height entries step nested i₀ i = (i ≤ entries) × (anyEntryApplies (stackOf goals height graph) step nested (drop i (entriesOf goals entries graph)) ≡ anyEntryApplies (stackOf goals height graph) step nested (entriesOf goals entries graph))
+Inv-loop graph goals height entries step nested i₀ i =
+    (i ≤ entries)
+    × (anyEntryApplies (stackOf goals height graph) step nested (drop i (entriesOf goals entries graph))
+    ≡ anyEntryApplies (stackOf goals height graph) step nested (entriesOf goals entries graph))
 
 abbrev μ-loop : tie.MeasureT-loop
 μ-loop graph goals height entries step nested i₀ i = entries - i
@@ -23,10 +26,31 @@ entry-at-requires : tie.Need-entry-at-requires Inv-loop μ-loop
 entry-at-requires c κs = let s = c .before .before .before .before in (s .pre .0, omega arith)
 
 applies-requires : tie.Need-applies-requires Inv-loop μ-loop
-applies-requires c κs = let s = c .before .before .before .before .before in let lt : c .before .before .loop .i < 2 * s .args .goals = omega arith in (entry-bytes (s .args .goals) (s .args .graph .now) (c .entry-at .result .now) (c .before .before .loop .i) (s .pre .0) lt (c .entry-at .ensures), (s .pre .0, s .pre .1 .0))
+applies-requires c κs =
+    let s = c .before .before .before .before .before in
+    let lt : c .before .before .loop .i < 2 * s .args .goals = omega arith in
+    let entry-at = c .entry-at in (
+      entry-bytes (s .args .goals) (s .args .graph .now) (entry-at .result .now) (c .before .before .loop .i) (s .pre .0) lt
+          (entry-at .ensures),
+      (s .pre .0, s .pre .1 .0),
+    )
 
 returns : tie.Need-returns Inv-loop μ-loop
-returns c = let s = c .before .before .before .before .before .before .before in let l = c .before .before .before .before .loop in any-here (s .args .goals) (s .args .graph .now) (s .args .entries) (l .i) (stackOf (s .args .goals) (s .args .height) (s .args .graph .now)) (s .args .step) (s .args .nested .now) (anyEntryApplies (stackOf (s .args .goals) (s .args .height) (s .args .graph .now)) (s .args .step) (s .args .nested .now) (entriesOf (s .args .goals) (s .args .entries) (s .args .graph .now))) (l .inv .1) (c .before .before .before .loop-test .taken) (sym (c .before .applies .ensures ∙ read-at {A = Bool} (entryApplies (stackOf (s .args .goals) (s .args .height) (s .args .graph .now)) (s .args .step) (s .args .nested .now)) (s .args .goals) (s .args .graph .now) (l .i) (c .before .before .entry-at .result .now) (c .before .before .entry-at .ensures)) ∙ c .if1 .taken)
+returns c =
+    let s = c .before .before .before .before .before .before .before in
+    let l = c .before .before .before .before .loop in
+    let loop-test = c .before .before .before .loop-test in
+    let entry-at = c .before .before .entry-at in
+    any-here (s .args .goals) (s .args .graph .now) (s .args .entries) (l .i)
+    (stackOf (s .args .goals) (s .args .height) (s .args .graph .now)) (s .args .step) (s .args .nested .now)
+    (anyEntryApplies (stackOf (s .args .goals) (s .args .height) (s .args .graph .now)) (s .args .step) (s .args .nested .now)
+    (entriesOf (s .args .goals) (s .args .entries) (s .args .graph .now))) (l .inv .1) (loop-test .taken)
+    (sym
+    (c .before .applies .ensures
+    ∙ read-at {A = Bool}
+    (entryApplies (stackOf (s .args .goals) (s .args .height) (s .args .graph .now)) (s .args .step) (s .args .nested .now))
+    (s .args .goals) (s .args .graph .now) (l .i) (entry-at .result .now) (entry-at .ensures))
+    ∙ c .if1 .taken)
 
 add-i : tie.Need-add-i Inv-loop μ-loop
 add-i c = omega arith
@@ -35,10 +59,32 @@ loop-less : tie.Need-loop-less Inv-loop μ-loop
 loop-less c = omega arith
 
 loop-again : tie.Need-loop-again Inv-loop μ-loop
-loop-again c = let s = c .before .before .before .before .before .before .before in let l = c .before .before .before .before .loop in (omega arith, any-next (s .args .goals) (s .args .graph .now) (s .args .entries) (l .i) (stackOf (s .args .goals) (s .args .height) (s .args .graph .now)) (s .args .step) (s .args .nested .now) (anyEntryApplies (stackOf (s .args .goals) (s .args .height) (s .args .graph .now)) (s .args .step) (s .args .nested .now) (entriesOf (s .args .goals) (s .args .entries) (s .args .graph .now))) (l .inv .1) (c .before .before .before .loop-test .taken) (sym (c .before .applies .ensures ∙ read-at {A = Bool} (entryApplies (stackOf (s .args .goals) (s .args .height) (s .args .graph .now)) (s .args .step) (s .args .nested .now)) (s .args .goals) (s .args .graph .now) (l .i) (c .before .before .entry-at .result .now) (c .before .before .entry-at .ensures)) ∙ c .if1 .left))
+loop-again c =
+    let s = c .before .before .before .before .before .before .before in
+    let l = c .before .before .before .before .loop in
+    let loop-test = c .before .before .before .loop-test in
+    let entry-at = c .before .before .entry-at in (
+      omega arith,
+      any-next (s .args .goals) (s .args .graph .now) (s .args .entries) (l .i)
+          (stackOf (s .args .goals) (s .args .height) (s .args .graph .now)) (s .args .step) (s .args .nested .now)
+          (anyEntryApplies (stackOf (s .args .goals) (s .args .height) (s .args .graph .now)) (s .args .step) (s .args .nested .now)
+          (entriesOf (s .args .goals) (s .args .entries) (s .args .graph .now))) (l .inv .1) (loop-test .taken)
+          (sym
+          (c .before .applies .ensures
+          ∙ read-at {A = Bool}
+          (entryApplies (stackOf (s .args .goals) (s .args .height) (s .args .graph .now)) (s .args .step) (s .args .nested .now))
+          (s .args .goals) (s .args .graph .now) (l .i) (entry-at .result .now) (entry-at .ensures))
+          ∙ c .if1 .left),
+    )
 
 returns-2 : tie.Need-returns-2 Inv-loop μ-loop
-returns-2 c = let s = c .before .before .before .before in let l = c .before .loop in any-none (s .args .goals) (s .args .graph .now) (s .args .entries) (l .i) (stackOf (s .args .goals) (s .args .height) (s .args .graph .now)) (s .args .step) (s .args .nested .now) (anyEntryApplies (stackOf (s .args .goals) (s .args .height) (s .args .graph .now)) (s .args .step) (s .args .nested .now) (entriesOf (s .args .goals) (s .args .entries) (s .args .graph .now))) (l .inv .1) (c .loop-test .left)
+returns-2 c =
+    let s = c .before .before .before .before in
+    let l = c .before .loop in
+    any-none (s .args .goals) (s .args .graph .now) (s .args .entries) (l .i)
+    (stackOf (s .args .goals) (s .args .height) (s .args .graph .now)) (s .args .step) (s .args .nested .now)
+    (anyEntryApplies (stackOf (s .args .goals) (s .args .height) (s .args .graph .now)) (s .args .step) (s .args .nested .now)
+    (entriesOf (s .args .goals) (s .args .entries) (s .args .graph .now))) (l .inv .1) (c .loop-test .left)
 
 pub any-applies-spec : {M : Type 1} → statement M
 any-applies-spec =

@@ -21,13 +21,28 @@ heads-size-requires : tie.Need-heads-size-requires
 heads-size-requires c κs = search needs
 
 copy-up-requires : tie.Need-copy-up-requires
-copy-up-requires c κs = let s = c .before .before .before .before .before in copy-room (s .args .goals) (s .args .height) (s .args .i) (c .before .before .before .frame-start .result + 40) (c .before .before .entry-start .result + 8) (c .heads-size .result) (s .args .graph .now) (s .pre .0) (s .pre .1 .0) (s .pre .1 .1) (ap (λ (x : ℕ). x + 40) (c .before .before .before .frame-start .ensures .0)) (ap (λ (x : ℕ). x + 8) (c .before .before .entry-start .ensures .0)) (c .heads-size .ensures)
+copy-up-requires c κs =
+    let s = c .before .before .before .before .before in
+    let frame-start = c .before .before .before .frame-start in
+    let entry-start = c .before .before .entry-start in
+    let heads-size = c .heads-size in
+    copy-room (s .args .goals) (s .args .height) (s .args .i) (frame-start .result + 40) (entry-start .result + 8) (heads-size .result)
+    (s .args .graph .now) (s .pre .0) (s .pre .1 .0) (s .pre .1 .1) (ap (λ (x : ℕ). x + 40) (frame-start .ensures .0))
+    (ap (λ (x : ℕ). x + 8) (entry-start .ensures .0)) (heads-size .ensures)
 
 same-length : tie.Need-same-length
 same-length c = search needs
 
 returns : tie.Need-returns
-returns c = let s = c .before .before .before .before .before .before .before .before in copy-is (s .args .goals) (s .args .height) (s .args .i) (c .before .before .before .before .before .before .frame-start .result + 40) (c .before .before .before .before .before .entry-start .result + 8) (c .before .before .before .heads-size .result) (s .args .graph .now) (c .before .before .copy-up .last .0) (ap (λ (x : ℕ). x + 40) (c .before .before .before .before .before .before .frame-start .ensures .0)) (ap (λ (x : ℕ). x + 8) (c .before .before .before .before .before .entry-start .ensures .0)) (c .before .before .before .heads-size .ensures) (c .before .before .copy-up .ensures)
+returns c =
+    let s = c .before .before .before .before .before .before .before .before in
+    let frame-start = c .before .before .before .before .before .before .frame-start in
+    let entry-start = c .before .before .before .before .before .entry-start in
+    let heads-size = c .before .before .before .heads-size in
+    let copy-up = c .before .before .copy-up in
+    copy-is (s .args .goals) (s .args .height) (s .args .i) (frame-start .result + 40) (entry-start .result + 8) (heads-size .result)
+    (s .args .graph .now) (copy-up .last .0) (ap (λ (x : ℕ). x + 40) (frame-start .ensures .0))
+    (ap (λ (x : ℕ). x + 8) (entry-start .ensures .0)) (heads-size .ensures) (copy-up .ensures)
 
 pub copy-heads-spec : {M : Type 1} → statement M
 copy-heads-spec =

@@ -35,13 +35,24 @@ loop-less : tie.Need-loop-less Inv-loop μ-loop
 loop-less c = omega arith
 
 loop-again : tie.Need-loop-again Inv-loop μ-loop
-loop-again c = let l = c .before .before .loop in let a = c .before .before .before in (omega arith, simp length-set (l .inv .1), copy-up-more (a .args .s .now) (l .s) (a .args .from) (a .args .to) (a .args .n) (l .i) (l .inv .2) (a .pre .0) (a .pre .1) (c .before .loop-test .taken))
+loop-again c =
+    let l = c .before .before .loop in
+    let a = c .before .before .before in (
+      omega arith,
+      simp length-set (l .inv .1),
+      copy-up-more (a .args .s .now) (l .s) (a .args .from) (a .args .to) (a .args .n) (l .i)
+          (l .inv .2) (a .pre .0) (a .pre .1) (c .before .loop-test .taken),
+    )
 
 same-length : tie.Need-same-length Inv-loop μ-loop
 same-length c = c .before .loop .inv .1
 
 returns : tie.Need-returns Inv-loop μ-loop
-returns c = let l = c .before .loop in let a = c .before .before .args in let e : l .i ≡ a .n = omega arith in l .inv .2 ∙ ap (λ (n : ℕ). overwrite (a .s .now) (a .to) (region (a .from) n (a .s .now))) e
+returns c =
+    let l = c .before .loop in
+    let a = c .before .before .args in
+    let e : l .i ≡ a .n = omega arith in
+    l .inv .2 ∙ ap (λ (n : ℕ). overwrite (a .s .now) (a .to) (region (a .from) n (a .s .now))) e
 
 pub copy-up-spec : {M : Type 1} → statement M
 copy-up-spec =

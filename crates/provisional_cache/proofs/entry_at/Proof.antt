@@ -9,8 +9,8 @@ entry-start-requires c κs = search needs
 entry-size-requires : tie.Need-entry-size-requires
 entry-size-requires c κs = search needs
 
-add-e : tie.Need-add-e
-add-e c = search needs
+add-end : tie.Need-add-end
+add-end c = search needs
 
 sub-result : tie.Need-sub-result
 sub-result c = search needs
@@ -19,10 +19,20 @@ part-result-start : tie.Need-part-result-start
 part-result-start c = search needs
 
 part-result-end : tie.Need-part-result-end
-part-result-end c = let s = c .before .before .before in part-room (s .args .goals) (s .args .graph .now) (s .args .i) (c .before .entry-start .result) (c .entry-size .result) (s .pre .0) (s .pre .1) (c .before .entry-start .ensures .0) (c .entry-size .ensures)
+part-result-end c =
+    let s = c .before .before .before in
+    let entry-start = c .before .entry-start in
+    let entry-size = c .entry-size in
+    part-room (s .args .goals) (s .args .graph .now) (s .args .i) (entry-start .result) (entry-size .result) (s .pre .0) (s .pre .1)
+    (entry-start .ensures .0) (entry-size .ensures)
 
 returns : tie.Need-returns
-returns c = let s = c .before .before .before .before in part-is (s .args .goals) (s .args .graph .now) (s .args .i) (c .before .before .entry-start .result) (c .before .entry-size .result) (s .pre .0) (s .pre .1) (c .before .before .entry-start .ensures .0) (c .before .entry-size .ensures)
+returns c =
+    let s = c .before .before .before .before in
+    let entry-start = c .before .before .entry-start in
+    let entry-size = c .before .entry-size in
+    part-is (s .args .goals) (s .args .graph .now) (s .args .i) (entry-start .result) (entry-size .result) (s .pre .0) (s .pre .1)
+    (entry-start .ensures .0) (entry-size .ensures)
 
 pub entry-at-spec : {M : Type 1} → statement M
 entry-at-spec =
@@ -30,7 +40,7 @@ entry-at-spec =
     (tie.spec
     entry-start-requires
     entry-size-requires
-    add-e
+    add-end
     sub-result
     part-result-start
     part-result-end

@@ -11,7 +11,10 @@ use Rattle.provisional_cache.proofs.first_match.Statement.{statement}
 use Rattle.provisional_cache.proofs.first_match.Tie as tie
 
 abbrev Inv-loop : tie.InvT-loop
-Inv-loop graph goals height entries goal step i₀ i = (i ≤ entries) × (firstMatch (stackOf goals height graph) goal step (drop i (entriesOf goals entries graph)) ≡ firstMatch (stackOf goals height graph) goal step (entriesOf goals entries graph))
+Inv-loop graph goals height entries goal step i₀ i =
+    (i ≤ entries)
+    × (firstMatch (stackOf goals height graph) goal step (drop i (entriesOf goals entries graph))
+    ≡ firstMatch (stackOf goals height graph) goal step (entriesOf goals entries graph))
 
 abbrev μ-loop : tie.MeasureT-loop
 μ-loop graph goals height entries goal step i₀ i = entries - i
@@ -23,10 +26,35 @@ entry-at-requires : tie.Need-entry-at-requires Inv-loop μ-loop
 entry-at-requires c κs = let s = c .before .before .before in (s .pre .0, omega arith)
 
 is-match-requires : tie.Need-is-match-requires Inv-loop μ-loop
-is-match-requires c κs = let s = c .before .before .before .before in let lt : c .before .before .loop .i < 2 * s .args .goals = omega arith in (entry-bytes (s .args .goals) (s .args .graph .now) (c .entry-at .result .now) (c .before .before .loop .i) (s .pre .0) lt (c .entry-at .ensures), (s .pre .0, s .pre .1 .0))
+is-match-requires c κs =
+    let s = c .before .before .before .before in
+    let lt : c .before .before .loop .i < 2 * s .args .goals = omega arith in
+    let entry-at = c .entry-at in (
+      entry-bytes (s .args .goals) (s .args .graph .now) (entry-at .result .now) (c .before .before .loop .i) (s .pre .0) lt
+          (entry-at .ensures),
+      (s .pre .0, s .pre .1 .0),
+    )
 
 returns : tie.Need-returns Inv-loop μ-loop
-returns c = let s = c .before .before .before .before .before .before in let l = c .before .before .before .before .loop in (omega arith, match-here (s .args .goals) (s .args .graph .now) (s .args .entries) (l .i) (stackOf (s .args .goals) (s .args .height) (s .args .graph .now)) (s .args .goal) (s .args .step) (firstMatch (stackOf (s .args .goals) (s .args .height) (s .args .graph .now)) (s .args .goal) (s .args .step) (entriesOf (s .args .goals) (s .args .entries) (s .args .graph .now))) (l .inv .1) (c .before .before .before .loop-test .taken) (sym (c .before .is-match .ensures ∙ read-at {A = Bool} (entryMatches (stackOf (s .args .goals) (s .args .height) (s .args .graph .now)) (s .args .goal) (s .args .step)) (s .args .goals) (s .args .graph .now) (l .i) (c .before .before .entry-at .result .now) (c .before .before .entry-at .ensures)) ∙ c .if1 .taken))
+returns c =
+    let s = c .before .before .before .before .before .before in
+    let l = c .before .before .before .before .loop in
+    let loop-test = c .before .before .before .loop-test in
+    let entry-at = c .before .before .entry-at in
+    record {
+      few = omega arith;
+      is =
+          match-here (s .args .goals) (s .args .graph .now) (s .args .entries) (l .i)
+          (stackOf (s .args .goals) (s .args .height) (s .args .graph .now)) (s .args .goal) (s .args .step)
+          (firstMatch (stackOf (s .args .goals) (s .args .height) (s .args .graph .now)) (s .args .goal) (s .args .step)
+          (entriesOf (s .args .goals) (s .args .entries) (s .args .graph .now))) (l .inv .1) (loop-test .taken)
+          (sym
+          (c .before .is-match .ensures
+          ∙ read-at {A = Bool}
+          (entryMatches (stackOf (s .args .goals) (s .args .height) (s .args .graph .now)) (s .args .goal) (s .args .step))
+          (s .args .goals) (s .args .graph .now) (l .i) (entry-at .result .now) (entry-at .ensures))
+          ∙ c .if1 .taken);
+    }
 
 add-i : tie.Need-add-i Inv-loop μ-loop
 add-i c = omega arith
@@ -35,10 +63,35 @@ loop-less : tie.Need-loop-less Inv-loop μ-loop
 loop-less c = omega arith
 
 loop-again : tie.Need-loop-again Inv-loop μ-loop
-loop-again c = let s = c .before .before .before .before .before .before in let l = c .before .before .before .before .loop in (omega arith, match-next (s .args .goals) (s .args .graph .now) (s .args .entries) (l .i) (stackOf (s .args .goals) (s .args .height) (s .args .graph .now)) (s .args .goal) (s .args .step) (firstMatch (stackOf (s .args .goals) (s .args .height) (s .args .graph .now)) (s .args .goal) (s .args .step) (entriesOf (s .args .goals) (s .args .entries) (s .args .graph .now))) (l .inv .1) (c .before .before .before .loop-test .taken) (sym (c .before .is-match .ensures ∙ read-at {A = Bool} (entryMatches (stackOf (s .args .goals) (s .args .height) (s .args .graph .now)) (s .args .goal) (s .args .step)) (s .args .goals) (s .args .graph .now) (l .i) (c .before .before .entry-at .result .now) (c .before .before .entry-at .ensures)) ∙ c .if1 .left))
+loop-again c =
+    let s = c .before .before .before .before .before .before in
+    let l = c .before .before .before .before .loop in
+    let loop-test = c .before .before .before .loop-test in
+    let entry-at = c .before .before .entry-at in (
+      omega arith,
+      match-next (s .args .goals) (s .args .graph .now) (s .args .entries) (l .i)
+          (stackOf (s .args .goals) (s .args .height) (s .args .graph .now)) (s .args .goal) (s .args .step)
+          (firstMatch (stackOf (s .args .goals) (s .args .height) (s .args .graph .now)) (s .args .goal) (s .args .step)
+          (entriesOf (s .args .goals) (s .args .entries) (s .args .graph .now))) (l .inv .1) (loop-test .taken)
+          (sym
+          (c .before .is-match .ensures
+          ∙ read-at {A = Bool} (entryMatches (stackOf (s .args .goals) (s .args .height) (s .args .graph .now)) (s .args .goal) (s .args .step))
+          (s .args .goals) (s .args .graph .now) (l .i) (entry-at .result .now) (entry-at .ensures))
+          ∙ c .if1 .left),
+    )
 
 returns-2 : tie.Need-returns-2 Inv-loop μ-loop
-returns-2 c = let s = c .before .before .before in let l = c .before .loop in (omega arith, match-none (s .args .goals) (s .args .graph .now) (s .args .entries) (l .i) (stackOf (s .args .goals) (s .args .height) (s .args .graph .now)) (s .args .goal) (s .args .step) (firstMatch (stackOf (s .args .goals) (s .args .height) (s .args .graph .now)) (s .args .goal) (s .args .step) (entriesOf (s .args .goals) (s .args .entries) (s .args .graph .now))) (l .inv .1) (c .loop-test .left))
+returns-2 c =
+    let s = c .before .before .before in
+    let l = c .before .loop in
+    record {
+      few = omega arith;
+      is =
+          match-none (s .args .goals) (s .args .graph .now) (s .args .entries) (l .i)
+          (stackOf (s .args .goals) (s .args .height) (s .args .graph .now)) (s .args .goal) (s .args .step)
+          (firstMatch (stackOf (s .args .goals) (s .args .height) (s .args .graph .now)) (s .args .goal) (s .args .step)
+          (entriesOf (s .args .goals) (s .args .entries) (s .args .graph .now))) (l .inv .1) (c .loop-test .left);
+    }
 
 pub first-match-spec : {M : Type 1} → statement M
 first-match-spec =

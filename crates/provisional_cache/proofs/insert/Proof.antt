@@ -8,7 +8,10 @@ mul-if1 : tie.Need-mul-if1
 mul-if1 c = search needs
 
 returns : tie.Need-returns
-returns c = let s = c .before .before in insert-full (s .args .goals) (s .args .height) (s .args .entries) (s .args .goal) (s .args .step) (s .args .overflow) (s .args .answer) (s .args .graph .now) (c .if1 .taken)
+returns c =
+    let s = c .before .before in
+    insert-full (s .args .goals) (s .args .height) (s .args .entries) (s .args .goal) (s .args .step) (s .args .overflow)
+    (s .args .answer) (s .args .graph .now) (c .if1 .taken)
 
 path-from-head-requires : tie.Need-path-from-head-requires
 path-from-head-requires c κs = search needs
@@ -20,7 +23,13 @@ same-length : tie.Need-same-length
 same-length c = search needs
 
 returns-2 : tie.Need-returns-2
-returns-2 c = let s = c .before .before .before .before .before .before .before .before in insert-kept (s .args .goals) (s .args .height) (s .args .entries) (s .args .goal) (s .args .step) (s .args .overflow) (s .args .answer) (s .args .graph .now) (omega arith) (c .before .before .write-entry .last .0) (c .before .before .before .before .path-from-head .result) (c .before .before .before .before .path-from-head .ensures) (c .before .before .write-entry .ensures .0) (c .before .before .write-entry .ensures .1)
+returns-2 c =
+    let s = c .before .before .before .before .before .before .before .before in
+    let path-from-head = c .before .before .before .before .path-from-head in
+    let write-entry = c .before .before .write-entry in
+    insert-kept (s .args .goals) (s .args .height) (s .args .entries) (s .args .goal) (s .args .step) (s .args .overflow)
+    (s .args .answer) (s .args .graph .now) (omega arith) (write-entry .last .0) (path-from-head .result) (path-from-head .ensures)
+    (write-entry .ensures)
 
 pub insert-spec : {M : Type 1} → statement M
 insert-spec =

@@ -14,10 +14,22 @@ none-or-above-requires : tie.Need-none-or-above-requires
 none-or-above-requires c κs = search needs
 
 returns : tie.Need-returns
-returns c = let s = c .before .before .before .before .before in hidden-by ((entryOf (s .args .goals) (s .args .e .now)) .encounteredOverflow) (noneOrAbove (optLowestIndex (lastHeads (stackOf (s .args .goals) (s .args .height) (s .args .graph .now)))) (s .args .head)) (c .before .before .encountered-overflow .result) (c .none-or-above .result) (c .before .before .encountered-overflow .ensures) (c .before .if1 .taken) (c .none-or-above .ensures)
+returns c =
+    let s = c .before .before .before .before .before in
+    let encountered-overflow = c .before .before .encountered-overflow in
+    let none-or-above = c .none-or-above in
+    hidden-by ((entryOf (s .args .goals) (s .args .entry .now)) .encounteredOverflow)
+    (noneOrAbove (optLowestIndex (lastHeads (stackOf (s .args .goals) (s .args .height) (s .args .graph .now)))) (s .args .head))
+    (encountered-overflow .result) (none-or-above .result) (encountered-overflow .ensures) (c .before .if1 .taken)
+    (none-or-above .ensures)
 
 returns-2 : tie.Need-returns-2
-returns-2 c = let s = c .before .before .before .before in hidden-not ((entryOf (s .args .goals) (s .args .e .now)) .encounteredOverflow) (noneOrAbove (optLowestIndex (lastHeads (stackOf (s .args .goals) (s .args .height) (s .args .graph .now)))) (s .args .head)) (c .before .encountered-overflow .result) (c .before .encountered-overflow .ensures) (c .if1 .left)
+returns-2 c =
+    let s = c .before .before .before .before in
+    let encountered-overflow = c .before .encountered-overflow in
+    hidden-not ((entryOf (s .args .goals) (s .args .entry .now)) .encounteredOverflow)
+    (noneOrAbove (optLowestIndex (lastHeads (stackOf (s .args .goals) (s .args .height) (s .args .graph .now)))) (s .args .head))
+    (encountered-overflow .result) (encountered-overflow .ensures) (c .if1 .left)
 
 pub is-hidden-spec : {M : Type 1} → statement M
 is-hidden-spec =

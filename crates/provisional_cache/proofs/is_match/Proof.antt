@@ -10,7 +10,10 @@ input-requires : tie.Need-input-requires
 input-requires c κs = search needs
 
 returns : tie.Need-returns
-returns c = let s = c .before .before .before .before in match-other (stackOf (s .args .goals) (s .args .height) (s .args .graph .now)) (s .args .goal) (s .args .step) (entryOf (s .args .goals) (s .args .e .now)) (λ e. c .if1 .taken (c .before .input .ensures .0 ∙ e))
+returns c =
+    let s = c .before .before .before .before in
+    match-other (stackOf (s .args .goals) (s .args .height) (s .args .graph .now)) (s .args .goal) (s .args .step)
+    (entryOf (s .args .goals) (s .args .entry .now)) (λ e. c .if1 .taken (c .before .input .ensures .0 ∙ e))
 
 highest-head-requires : tie.Need-highest-head-requires
 highest-head-requires c κs = search needs
@@ -19,7 +22,15 @@ is-hidden-requires : tie.Need-is-hidden-requires
 is-hidden-requires c κs = search needs
 
 returns-2 : tie.Need-returns-2
-returns-2 c = let s = c .before .before .before .before .before .before .before in match-hidden (stackOf (s .args .goals) (s .args .height) (s .args .graph .now)) (s .args .goal) (s .args .step) (entryOf (s .args .goals) (s .args .e .now)) (c .before .before .highest-head .result) (c .before .before .highest-head .ensures) (sym (c .before .before .before .before .input .ensures .0) ∙ c .before .before .before .if1 .left) (c .before .is-hidden .result) (c .before .is-hidden .ensures) (c .if2 .taken)
+returns-2 c =
+    let s = c .before .before .before .before .before .before .before in
+    let input = c .before .before .before .before .input in
+    let if1 = c .before .before .before .if1 in
+    let highest-head = c .before .before .highest-head in
+    let is-hidden = c .before .is-hidden in
+    match-hidden (stackOf (s .args .goals) (s .args .height) (s .args .graph .now)) (s .args .goal) (s .args .step)
+    (entryOf (s .args .goals) (s .args .entry .now)) (highest-head .result) (highest-head .ensures) (sym (input .ensures .0) ∙ if1 .left)
+    (is-hidden .result) (is-hidden .ensures) (c .if2 .taken)
 
 path-from-head-requires : tie.Need-path-from-head-requires
 path-from-head-requires c κs = search needs
@@ -31,7 +42,21 @@ same-requires : tie.Need-same-requires
 same-requires c κs = search needs
 
 returns-3 : tie.Need-returns-3
-returns-3 c = let s = c .before .before .before .before .before .before .before .before .before .before in match-shown (stackOf (s .args .goals) (s .args .height) (s .args .graph .now)) (s .args .goal) (s .args .step) (entryOf (s .args .goals) (s .args .e .now)) (c .before .before .before .before .before .highest-head .result) (c .before .before .before .before .before .highest-head .ensures) (sym (c .before .before .before .before .before .before .before .input .ensures .0) ∙ c .before .before .before .before .before .before .if1 .left) (c .before .before .before .before .is-hidden .result) (c .before .before .before .before .is-hidden .ensures) (c .before .before .before .if2 .left) (c .before .before .path-from-head .result) (c .before .cycle-path-kind .result) (c .before .before .path-from-head .ensures) (c .before .cycle-path-kind .ensures) (c .same .result) (c .same .ensures)
+returns-3 c =
+    let c1 = c .before in let c2 = c1 .before in let c3 = c2 .before in let c4 = c3 .before in let c5 = c4 .before in
+    let c6 = c5 .before in let c7 = c6 .before in let s = c7 .before .before .before in
+    let input = c7 .input in
+    let if1 = c6 .if1 in
+    let highest-head = c5 .highest-head in
+    let is-hidden = c4 .is-hidden in
+    let if2 = c3 .if2 in
+    let path-from-head = c2 .path-from-head in
+    let cycle-path-kind = c1 .cycle-path-kind in
+    let same = c .same in
+    match-shown (stackOf (s .args .goals) (s .args .height) (s .args .graph .now)) (s .args .goal) (s .args .step)
+    (entryOf (s .args .goals) (s .args .entry .now)) (highest-head .result) (highest-head .ensures) (sym (input .ensures .0) ∙ if1 .left)
+    (is-hidden .result) (is-hidden .ensures) (if2 .left) (path-from-head .result) (cycle-path-kind .result) (path-from-head .ensures)
+    (cycle-path-kind .ensures) (same .result) (same .ensures)
 
 pub is-match-spec : {M : Type 1} → statement M
 is-match-spec =

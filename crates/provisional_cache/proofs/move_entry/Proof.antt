@@ -4,7 +4,9 @@ use Rattle.provisional_cache.proofs.move_entry.Statement.{statement}
 use Rattle.provisional_cache.proofs.move_entry.Tie as tie
 
 returns : tie.Need-returns
-returns c = let s = c .before .before in move-none (s .args .goals) (s .args .graph .now) (s .pre .0) (s .args .from) (s .args .to) (s .pre .1 .1) (c .if1 .taken)
+returns c =
+    let s = c .before .before in
+    move-none (s .args .goals) (s .args .graph .now) (s .pre .0) (s .args .from) (s .args .to) (s .pre .1 .1) (c .if1 .taken)
 
 entry-start-requires : tie.Need-entry-start-requires
 entry-start-requires c κs = search needs
@@ -16,13 +18,29 @@ entry-size-requires : tie.Need-entry-size-requires
 entry-size-requires c κs = search needs
 
 copy-within-requires : tie.Need-copy-within-requires
-copy-within-requires c κs = let s = c .before .before .before .before .before .before in move-room (s .args .goals) (s .args .graph .now) (s .pre .0) (s .args .from) (s .args .to) (s .pre .1 .0) (s .pre .1 .1) (c .before .before .before .entry-start .result) (c .before .before .entry-start2 .result) (c .entry-size .result) (c .before .before .before .entry-start .ensures .0) (c .before .before .entry-start2 .ensures .0) (c .entry-size .ensures)
+copy-within-requires c κs =
+    let s = c .before .before .before .before .before .before in
+    let entry-start = c .before .before .before .entry-start in
+    let entry-start2 = c .before .before .entry-start2 in
+    let entry-size = c .entry-size in
+    move-room (s .args .goals) (s .args .graph .now) (s .pre .0) (s .args .from) (s .args .to) (s .pre .1 .0) (s .pre .1 .1)
+    (entry-start .result) (entry-start2 .result) (entry-size .result) (entry-start .ensures .0) (entry-start2 .ensures .0)
+    (entry-size .ensures)
 
 same-length : tie.Need-same-length
 same-length c = search needs
 
 returns-2 : tie.Need-returns-2
-returns-2 c = let s = c .before .before .before .before .before .before .before .before .before in move-is (s .args .goals) (s .args .graph .now) (s .pre .0) (s .args .from) (s .args .to) (c .before .before .before .before .before .before .entry-start .result) (c .before .before .before .before .before .entry-start2 .result) (c .before .before .before .entry-size .result) (c .before .before .copy-within .last .0) (c .before .before .before .before .before .before .entry-start .ensures .0) (c .before .before .before .before .before .entry-start2 .ensures .0) (c .before .before .before .entry-size .ensures) (c .before .before .copy-within .ensures)
+returns-2 c =
+    let c2 = c .before .before in let c3 = c2 .before in let c5 = c3 .before .before in let c6 = c5 .before in
+    let s = c6 .before .before .before in
+    let entry-start = c6 .entry-start in
+    let entry-start2 = c5 .entry-start2 in
+    let entry-size = c3 .entry-size in
+    let copy-within = c2 .copy-within in
+    move-is (s .args .goals) (s .args .graph .now) (s .pre .0) (s .args .from) (s .args .to) (entry-start .result) (entry-start2 .result)
+    (entry-size .result) (copy-within .last .0) (entry-start .ensures .0) (entry-start2 .ensures .0) (entry-size .ensures)
+    (copy-within .ensures)
 
 pub move-entry-spec : {M : Type 1} → statement M
 move-entry-spec =

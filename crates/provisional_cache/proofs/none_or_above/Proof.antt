@@ -1,7 +1,7 @@
 use native.Mathlib.Omega.{arith}
 use Prim.Native.Nat.{_-_}
 use Rattle.stack.proofs.Graph.{frame-bytes}
-use Rattle.provisional_cache.proofs.Entries.{frame-heads-block}
+use Rattle.stack.proofs.Blocks.{heads-block}
 use Rattle.provisional_cache.proofs.Tests.{above-root, above-empty, above-lowest}
 use mathlib.Core.Path.{sym, _∙_}
 use borrow.Author.Needs.{needs}
@@ -17,23 +17,53 @@ sub-frame-at c = search needs
 frame-at-requires : tie.Need-frame-at-requires
 frame-at-requires c κs = let s = c .before .before in (s .pre .0, omega arith)
 
-frame-heads-requires : tie.Need-frame-heads-requires
-frame-heads-requires c κs = let s = c .before .before .before in frame-bytes (s .args .goals) (s .args .graph .now) (c .frame-at .result .now) (s .args .height - 1) (s .pre .0) (omega arith) (c .frame-at .ensures)
+heads-requires : tie.Need-heads-requires
+heads-requires c κs =
+    let s = c .before .before .before in
+    let frame-at = c .frame-at in
+    frame-bytes (s .args .goals) (s .args .graph .now) (frame-at .result .now) (s .args .height - 1) (s .pre .0) (omega arith)
+    (frame-at .ensures)
 
 is-empty-requires : tie.Need-is-empty-requires
-is-empty-requires c κs = let s = c .before .before .before .before in frame-heads-block (s .args .goals) (c .before .frame-at .result .now) (c .frame-heads .result .now) (frame-bytes (s .args .goals) (s .args .graph .now) (c .before .frame-at .result .now) (s .args .height - 1) (s .pre .0) (omega arith) (c .before .frame-at .ensures)) (c .frame-heads .ensures)
+is-empty-requires c κs =
+    let s = c .before .before .before .before in
+    let frame-at = c .before .frame-at in
+    let heads = c .heads in
+    heads-block (s .args .goals) (frame-at .result .now) (heads .result .now)
+    (frame-bytes (s .args .goals) (s .args .graph .now) (frame-at .result .now) (s .args .height - 1) (s .pre .0) (omega arith)
+    (frame-at .ensures)) (heads .ensures)
 
 returns-2 : tie.Need-returns-2
-returns-2 c = let s = c .before .before .before .before .before .before in above-empty (s .args .goals) (s .args .height) (s .args .head) (s .args .graph .now) (omega arith) (c .before .before .before .frame-at .result .now) (c .before .before .frame-heads .result .now) (c .before .before .before .frame-at .ensures) (c .before .before .frame-heads .ensures) (sym (c .before .is-empty .ensures) ∙ c .if2 .taken)
+returns-2 c =
+    let s = c .before .before .before .before .before .before in
+    let frame-at = c .before .before .before .frame-at in
+    let heads = c .before .before .heads in
+    above-empty (s .args .goals) (s .args .height) (s .args .head) (s .args .graph .now) (omega arith) (frame-at .result .now)
+    (heads .result .now) (frame-at .ensures) (heads .ensures) (sym (c .before .is-empty .ensures) ∙ c .if2 .taken)
 
 mask-requires : tie.Need-mask-requires
-mask-requires c κs = let s = c .before .before .before .before .before .before in frame-heads-block (s .args .goals) (c .before .before .before .frame-at .result .now) (c .before .before .frame-heads .result .now) (frame-bytes (s .args .goals) (s .args .graph .now) (c .before .before .before .frame-at .result .now) (s .args .height - 1) (s .pre .0) (omega arith) (c .before .before .before .frame-at .ensures)) (c .before .before .frame-heads .ensures)
+mask-requires c κs =
+    let s = c .before .before .before .before .before .before in
+    let frame-at = c .before .before .before .frame-at in
+    let heads = c .before .before .heads in
+    heads-block (s .args .goals) (frame-at .result .now) (heads .result .now)
+    (frame-bytes (s .args .goals) (s .args .graph .now) (frame-at .result .now) (s .args .height - 1) (s .pre .0) (omega arith)
+    (frame-at .ensures)) (heads .ensures)
 
 lowest-requires : tie.Need-lowest-requires
 lowest-requires c κs = search needs
 
 returns-3 : tie.Need-returns-3
-returns-3 c = let s = c .before .before .before .before .before .before .before .before in above-lowest (s .args .goals) (s .args .height) (s .args .head) (s .args .graph .now) (omega arith) (c .before .before .before .before .before .frame-at .result .now) (c .before .before .before .before .frame-heads .result .now) (c .before .before .before .before .before .frame-at .ensures) (c .before .before .before .before .frame-heads .ensures) (sym (c .before .before .before .is-empty .ensures) ∙ c .before .before .if2 .left) (64 - s .args .goals) (c .before .mask .result) (c .before .mask .ensures) (c .lowest .result) (c .lowest .ensures)
+returns-3 c =
+    let s = c .before .before .before .before .before .before .before .before in
+    let frame-at = c .before .before .before .before .before .frame-at in
+    let heads = c .before .before .before .before .heads in
+    let is-empty = c .before .before .before .is-empty in
+    let mask = c .before .mask in
+    let lowest = c .lowest in
+    above-lowest (s .args .goals) (s .args .height) (s .args .head) (s .args .graph .now) (omega arith) (frame-at .result .now)
+    (heads .result .now) (frame-at .ensures) (heads .ensures) (sym (is-empty .ensures) ∙ c .before .before .if2 .left)
+    (64 - s .args .goals) (mask .result) (mask .ensures) (lowest .result) (lowest .ensures)
 
 pub none-or-above-spec : {M : Type 1} → statement M
 none-or-above-spec =
@@ -42,7 +72,7 @@ none-or-above-spec =
     returns
     sub-frame-at
     frame-at-requires
-    frame-heads-requires
+    heads-requires
     is-empty-requires
     returns-2
     mask-requires

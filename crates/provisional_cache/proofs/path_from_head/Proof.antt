@@ -1,5 +1,5 @@
 use Rattle.stack.proofs.Graph.{frame-bytes}
-use Rattle.provisional_cache.proofs.Entries.{frame-heads-block}
+use Rattle.stack.proofs.Blocks.{heads-block}
 use Rattle.provisional_cache.proofs.Inserts.{path-is}
 use borrow.Author.Needs.{needs}
 use Rattle.provisional_cache.proofs.path_from_head.Statement.{statement}
@@ -8,24 +8,41 @@ use Rattle.provisional_cache.proofs.path_from_head.Tie as tie
 frame-at-requires : tie.Need-frame-at-requires
 frame-at-requires c κs = search needs
 
-frame-heads-requires : tie.Need-frame-heads-requires
-frame-heads-requires c κs = let s = c .before .before in frame-bytes (s .args .goals) (s .args .graph .now) (c .frame-at .result .now) (s .args .height) (s .pre .0) (s .pre .1) (c .frame-at .ensures)
+heads-requires : tie.Need-heads-requires
+heads-requires c κs =
+    let s = c .before .before in
+    let frame-at = c .frame-at in
+    frame-bytes (s .args .goals) (s .args .graph .now) (frame-at .result .now) (s .args .height) (s .pre .0) (s .pre .1)
+    (frame-at .ensures)
 
 highest-requires : tie.Need-highest-requires
-highest-requires c κs = let s = c .before .before .before in frame-heads-block (s .args .goals) (c .before .frame-at .result .now) (c .frame-heads .result .now) (frame-bytes (s .args .goals) (s .args .graph .now) (c .before .frame-at .result .now) (s .args .height) (s .pre .0) (s .pre .1) (c .before .frame-at .ensures)) (c .frame-heads .ensures)
+highest-requires c κs =
+    let s = c .before .before .before in
+    let frame-at = c .before .frame-at in
+    let heads = c .heads in
+    heads-block (s .args .goals) (frame-at .result .now) (heads .result .now)
+    (frame-bytes (s .args .goals) (s .args .graph .now) (frame-at .result .now) (s .args .height) (s .pre .0) (s .pre .1)
+    (frame-at .ensures)) (heads .ensures)
 
 cycle-path-kind-requires : tie.Need-cycle-path-kind-requires
 cycle-path-kind-requires c κs = search needs
 
 returns : tie.Need-returns
-returns c = let s = c .before .before .before .before .before in path-is (s .args .goals) (s .args .height) (s .args .step) (s .args .graph .now) (c .before .before .before .frame-at .result .now) (c .before .before .frame-heads .result .now) (c .before .highest .result) (c .cycle-path-kind .result) (c .before .before .before .frame-at .ensures) (c .before .before .frame-heads .ensures) (c .before .highest .ensures) (c .cycle-path-kind .ensures)
+returns c =
+    let s = c .before .before .before .before .before in
+    let frame-at = c .before .before .before .frame-at in
+    let heads = c .before .before .heads in
+    let highest = c .before .highest in
+    let cycle-path-kind = c .cycle-path-kind in
+    path-is (s .args .goals) (s .args .height) (s .args .step) (s .args .graph .now) (frame-at .result .now) (heads .result .now)
+    (highest .result) (cycle-path-kind .result) (frame-at .ensures) (heads .ensures) (highest .ensures) (cycle-path-kind .ensures)
 
 pub path-from-head-spec : {M : Type 1} → statement M
 path-from-head-spec =
     tie.close
     (tie.spec
     frame-at-requires
-    frame-heads-requires
+    heads-requires
     highest-requires
     cycle-path-kind-requires
     returns)

@@ -1,5 +1,5 @@
 use Rattle.provisional_cache.proofs.Entries.{part-room}
-use Rattle.provisional_cache.proofs.Writes.{mid-bytes, append-frames, append-entries}
+use Rattle.provisional_cache.proofs.Writes.{mid-bytes, appended}
 use borrow.Author.Needs.{needs}
 use Rattle.provisional_cache.proofs.write_entry.Statement.{statement}
 use Rattle.provisional_cache.proofs.write_entry.Tie as tie
@@ -13,8 +13,8 @@ entry-start-requires c κs = search needs
 entry-size-requires : tie.Need-entry-size-requires
 entry-size-requires c κs = search needs
 
-add-e : tie.Need-add-e
-add-e c = search needs
+add-end : tie.Need-add-end
+add-end c = search needs
 
 sub-start : tie.Need-sub-start
 sub-start c = search needs
@@ -23,7 +23,14 @@ part-start-start : tie.Need-part-start-start
 part-start-start c = search needs
 
 part-start-end : tie.Need-part-start-end
-part-start-end c = let s = c .before .before .before .before .before .before .before in part-room (s .args .goals) (c .before .before .before .before .copy-heads .last .0) (s .args .i) (c .before .entry-start .result) (c .entry-size .result) (mid-bytes (s .args .goals) (s .args .height) (s .args .i) (s .args .graph .now) (c .before .before .before .before .copy-heads .last .0) (s .pre .0) (s .pre .1 .0) (s .pre .1 .1 .0) (c .before .before .before .before .copy-heads .ensures)) (s .pre .1 .1 .0) (c .before .entry-start .ensures .0) (c .entry-size .ensures)
+part-start-end c =
+    let s = c .before .before .before .before .before .before .before in
+    let copy-heads = c .before .before .before .before .copy-heads in
+    let entry-start = c .before .entry-start in
+    let entry-size = c .entry-size in
+    part-room (s .args .goals) (copy-heads .last .0) (s .args .i) (entry-start .result) (entry-size .result)
+    (mid-bytes (s .args .goals) (s .args .height) (s .args .i) (s .args .graph .now) (copy-heads .last .0) (s .pre .0) (s .pre .1 .0)
+    (s .pre .1 .1 .0) (copy-heads .ensures)) (s .pre .1 .1 .0) (entry-start .ensures .0) (entry-size .ensures)
 
 start-requires : tie.Need-start-requires
 start-requires c κs = search needs
@@ -32,7 +39,16 @@ same-length : tie.Need-same-length
 same-length c = search needs
 
 returns : tie.Need-returns
-returns c = let s = c .before .before .before .before .before .before .before .before .before .before .before in let b = c .before .before .start in (append-entries (s .args .goals) (s .args .height) (s .args .i) (s .args .graph .now) (c .before .before .before .before .before .before .before .before .copy-heads .last .0) (s .pre .0) (s .pre .1 .0) (s .pre .1 .1 .0) (c .before .before .before .before .before .before .before .before .copy-heads .ensures) (c .before .before .before .before .before .entry-start .result) (c .before .before .before .before .entry-size .result) (c .before .before .before .before .before .entry-start .ensures .0) (c .before .before .before .before .entry-size .ensures) (b .last .0) (b .kept .0) (s .args .goal) (s .args .overflow) (s .args .path) (s .args .answer) (b .ensures), append-frames (s .args .goals) (s .args .height) (s .args .i) (s .args .graph .now) (c .before .before .before .before .before .before .before .before .copy-heads .last .0) (s .pre .0) (s .pre .1 .0) (s .pre .1 .1 .0) (c .before .before .before .before .before .before .before .before .copy-heads .ensures) (c .before .before .before .before .before .entry-start .result) (c .before .before .before .before .entry-size .result) (c .before .before .before .before .before .entry-start .ensures .0) (c .before .before .before .before .entry-size .ensures) (b .last .0) (b .kept .0))
+returns c =
+    let c2 = c .before .before in let c4 = c2 .before .before in let c5 = c4 .before in let c8 = c5 .before .before .before in
+    let s = c8 .before .before .before in
+    let b = c2 .start in
+    let copy-heads = c8 .copy-heads in
+    let entry-start = c5 .entry-start in
+    let entry-size = c4 .entry-size in
+    appended (s .args .goals) (s .args .height) (s .args .i) (s .args .graph .now) (copy-heads .last .0) (s .pre .0) (s .pre .1 .0)
+    (s .pre .1 .1 .0) (copy-heads .ensures) (entry-start .result) (entry-size .result) (entry-start .ensures .0) (entry-size .ensures)
+    (b .last .0) (b .kept .0) (s .args .goal) (s .args .overflow) (s .args .path) (s .args .answer) (b .ensures)
 
 pub write-entry-spec : {M : Type 1} → statement M
 write-entry-spec =
@@ -41,7 +57,7 @@ write-entry-spec =
     copy-heads-requires
     entry-start-requires
     entry-size-requires
-    add-e
+    add-end
     sub-start
     part-start-start
     part-start-end

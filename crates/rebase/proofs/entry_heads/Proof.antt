@@ -11,10 +11,14 @@ entry-at-requires : tie.Need-entry-at-requires
 entry-at-requires c κs = search needs
 
 heads-requires : tie.Need-heads-requires
-heads-requires c κs = let s = c .before .before in entry-bytes (s .args .goals) (s .args .graph .now) (c .entry-at .result .now) (s .args .k) (s .pre .0) (s .pre .1) (c .entry-at .ensures)
+heads-requires c κs =
+    let s = c .before .before in
+    let entry-at = c .entry-at in
+    entry-bytes (s .args .goals) (s .args .graph .now) (entry-at .result .now) (s .args .k) (s .pre .0) (s .pre .1) (entry-at .ensures)
 
 returns : tie.Need-returns
-returns c = c .heads .ensures ∙ ap (region entryHeadsStart (headsSize (c .before .before .before .args .goals))) (c .before .entry-at .ensures)
+returns c =
+    c .heads .ensures ∙ ap (region entryHeadsStart (headsSize (c .before .before .before .args .goals))) (c .before .entry-at .ensures)
 
 pub entry-heads-spec : {M : Type 1} → statement M
 entry-heads-spec = tie.close (tie.spec entry-at-requires heads-requires returns)

@@ -1,8 +1,7 @@
-use Rattle.definition.specs.Paths.{extend}
-use Rattle.provisional_cache.specs.Entries.{withPath}
+use Rattle.provisional_cache.specs.Entries.{withLongerPath}
 use Rattle.definition.specs.Graph.{Entry}
 use Rattle.provisional_cache.proofs.Entries.{part-room}
-use Rattle.rebase.proofs.Writes.{entry-written, others-written}
+use Rattle.rebase.proofs.Writes.{written}
 use borrow.Author.Needs.{needs}
 use Rattle.rebase.proofs.extend_path.Statement.{statement}
 use Rattle.rebase.proofs.extend_path.Tie as tie
@@ -13,8 +12,8 @@ entry-start-requires c κs = search needs
 entry-size-requires : tie.Need-entry-size-requires
 entry-size-requires c κs = search needs
 
-add-z : tie.Need-add-z
-add-z c = search needs
+add-end : tie.Need-add-end
+add-end c = search needs
 
 sub-extend-path : tie.Need-sub-extend-path
 sub-extend-path c = search needs
@@ -23,7 +22,12 @@ part-extend-path-start : tie.Need-part-extend-path-start
 part-extend-path-start c = search needs
 
 part-extend-path-end : tie.Need-part-extend-path-end
-part-extend-path-end c = let s = c .before .before .before in part-room (s .args .goals) (s .args .graph .now) (s .args .k) (c .before .entry-start .result) (c .entry-size .result) (s .pre .0) (s .pre .1) (c .before .entry-start .ensures .0) (c .entry-size .ensures)
+part-extend-path-end c =
+    let s = c .before .before .before in
+    let entry-start = c .before .entry-start in
+    let entry-size = c .entry-size in
+    part-room (s .args .goals) (s .args .graph .now) (s .args .k) (entry-start .result) (entry-size .result) (s .pre .0) (s .pre .1)
+    (entry-start .ensures .0) (entry-size .ensures)
 
 extend-path-requires : tie.Need-extend-path-requires
 extend-path-requires c κs = search needs
@@ -32,7 +36,14 @@ same-length : tie.Need-same-length
 same-length c = search needs
 
 returns : tie.Need-returns
-returns c = let s = c .before .before .before .before .before .before .before in let a = s .args in let b = c .before .before .extend-path in (entry-written (a .goals) (a .graph .now) (a .k) (c .before .before .before .before .before .entry-start .result) (c .before .before .before .before .entry-size .result) (s .pre .0) (s .pre .1) (c .before .before .before .before .before .entry-start .ensures .0) (c .before .before .before .before .entry-size .ensures) (b .last .0) (b .kept .0) (λ (e : Entry). withPath e (extend (e .pathFromHead) (a .kind))) (b .ensures), others-written (a .goals) (a .graph .now) (a .k) (c .before .before .before .before .before .entry-start .result) (c .before .before .before .before .entry-size .result) (s .pre .0) (s .pre .1) (c .before .before .before .before .before .entry-start .ensures .0) (c .before .before .before .before .entry-size .ensures) (b .last .0) (b .kept .0))
+returns c =
+    let s = c .before .before .before .before .before .before .before in
+    let a = s .args in
+    let b = c .before .before .extend-path in
+    let entry-start = c .before .before .before .before .before .entry-start in
+    let entry-size = c .before .before .before .before .entry-size in
+    written (a .goals) (a .graph .now) (a .k) (entry-start .result) (entry-size .result) (s .pre .0) (s .pre .1) (entry-start .ensures .0)
+    (entry-size .ensures) (b .last .0) (b .kept .0) (λ (e : Entry). withLongerPath e (a .kind)) (b .ensures)
 
 pub extend-path-spec : {M : Type 1} → statement M
 extend-path-spec =
@@ -40,7 +51,7 @@ extend-path-spec =
     (tie.spec
     entry-start-requires
     entry-size-requires
-    add-z
+    add-end
     sub-extend-path
     part-extend-path-start
     part-extend-path-end

@@ -18,19 +18,48 @@ popped-mask-requires : tie.Need-popped-mask-requires Inv-loop μ-loop
 popped-mask-requires c κs = search needs
 
 loop-holds : tie.Need-loop-holds Inv-loop μ-loop
-loop-holds c = let s = c .before .before .before in let a = s .args in gaining-start (a .goals) (a .popped) (a .k) (a .used) (a .eps .bits) (a .graph .now) (c .popped-mask .result) (64 - a .goals) (small c) (c .popped-mask .ensures)
+loop-holds c =
+    let s = c .before .before .before in
+    let a = s .args in
+    let popped-mask = c .popped-mask in
+    gaining-start (a .goals) (a .popped) (a .k) (a .used) (a .eps .bits) (a .graph .now) (popped-mask .result) (64 - a .goals) (small c)
+    (popped-mask .ensures)
 
 lowest-requires : tie.Need-lowest-requires Inv-loop μ-loop
 lowest-requires c κs = search needs
 
 popped-head-requires : tie.Need-popped-head-requires Inv-loop μ-loop
-popped-head-requires c κs = let s = c .before .before .before .before .before .before .before in let a = s .args in let l = c .before .before .before .loop in (graph-bytes (a .goals) (a .graph .now) (l .graph) (s .pre .0) (l .inv .same-length), (s .pre .1 .0, gaining-small (a .goals) (a .popped) (a .k) (a .used) (a .eps .bits) (a .graph .now) (l .graph) (l .left) (c .before .lowest .result) (l .inv) (c .before .before .loop-test .taken) (c .before .lowest .ensures)))
+popped-head-requires c κs =
+    let s = c .before .before .before .before .before .before .before in
+    let a = s .args in
+    let l = c .before .before .before .loop in
+    let lowest = c .before .lowest in (
+      graph-bytes (a .goals) (a .graph .now) (l .graph) (s .pre .0) (l .inv .same-length),
+      (
+        s .pre .1 .0,
+        gaining-small (a .goals) (a .popped) (a .k) (a .used) (a .eps .bits) (a .graph .now) (l .graph) (l .left)
+            (lowest .result) (l .inv) (c .before .before .loop-test .taken) (lowest .ensures),
+      ),
+    )
 
 gained-requires : tie.Need-gained-requires Inv-loop μ-loop
 gained-requires c κs = search needs
 
 join-head-requires : tie.Need-join-head-requires Inv-loop μ-loop
-join-head-requires c κs = let s = c .before .before .before .before .before .before .before .before .before .before in let a = s .args in let l = c .before .before .before .before .before .before .loop in (graph-bytes (a .goals) (a .graph .now) (l .graph) (s .pre .0) (l .inv .same-length), (s .pre .1 .1, gaining-small (a .goals) (a .popped) (a .k) (a .used) (a .eps .bits) (a .graph .now) (l .graph) (l .left) (c .before .before .before .before .lowest .result) (l .inv) (c .before .before .before .before .before .loop-test .taken) (c .before .before .before .before .lowest .ensures)))
+join-head-requires c κs =
+    let c4 = c .before .before .before .before in let c5 = c4 .before in let c6 = c5 .before in
+    let s = c6 .before .before .before .before in
+    let a = s .args in
+    let l = c6 .loop in
+    let loop-test = c5 .loop-test in
+    let lowest = c4 .lowest in (
+      graph-bytes (a .goals) (a .graph .now) (l .graph) (s .pre .0) (l .inv .same-length),
+      (
+        s .pre .1 .1,
+        gaining-small (a .goals) (a .popped) (a .k) (a .used) (a .eps .bits) (a .graph .now) (l .graph) (l .left)
+            (lowest .result) (l .inv) (loop-test .taken) (lowest .ensures),
+      ),
+    )
 
 without-lowest-requires : tie.Need-without-lowest-requires Inv-loop μ-loop
 without-lowest-requires c κs = c .before .before .before .before .before .before .before .before .loop-test .taken
@@ -39,13 +68,35 @@ loop-less : tie.Need-loop-less Inv-loop μ-loop
 loop-less c = c .without-lowest .ensures .1
 
 loop-again : tie.Need-loop-again Inv-loop μ-loop
-loop-again c = let s = c .before .before .before .before .before .before .before .before .before .before .before .before .before .before in let a = s .args in let l = c .before .before .before .before .before .before .before .before .before .before .loop in let j = c .before .before .before .join-head in gaining-next (a .goals) (a .popped) (a .k) (a .used) (a .eps .bits) (a .graph .now) (l .graph) (l .left) (c .before .before .before .before .before .before .before .before .lowest .result) (l .inv) (c .before .before .before .before .before .before .before .before .before .loop-test .taken) (c .before .before .before .before .before .before .before .before .lowest .ensures) (s .pre .1 .0) (c .before .before .before .before .before .before .popped-head .result) (c .before .before .before .before .before .gained .result) (c .before .before .before .before .before .before .popped-head .ensures) (c .before .before .before .before .before .gained .ensures) (j .last .0) (j .ensures .0) (j .ensures .1) (j .kept .0) (c .without-lowest .result) (c .without-lowest .ensures .0) (c .without-lowest .ensures .1)
+loop-again c =
+    let c3 = c .before .before .before in let c5 = c3 .before .before in let c6 = c5 .before in let c8 = c6 .before .before in
+    let c9 = c8 .before in let c10 = c9 .before in let s = c10 .before .before .before .before in
+    let a = s .args in
+    let l = c10 .loop in
+    let j = c3 .join-head in
+    let loop-test = c9 .loop-test in
+    let lowest = c8 .lowest in
+    let popped-head = c6 .popped-head in
+    let gained = c5 .gained in
+    let without-lowest = c .without-lowest in
+    gaining-next (a .goals) (a .popped) (a .k) (a .used) (a .eps .bits) (a .graph .now) (l .graph) (l .left) (lowest .result) (l .inv)
+    (loop-test .taken) (lowest .ensures) (s .pre .1 .0) (popped-head .result) (gained .result) (popped-head .ensures) (gained .ensures)
+    (j .last .0) (j .ensures) (j .kept .0) (without-lowest .result) (without-lowest .ensures .0) (without-lowest .ensures .1)
 
 same-length : tie.Need-same-length Inv-loop μ-loop
 same-length c = c .before .loop .inv .same-length
 
 returns : tie.Need-returns Inv-loop μ-loop
-returns c = let s = c .before .before .before .before .before in let a = s .args in let l = c .before .loop in (gaining-done (a .goals) (a .popped) (a .k) (a .used) (a .eps .bits) (a .graph .now) (l .graph) (l .left) (l .inv) (c .loop-test .left), l .inv .others)
+returns c =
+    let s = c .before .before .before .before .before in
+    let a = s .args in
+    let l = c .before .loop in
+    record {
+      entry =
+          gaining-done (a .goals) (a .popped) (a .k) (a .used) (a .eps .bits) (a .graph .now) (l .graph) (l .left) (l .inv)
+          (c .loop-test .left);
+      others = l .inv .others;
+    }
 
 pub gain-heads-spec : {M : Type 1} → statement M
 gain-heads-spec =

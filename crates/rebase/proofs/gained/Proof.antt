@@ -7,7 +7,11 @@ extend-with-paths-requires : tie.Need-extend-with-paths-requires
 extend-with-paths-requires c κs = search needs
 
 returns : tie.Need-returns
-returns c = let a = c .before .before .before .args in gained-through (a .used) (a .eps .bits) (a .head) (c .before .extend-with-paths .result .bits) (c .before .before .if1 .taken) (c .before .extend-with-paths .ensures)
+returns c =
+    let a = c .before .before .before .args in
+    let extend-with-paths = c .before .extend-with-paths in
+    gained-through (a .used) (a .eps .bits) (a .head) (extend-with-paths .result .bits) (c .before .before .if1 .taken)
+    (extend-with-paths .ensures)
 
 empty-path-requires : tie.Need-empty-path-requires
 empty-path-requires c κs = search needs
@@ -16,7 +20,12 @@ none-requires : tie.Need-none-requires
 none-requires c κs = search needs
 
 returns-2 : tie.Need-returns-2
-returns-2 c = let a = c .before .before .before .args in gained-unused (a .used) (a .eps .bits) (a .head) (c .before .empty-path .result .bits) (c .before .before .if1 .left) (c .before .empty-path .ensures) (c .none .result) (c .none .ensures)
+returns-2 c =
+    let a = c .before .before .before .args in
+    let empty-path = c .before .empty-path in
+    let none = c .none in
+    gained-unused (a .used) (a .eps .bits) (a .head) (empty-path .result .bits) (c .before .before .if1 .left) (empty-path .ensures)
+    (none .result) (none .ensures)
 
 pub gained-spec : {M : Type 1} → statement M
 gained-spec =

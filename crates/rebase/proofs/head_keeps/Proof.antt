@@ -18,7 +18,15 @@ every-ph-keeps-requires : tie.Need-every-ph-keeps-requires
 every-ph-keeps-requires c κs = search needs
 
 returns : tie.Need-returns
-returns c h e = let a = c .before .before .before .before .before .args in head-keeps-is (stackOf (a .goals) (a .popped) (a .graph .now)) ((frameAt (a .goals) (a .popped) (a .graph .now)) .stepKindFromParent) (a .path) (a .eps .bits) (a .i) h (c .before .before .popped-head .result) (c .before .before .popped-head .ensures h e) (c .before .before .before .path-to-popped .result) (c .before .before .before .path-to-popped .ensures) (c .before .extend .result) (c .before .extend .ensures) (c .every-ph-keeps .result) (c .every-ph-keeps .ensures)
+returns c h e =
+    let a = c .before .before .before .before .before .args in
+    let path-to-popped = c .before .before .before .path-to-popped in
+    let popped-head = c .before .before .popped-head in
+    let extend = c .before .extend in
+    let every-ph-keeps = c .every-ph-keeps in
+    head-keeps-is (stackOf (a .goals) (a .popped) (a .graph .now)) ((frameAt (a .goals) (a .popped) (a .graph .now)) .stepKindFromParent)
+    (a .path) (a .eps .bits) (a .i) h (popped-head .result) (popped-head .ensures h e) (path-to-popped .result) (path-to-popped .ensures)
+    (extend .result) (extend .ensures) (every-ph-keeps .result) (every-ph-keeps .ensures)
 
 pub head-keeps-spec : {M : Type 1} → statement M
 head-keeps-spec =

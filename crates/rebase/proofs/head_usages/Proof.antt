@@ -9,10 +9,21 @@ entry-heads-requires : tie.Need-entry-heads-requires
 entry-heads-requires c κs = search needs
 
 usages-requires : tie.Need-usages-requires
-usages-requires c κs = let s = c .before .before in (entry-heads-at (s .args .goals) (s .args .k) (s .args .graph .now) (c .entry-heads .result .now) (s .pre .0) (s .pre .1 .0) (c .entry-heads .ensures), s .pre .1 .1)
+usages-requires c κs =
+    let s = c .before .before in
+    let entry-heads = c .entry-heads in (
+      entry-heads-at (s .args .goals) (s .args .k) (s .args .graph .now) (entry-heads .result .now) (s .pre .0) (s .pre .1 .0)
+          (entry-heads .ensures),
+      s .pre .1 .1,
+    )
 
 returns : tie.Need-returns
-returns c = let a = c .before .before .before .args in c .usages .ensures ∙ ap (λ (hs : CycleHeads). usagesAt hs (a .i)) (entry-block (a .goals) (a .k) (a .graph .now) (c .before .entry-heads .result .now) (c .before .entry-heads .ensures))
+returns c =
+    let a = c .before .before .before .args in
+    let entry-heads = c .before .entry-heads in
+    c .usages .ensures
+    ∙ ap (λ (hs : CycleHeads). usagesAt hs (a .i))
+    (entry-block (a .goals) (a .k) (a .graph .now) (entry-heads .result .now) (entry-heads .ensures))
 
 pub head-usages-spec : {M : Type 1} → statement M
 head-usages-spec = tie.close (tie.spec entry-heads-requires usages-requires returns)

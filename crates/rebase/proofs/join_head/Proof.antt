@@ -1,8 +1,7 @@
-use Rattle.definition.specs.Heads.{insertHead}
-use Rattle.rebase.specs.Rebased.{withHeads}
+use Rattle.provisional_cache.specs.Entries.{withJoinedHead}
 use Rattle.definition.specs.Graph.{Entry}
 use Rattle.provisional_cache.proofs.Entries.{part-room}
-use Rattle.rebase.proofs.Writes.{entry-written, others-written}
+use Rattle.rebase.proofs.Writes.{written}
 use borrow.Author.Needs.{needs}
 use Rattle.rebase.proofs.join_head.Statement.{statement}
 use Rattle.rebase.proofs.join_head.Tie as tie
@@ -13,8 +12,8 @@ entry-start-requires c κs = search needs
 entry-size-requires : tie.Need-entry-size-requires
 entry-size-requires c κs = search needs
 
-add-z : tie.Need-add-z
-add-z c = search needs
+add-end : tie.Need-add-end
+add-end c = search needs
 
 sub-join-head : tie.Need-sub-join-head
 sub-join-head c = search needs
@@ -23,7 +22,12 @@ part-join-head-start : tie.Need-part-join-head-start
 part-join-head-start c = search needs
 
 part-join-head-end : tie.Need-part-join-head-end
-part-join-head-end c = let s = c .before .before .before in part-room (s .args .goals) (s .args .graph .now) (s .args .k) (c .before .entry-start .result) (c .entry-size .result) (s .pre .0) (s .pre .1 .0) (c .before .entry-start .ensures .0) (c .entry-size .ensures)
+part-join-head-end c =
+    let s = c .before .before .before in
+    let entry-start = c .before .entry-start in
+    let entry-size = c .entry-size in
+    part-room (s .args .goals) (s .args .graph .now) (s .args .k) (entry-start .result) (entry-size .result) (s .pre .0) (s .pre .1 .0)
+    (entry-start .ensures .0) (entry-size .ensures)
 
 join-head-requires : tie.Need-join-head-requires
 join-head-requires c κs = search needs
@@ -32,7 +36,15 @@ same-length : tie.Need-same-length
 same-length c = search needs
 
 returns : tie.Need-returns
-returns c = let s = c .before .before .before .before .before .before .before in let a = s .args in let b = c .before .before .join-head in (entry-written (a .goals) (a .graph .now) (a .k) (c .before .before .before .before .before .entry-start .result) (c .before .before .before .before .entry-size .result) (s .pre .0) (s .pre .1 .0) (c .before .before .before .before .before .entry-start .ensures .0) (c .before .before .before .before .entry-size .ensures) (b .last .0) (b .kept .0) (λ (e : Entry). withHeads e (insertHead (e .heads) (a .i) (a .head .paths) (a .head .usages))) (b .ensures), others-written (a .goals) (a .graph .now) (a .k) (c .before .before .before .before .before .entry-start .result) (c .before .before .before .before .entry-size .result) (s .pre .0) (s .pre .1 .0) (c .before .before .before .before .before .entry-start .ensures .0) (c .before .before .before .before .entry-size .ensures) (b .last .0) (b .kept .0))
+returns c =
+    let s = c .before .before .before .before .before .before .before in
+    let a = s .args in
+    let b = c .before .before .join-head in
+    let entry-start = c .before .before .before .before .before .entry-start in
+    let entry-size = c .before .before .before .before .entry-size in
+    written (a .goals) (a .graph .now) (a .k) (entry-start .result) (entry-size .result) (s .pre .0) (s .pre .1 .0)
+    (entry-start .ensures .0) (entry-size .ensures) (b .last .0) (b .kept .0) (λ (e : Entry). withJoinedHead e (a .i) (a .head))
+    (b .ensures)
 
 pub join-head-spec : {M : Type 1} → statement M
 join-head-spec =
@@ -40,7 +52,7 @@ join-head-spec =
     (tie.spec
     entry-start-requires
     entry-size-requires
-    add-z
+    add-end
     sub-join-head
     part-join-head-start
     part-join-head-end

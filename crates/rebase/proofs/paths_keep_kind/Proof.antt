@@ -9,7 +9,9 @@ use Rattle.rebase.proofs.paths_keep_kind.Statement.{statement}
 use Rattle.rebase.proofs.paths_keep_kind.Tie as tie
 
 abbrev Inv-loop : tie.InvT-loop
-Inv-loop graph goals popped path eps left₀ left = Keeping (stackOf goals popped graph) ((frameAt goals popped graph) .stepKindFromParent) path (eps .bits) ((frameAt goals popped graph) .heads) left
+Inv-loop graph goals popped path eps left₀ left =
+    Keeping (stackOf goals popped graph) ((frameAt goals popped graph) .stepKindFromParent) path (eps .bits)
+    ((frameAt goals popped graph) .heads) left
 
 abbrev μ-loop : tie.MeasureT-loop
 μ-loop graph goals popped path eps left₀ left = left
@@ -21,16 +23,41 @@ popped-mask-requires : tie.Need-popped-mask-requires Inv-loop μ-loop
 popped-mask-requires c κs = search needs
 
 loop-holds : tie.Need-loop-holds Inv-loop μ-loop
-loop-holds c = let a = c .before .before .args in keeping-start (stackOf (a .goals) (a .popped) (a .graph .now)) ((frameAt (a .goals) (a .popped) (a .graph .now)) .stepKindFromParent) (a .path) (a .eps .bits) ((frameAt (a .goals) (a .popped) (a .graph .now)) .heads) (c .popped-mask .result) (64 - a .goals) (small c) (c .popped-mask .ensures)
+loop-holds c =
+    let a = c .before .before .args in
+    let popped-mask = c .popped-mask in
+    keeping-start (stackOf (a .goals) (a .popped) (a .graph .now)) ((frameAt (a .goals) (a .popped) (a .graph .now)) .stepKindFromParent)
+    (a .path) (a .eps .bits) ((frameAt (a .goals) (a .popped) (a .graph .now)) .heads) (popped-mask .result) (64 - a .goals) (small c)
+    (popped-mask .ensures)
 
 lowest-requires : tie.Need-lowest-requires Inv-loop μ-loop
 lowest-requires c κs = search needs
 
 head-keeps-requires : tie.Need-head-keeps-requires Inv-loop μ-loop
-head-keeps-requires c κs = let s = c .before .before .before .before .before in let a = s .args in let l = c .before .before .loop in (s .pre .0, (s .pre .1, turn-small ((frameAt (a .goals) (a .popped) (a .graph .now)) .heads) (l .left) (c .lowest .result) (c .before .loop-test .taken) (l .inv .small) (l .inv .within) (c .lowest .ensures) (a .goals) (popped-length (a .goals) (a .popped) (a .graph .now))))
+head-keeps-requires c κs =
+    let s = c .before .before .before .before .before in
+    let a = s .args in
+    let l = c .before .before .loop in
+    let lowest = c .lowest in (
+      s .pre .0,
+      (
+        s .pre .1,
+        turn-small ((frameAt (a .goals) (a .popped) (a .graph .now)) .heads) (l .left) (lowest .result)
+            (c .before .loop-test .taken) (l .inv .small) (l .inv .within) (lowest .ensures) (a .goals)
+            (popped-length (a .goals) (a .popped) (a .graph .now)),
+      ),
+    )
 
 returns : tie.Need-returns Inv-loop μ-loop
-returns c = let a = c .before .before .before .before .before .before .before .args in let l = c .before .before .before .before .loop in keeping-fails (stackOf (a .goals) (a .popped) (a .graph .now)) ((frameAt (a .goals) (a .popped) (a .graph .now)) .stepKindFromParent) (a .path) (a .eps .bits) ((frameAt (a .goals) (a .popped) (a .graph .now)) .heads) (l .left) (c .before .before .lowest .result) (l .inv) (c .before .before .before .loop-test .taken) (c .before .before .lowest .ensures) (c .before .head-keeps .result) (c .before .head-keeps .ensures) (c .if1 .taken)
+returns c =
+    let a = c .before .before .before .before .before .before .before .args in
+    let l = c .before .before .before .before .loop in
+    let loop-test = c .before .before .before .loop-test in
+    let lowest = c .before .before .lowest in
+    let head-keeps = c .before .head-keeps in
+    keeping-fails (stackOf (a .goals) (a .popped) (a .graph .now)) ((frameAt (a .goals) (a .popped) (a .graph .now)) .stepKindFromParent)
+    (a .path) (a .eps .bits) ((frameAt (a .goals) (a .popped) (a .graph .now)) .heads) (l .left) (lowest .result) (l .inv)
+    (loop-test .taken) (lowest .ensures) (head-keeps .result) (head-keeps .ensures) (c .if1 .taken)
 
 without-lowest-requires : tie.Need-without-lowest-requires Inv-loop μ-loop
 without-lowest-requires c κs = c .before .before .before .loop-test .taken
@@ -39,10 +66,24 @@ loop-less : tie.Need-loop-less Inv-loop μ-loop
 loop-less c = c .without-lowest .ensures .1
 
 loop-again : tie.Need-loop-again Inv-loop μ-loop
-loop-again c = let a = c .before .before .before .before .before .before .before .before .args in let l = c .before .before .before .before .before .loop in keeping-next (stackOf (a .goals) (a .popped) (a .graph .now)) ((frameAt (a .goals) (a .popped) (a .graph .now)) .stepKindFromParent) (a .path) (a .eps .bits) ((frameAt (a .goals) (a .popped) (a .graph .now)) .heads) (l .left) (c .before .before .before .lowest .result) (l .inv) (c .before .before .before .before .loop-test .taken) (c .before .before .before .lowest .ensures) (c .before .before .head-keeps .result) (c .before .before .head-keeps .ensures) (c .before .if1 .left) (c .without-lowest .result) (c .without-lowest .ensures .0) (c .without-lowest .ensures .1)
+loop-again c =
+    let a = c .before .before .before .before .before .before .before .before .args in
+    let l = c .before .before .before .before .before .loop in
+    let loop-test = c .before .before .before .before .loop-test in
+    let lowest = c .before .before .before .lowest in
+    let head-keeps = c .before .before .head-keeps in
+    let without-lowest = c .without-lowest in
+    keeping-next (stackOf (a .goals) (a .popped) (a .graph .now)) ((frameAt (a .goals) (a .popped) (a .graph .now)) .stepKindFromParent)
+    (a .path) (a .eps .bits) ((frameAt (a .goals) (a .popped) (a .graph .now)) .heads) (l .left) (lowest .result) (l .inv)
+    (loop-test .taken) (lowest .ensures) (head-keeps .result) (head-keeps .ensures) (c .before .if1 .left) (without-lowest .result)
+    (without-lowest .ensures .0) (without-lowest .ensures .1)
 
 returns-2 : tie.Need-returns-2 Inv-loop μ-loop
-returns-2 c = let a = c .before .before .before .before .args in let l = c .before .loop in keeping-done (stackOf (a .goals) (a .popped) (a .graph .now)) ((frameAt (a .goals) (a .popped) (a .graph .now)) .stepKindFromParent) (a .path) (a .eps .bits) ((frameAt (a .goals) (a .popped) (a .graph .now)) .heads) (l .left) (l .inv) (c .loop-test .left)
+returns-2 c =
+    let a = c .before .before .before .before .args in
+    let l = c .before .loop in
+    keeping-done (stackOf (a .goals) (a .popped) (a .graph .now)) ((frameAt (a .goals) (a .popped) (a .graph .now)) .stepKindFromParent)
+    (a .path) (a .eps .bits) ((frameAt (a .goals) (a .popped) (a .graph .now)) .heads) (l .left) (l .inv) (c .loop-test .left)
 
 pub paths-keep-kind-spec : {M : Type 1} → statement M
 paths-keep-kind-spec =

@@ -12,10 +12,24 @@ popped-heads-requires : tie.Need-popped-heads-requires
 popped-heads-requires c κs = search needs
 
 record-requires : tie.Need-record-requires
-record-requires c κs = let s = c .before .before in (popped-heads-block (s .args .goals) (s .args .popped) (s .args .graph .now) (c .popped-heads .result .now) (s .pre .0) (s .pre .1 .0) (c .popped-heads .ensures), s .pre .1 .1)
+record-requires c κs =
+    let s = c .before .before in
+    let popped-heads = c .popped-heads in (
+      popped-heads-block (s .args .goals) (s .args .popped) (s .args .graph .now) (popped-heads .result .now) (s .pre .0) (s .pre .1 .0)
+          (popped-heads .ensures),
+      s .pre .1 .1,
+    )
 
 returns : tie.Need-returns
-returns c h e = let s = c .before .before .before in let a = s .args in c .«record» .ensures ∙ head-bytes (a .goals) (c .before .popped-heads .result .now) (a .i) (s .pre .1 .1) h (ap (λ (hs : CycleHeads). getD hs (a .i) none) (popped-block (a .goals) (a .popped) (a .graph .now) (c .before .popped-heads .result .now) (c .before .popped-heads .ensures)) ∙ e)
+returns c h e =
+    let s = c .before .before .before in
+    let a = s .args in
+    let popped-heads = c .before .popped-heads in
+    c .«record» .ensures
+    ∙ head-bytes (a .goals) (popped-heads .result .now) (a .i) (s .pre .1 .1) h
+    (ap (λ (hs : CycleHeads). getD hs (a .i) none)
+    (popped-block (a .goals) (a .popped) (a .graph .now) (popped-heads .result .now) (popped-heads .ensures))
+    ∙ e)
 
 pub popped-head-spec : {M : Type 1} → statement M
 popped-head-spec = tie.close (tie.spec popped-heads-requires record-requires returns)

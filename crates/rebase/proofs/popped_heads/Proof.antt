@@ -10,11 +10,15 @@ use Rattle.rebase.proofs.popped_heads.Tie as tie
 frame-at-requires : tie.Need-frame-at-requires
 frame-at-requires c κs = search needs
 
-frame-heads-requires : tie.Need-frame-heads-requires
-frame-heads-requires c κs = let s = c .before .before in frame-bytes (s .args .goals) (s .args .graph .now) (c .frame-at .result .now) (s .args .popped) (s .pre .0) (s .pre .1) (c .frame-at .ensures)
+heads-requires : tie.Need-heads-requires
+heads-requires c κs =
+    let s = c .before .before in
+    let frame-at = c .frame-at in
+    frame-bytes (s .args .goals) (s .args .graph .now) (frame-at .result .now) (s .args .popped) (s .pre .0) (s .pre .1)
+    (frame-at .ensures)
 
 returns : tie.Need-returns
-returns c = c .frame-heads .ensures ∙ ap (region headsStart (headsSize (c .before .before .before .args .goals))) (c .before .frame-at .ensures)
+returns c = c .heads .ensures ∙ ap (region headsStart (headsSize (c .before .before .before .args .goals))) (c .before .frame-at .ensures)
 
 pub popped-heads-spec : {M : Type 1} → statement M
-popped-heads-spec = tie.close (tie.spec frame-at-requires frame-heads-requires returns)
+popped-heads-spec = tie.close (tie.spec frame-at-requires heads-requires returns)

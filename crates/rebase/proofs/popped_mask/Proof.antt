@@ -14,10 +14,19 @@ popped-heads-requires : tie.Need-popped-heads-requires
 popped-heads-requires c κs = search needs
 
 mask-requires : tie.Need-mask-requires
-mask-requires c κs = let s = c .before .before in popped-heads-block (s .args .goals) (s .args .popped) (s .args .graph .now) (c .popped-heads .result .now) (s .pre .0) (s .pre .1) (c .popped-heads .ensures)
+mask-requires c κs =
+    let s = c .before .before in
+    let popped-heads = c .popped-heads in
+    popped-heads-block (s .args .goals) (s .args .popped) (s .args .graph .now) (popped-heads .result .now) (s .pre .0) (s .pre .1)
+    (popped-heads .ensures)
 
 returns : tie.Need-returns
-returns c = let a = c .before .before .before .args in c .mask .ensures ∙ ap (λ (hs : CycleHeads). present hs ++ replicate (64 - a .goals) false) (popped-block (a .goals) (a .popped) (a .graph .now) (c .before .popped-heads .result .now) (c .before .popped-heads .ensures))
+returns c =
+    let a = c .before .before .before .args in
+    let popped-heads = c .before .popped-heads in
+    c .mask .ensures
+    ∙ ap (λ (hs : CycleHeads). present hs ++ replicate (64 - a .goals) false)
+    (popped-block (a .goals) (a .popped) (a .graph .now) (popped-heads .result .now) (popped-heads .ensures))
 
 pub popped-mask-spec : {M : Type 1} → statement M
 popped-mask-spec = tie.close (tie.spec popped-heads-requires mask-requires returns)

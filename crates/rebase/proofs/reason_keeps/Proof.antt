@@ -16,7 +16,13 @@ same-requires : tie.Need-same-requires
 same-requires c κs = search needs
 
 returns : tie.Need-returns
-returns c = let a = c .before .before .before .before .before .before .args in reason-same (a .reason) (c .before .before .before .before .reason .given .0 .0) (a .result) (a .usages) (c .before .before .before .before .reason .given .1) (c .before .before .is-ambiguous .result) (c .before .before .is-ambiguous .ensures) (c .before .if1 .taken) (c .same .result) (c .same .ensures)
+returns c =
+    let a = c .before .before .before .before .before .before .args in
+    let reason = c .before .before .before .before .reason in
+    let is-ambiguous = c .before .before .is-ambiguous in
+    let same = c .same in
+    reason-same (a .reason) (reason .given .0 .0) (a .result) (a .usages) (reason .given .1) (is-ambiguous .result)
+    (is-ambiguous .ensures) (c .before .if1 .taken) (same .result) (same .ensures)
 
 enum-known-reason-2 : tie.Need-enum-known-reason-2
 enum-known-reason-2 c = search needs
@@ -34,7 +40,11 @@ returns-3 : tie.Need-returns-3
 returns-3 c = search needs
 
 returns-4 : tie.Need-returns-4
-returns-4 c = let a = c .before .before .before .before .args in reason-single (a .reason) (c .before .before .reason2 .given .0 .0) (a .result) (a .usages) (c .before .before .reason2 .given .1) (c .is-single .result) (c .is-single .ensures)
+returns-4 c =
+    let a = c .before .before .before .before .args in
+    let reason2 = c .before .before .reason2 in
+    let is-single = c .is-single in
+    reason-single (a .reason) (reason2 .given .0 .0) (a .result) (a .usages) (reason2 .given .1) (is-single .result) (is-single .ensures)
 
 returns-5 : tie.Need-returns-5
 returns-5 c = search needs

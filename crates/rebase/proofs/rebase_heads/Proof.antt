@@ -25,7 +25,24 @@ same-length : tie.Need-same-length
 same-length c = search needs
 
 returns : tie.Need-returns
-returns c = let a = c .before .before .before .before .before .before .before .before .before .before .before .args in let x = c .before .before .replace-head in (heads-unused (stackOf (a .goals) (a .popped) (a .graph .now)) (frameAt (a .goals) (a .popped) (a .graph .now)) (a .reason) (entryAt (a .goals) (a .k) (a .graph .now)) (a .popped) (length-stack (a .goals) (a .popped) (a .graph .now)) (c .before .before .before .before .before .before .before .before .head-usages .result) (c .before .before .before .before .before .before .head-paths .result .bits) (usagesAt ((entryAt (a .goals) (a .k) (a .graph .now)) .heads) (a .popped)) (pathsAt ((entryAt (a .goals) (a .k) (a .graph .now)) .heads) (a .popped)) (c .before .before .before .before .before .before .before .before .head-usages .ensures) (c .before .before .before .before .before .before .head-paths .ensures) (c .before .before .before .before .before .is-empty .result) (c .before .before .before .before .before .is-empty .ensures) (c .before .before .before .before .if1 .taken) (entryAt (a .goals) (a .k) (x .last .0)) (x .ensures .0), x .ensures .1)
+returns c =
+    let c2 = c .before .before in let c4 = c2 .before .before in let c5 = c4 .before in let c6 = c5 .before in
+    let c8 = c6 .before .before in let c11 = c8 .before .before .before in
+    let a = c11 .args in
+    let x = c2 .replace-head in
+    let head-usages = c8 .head-usages in
+    let head-paths = c6 .head-paths in
+    let is-empty = c5 .is-empty in
+    let if1 = c4 .if1 in
+    record {
+      entry =
+          heads-unused (stackOf (a .goals) (a .popped) (a .graph .now)) (frameAt (a .goals) (a .popped) (a .graph .now)) (a .reason)
+          (entryAt (a .goals) (a .k) (a .graph .now)) (a .popped) (length-stack (a .goals) (a .popped) (a .graph .now))
+          (head-usages .result) (head-paths .result .bits) (usagesAt ((entryAt (a .goals) (a .k) (a .graph .now)) .heads) (a .popped))
+          (pathsAt ((entryAt (a .goals) (a .k) (a .graph .now)) .heads) (a .popped)) (head-usages .ensures) (head-paths .ensures)
+          (is-empty .result) (is-empty .ensures) (if1 .taken) (entryAt (a .goals) (a .k) (x .last .0)) (x .ensures .entry);
+      others = x .ensures .others;
+    }
 
 stays-requires : tie.Need-stays-requires
 stays-requires c κs = search needs
@@ -34,7 +51,24 @@ same-length-2 : tie.Need-same-length-2
 same-length-2 c = search needs
 
 returns-2 : tie.Need-returns-2
-returns-2 c = let a = c .before .before .before .before .before .before .before .before .before .before .args in (heads-dropped (stackOf (a .goals) (a .popped) (a .graph .now)) (frameAt (a .goals) (a .popped) (a .graph .now)) (a .reason) (entryAt (a .goals) (a .k) (a .graph .now)) (a .popped) (length-stack (a .goals) (a .popped) (a .graph .now)) (c .before .before .before .before .before .before .before .head-usages .result) (c .before .before .before .before .before .head-paths .result .bits) (usagesAt ((entryAt (a .goals) (a .k) (a .graph .now)) .heads) (a .popped)) (pathsAt ((entryAt (a .goals) (a .k) (a .graph .now)) .heads) (a .popped)) (c .before .before .before .before .before .before .before .head-usages .ensures) (c .before .before .before .before .before .head-paths .ensures) (c .before .before .before .before .is-empty .result) (c .before .before .before .before .is-empty .ensures) (c .before .before .before .if1 .left) (c .before .stays .result) (c .before .stays .ensures) (c .if2 .taken), others-same (a .goals) (a .k) (a .graph .now))
+returns-2 c =
+    let c1 = c .before in let c3 = c1 .before .before in let c4 = c3 .before in let c5 = c4 .before in let c7 = c5 .before .before in
+    let c10 = c7 .before .before .before in
+    let a = c10 .args in
+    let head-usages = c7 .head-usages in
+    let head-paths = c5 .head-paths in
+    let is-empty = c4 .is-empty in
+    let if1 = c3 .if1 in
+    let stays = c1 .stays in
+    record {
+      entry =
+          heads-dropped (stackOf (a .goals) (a .popped) (a .graph .now)) (frameAt (a .goals) (a .popped) (a .graph .now)) (a .reason)
+          (entryAt (a .goals) (a .k) (a .graph .now)) (a .popped) (length-stack (a .goals) (a .popped) (a .graph .now))
+          (head-usages .result) (head-paths .result .bits) (usagesAt ((entryAt (a .goals) (a .k) (a .graph .now)) .heads) (a .popped))
+          (pathsAt ((entryAt (a .goals) (a .k) (a .graph .now)) .heads) (a .popped)) (head-usages .ensures) (head-paths .ensures)
+          (is-empty .result) (is-empty .ensures) (if1 .left) (stays .result) (stays .ensures) (c .if2 .taken);
+      others = others-same (a .goals) (a .k) (a .graph .now);
+    }
 
 replace-head-requires-2 : tie.Need-replace-head-requires-2
 replace-head-requires-2 c κs = search needs
@@ -43,7 +77,27 @@ same-length-3 : tie.Need-same-length-3
 same-length-3 c = search needs
 
 returns-3 : tie.Need-returns-3
-returns-3 c = let a = c .before .before .before .before .before .before .before .before .before .before .before .before .before .before .args in let x = c .before .before .replace-head2 in (heads-through (stackOf (a .goals) (a .popped) (a .graph .now)) (frameAt (a .goals) (a .popped) (a .graph .now)) (a .reason) (entryAt (a .goals) (a .k) (a .graph .now)) (a .popped) (length-stack (a .goals) (a .popped) (a .graph .now)) (c .before .before .before .before .before .before .before .before .before .before .before .head-usages .result) (c .before .before .before .before .before .before .before .before .before .head-paths .result .bits) (usagesAt ((entryAt (a .goals) (a .k) (a .graph .now)) .heads) (a .popped)) (pathsAt ((entryAt (a .goals) (a .k) (a .graph .now)) .heads) (a .popped)) (c .before .before .before .before .before .before .before .before .before .before .before .head-usages .ensures) (c .before .before .before .before .before .before .before .before .before .head-paths .ensures) (c .before .before .before .before .before .before .before .before .is-empty .result) (c .before .before .before .before .before .before .before .before .is-empty .ensures) (c .before .before .before .before .before .before .before .if1 .left) (c .before .before .before .before .before .stays .result) (c .before .before .before .before .before .stays .ensures) (c .before .before .before .before .if2 .left) (entryAt (a .goals) (a .k) (x .last .0)) (x .ensures .0), x .ensures .1)
+returns-3 c =
+    let c2 = c .before .before in let c4 = c2 .before .before in let c5 = c4 .before in let c7 = c5 .before .before in
+    let c8 = c7 .before in let c9 = c8 .before in let c11 = c9 .before .before in let c14 = c11 .before .before .before in
+    let a = c14 .args in
+    let x = c2 .replace-head2 in
+    let head-usages = c11 .head-usages in
+    let head-paths = c9 .head-paths in
+    let is-empty = c8 .is-empty in
+    let if1 = c7 .if1 in
+    let stays = c5 .stays in
+    let if2 = c4 .if2 in
+    record {
+      entry =
+          heads-through (stackOf (a .goals) (a .popped) (a .graph .now)) (frameAt (a .goals) (a .popped) (a .graph .now)) (a .reason)
+          (entryAt (a .goals) (a .k) (a .graph .now)) (a .popped) (length-stack (a .goals) (a .popped) (a .graph .now))
+          (head-usages .result) (head-paths .result .bits) (usagesAt ((entryAt (a .goals) (a .k) (a .graph .now)) .heads) (a .popped))
+          (pathsAt ((entryAt (a .goals) (a .k) (a .graph .now)) .heads) (a .popped)) (head-usages .ensures) (head-paths .ensures)
+          (is-empty .result) (is-empty .ensures) (if1 .left) (stays .result) (stays .ensures) (if2 .left)
+          (entryAt (a .goals) (a .k) (x .last .0)) (x .ensures .entry);
+      others = x .ensures .others;
+    }
 
 pub rebase-heads-spec : {M : Type 1} → statement M
 rebase-heads-spec =

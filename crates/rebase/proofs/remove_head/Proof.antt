@@ -1,8 +1,7 @@
-use Rattle.definition.specs.Heads.{removeHead}
-use Rattle.rebase.specs.Rebased.{withHeads}
+use Rattle.provisional_cache.specs.Entries.{withoutHead}
 use Rattle.definition.specs.Graph.{Entry}
 use Rattle.provisional_cache.proofs.Entries.{part-room}
-use Rattle.rebase.proofs.Writes.{entry-written, others-written}
+use Rattle.rebase.proofs.Writes.{written}
 use borrow.Author.Needs.{needs}
 use Rattle.rebase.proofs.remove_head.Statement.{statement}
 use Rattle.rebase.proofs.remove_head.Tie as tie
@@ -13,8 +12,8 @@ entry-start-requires c κs = search needs
 entry-size-requires : tie.Need-entry-size-requires
 entry-size-requires c κs = search needs
 
-add-z : tie.Need-add-z
-add-z c = search needs
+add-end : tie.Need-add-end
+add-end c = search needs
 
 sub-remove-head : tie.Need-sub-remove-head
 sub-remove-head c = search needs
@@ -23,7 +22,12 @@ part-remove-head-start : tie.Need-part-remove-head-start
 part-remove-head-start c = search needs
 
 part-remove-head-end : tie.Need-part-remove-head-end
-part-remove-head-end c = let s = c .before .before .before in part-room (s .args .goals) (s .args .graph .now) (s .args .k) (c .before .entry-start .result) (c .entry-size .result) (s .pre .0) (s .pre .1 .0) (c .before .entry-start .ensures .0) (c .entry-size .ensures)
+part-remove-head-end c =
+    let s = c .before .before .before in
+    let entry-start = c .before .entry-start in
+    let entry-size = c .entry-size in
+    part-room (s .args .goals) (s .args .graph .now) (s .args .k) (entry-start .result) (entry-size .result) (s .pre .0) (s .pre .1 .0)
+    (entry-start .ensures .0) (entry-size .ensures)
 
 remove-head-requires : tie.Need-remove-head-requires
 remove-head-requires c κs = search needs
@@ -32,7 +36,14 @@ same-length : tie.Need-same-length
 same-length c = search needs
 
 returns : tie.Need-returns
-returns c = let s = c .before .before .before .before .before .before .before in let a = s .args in let b = c .before .before .remove-head in (entry-written (a .goals) (a .graph .now) (a .k) (c .before .before .before .before .before .entry-start .result) (c .before .before .before .before .entry-size .result) (s .pre .0) (s .pre .1 .0) (c .before .before .before .before .before .entry-start .ensures .0) (c .before .before .before .before .entry-size .ensures) (b .last .0) (b .kept .0) (λ (e : Entry). withHeads e (removeHead (e .heads) (a .i))) (b .ensures), others-written (a .goals) (a .graph .now) (a .k) (c .before .before .before .before .before .entry-start .result) (c .before .before .before .before .entry-size .result) (s .pre .0) (s .pre .1 .0) (c .before .before .before .before .before .entry-start .ensures .0) (c .before .before .before .before .entry-size .ensures) (b .last .0) (b .kept .0))
+returns c =
+    let s = c .before .before .before .before .before .before .before in
+    let a = s .args in
+    let b = c .before .before .remove-head in
+    let entry-start = c .before .before .before .before .before .entry-start in
+    let entry-size = c .before .before .before .before .entry-size in
+    written (a .goals) (a .graph .now) (a .k) (entry-start .result) (entry-size .result) (s .pre .0) (s .pre .1 .0)
+    (entry-start .ensures .0) (entry-size .ensures) (b .last .0) (b .kept .0) (λ (e : Entry). withoutHead e (a .i)) (b .ensures)
 
 pub remove-head-spec : {M : Type 1} → statement M
 remove-head-spec =
@@ -40,7 +51,7 @@ remove-head-spec =
     (tie.spec
     entry-start-requires
     entry-size-requires
-    add-z
+    add-end
     sub-remove-head
     part-remove-head-start
     part-remove-head-end

@@ -11,7 +11,16 @@ same-length : tie.Need-same-length
 same-length c = search needs
 
 returns : tie.Need-returns
-returns c = let a = c .before .before .before .before .before .before .args in let y = c .before .before .rebased in (λ root cache next. again-none (a .goals) root (a .own) (a .entries) (a .left) (a .graph .now) cache next (a .overflow) (a .answer) (c .before .before .before .before .if1 .taken) (y .last .0) (y .result) (y .ensures .0 root cache), y .ensures .1)
+returns c =
+    let a = c .before .before .before .before .before .before .args in
+    let y = c .before .before .rebased in
+    let if1 = c .before .before .before .before .if1 in
+    record {
+      is =
+          λ root cache next. again-none (a .goals) root (a .own) (a .entries) (a .left) (a .graph .now) cache next (a .overflow)
+          (a .answer) (if1 .taken) (y .last .0) (y .result) (y .ensures .is root cache);
+      few = y .ensures .few;
+    }
 
 clear-for-rerun-requires : tie.Need-clear-for-rerun-requires
 clear-for-rerun-requires c κs = search needs
@@ -23,7 +32,17 @@ same-length-2 : tie.Need-same-length-2
 same-length-2 c = search needs
 
 returns-2 : tie.Need-returns-2
-returns-2 c = let s = c .before .before .before .before .before .before .before .before .before .before in let a = s .args in let y = c .before .before .before .before .before .before .clear-for-rerun in let z = c .before .before .reset-for-rerun in (λ root cache next. again-some (a .goals) root (a .own) (a .entries) (a .left) (a .graph .now) cache next (a .overflow) (a .answer) (omega arith) (s .pre .1 .0) (y .result) (y .last .0) (z .last .0) (y .ensures .1 .1) (y .ensures .1 .0) (z .ensures .stack) (z .ensures .entries), (omega arith, omega arith))
+returns-2 c =
+    let c2 = c .before .before in let c6 = c2 .before .before .before .before in let s = c6 .before .before .before .before in
+    let a = s .args in
+    let y = c6 .clear-for-rerun in
+    let z = c2 .reset-for-rerun in
+    record {
+      is =
+          λ root cache next. again-some (a .goals) root (a .own) (a .entries) (a .left) (a .graph .now) cache next (a .overflow)
+          (a .answer) (omega arith) (s .pre .1 .0) (y .result) (y .last .0) (z .last .0) (y .ensures) (z .ensures .stack) (z .ensures .entries);
+      few = (omega (arith, y .ensures .few), omega arith);
+    }
 
 pub again-spec : {M : Type 1} → statement M
 again-spec =

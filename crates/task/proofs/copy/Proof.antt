@@ -29,13 +29,23 @@ loop-less : tie.Need-loop-less Inv-loop μ-loop
 loop-less c = omega arith
 
 loop-again : tie.Need-loop-again Inv-loop μ-loop
-loop-again c = let l = c .before .before .loop in let s = c .before .before .before in (omega arith, simp length-set (l .inv .1), copied-more (s .args .to .now) (s .args .from .now) (l .to) (l .i) (l .inv .2) (s .pre) (omega arith))
+loop-again c =
+    let l = c .before .before .loop in
+    let s = c .before .before .before in (
+      omega arith,
+      simp length-set (l .inv .1),
+      copied-more (s .args .to .now) (s .args .from .now) (l .to) (l .i) (l .inv .2) (s .pre)
+          (omega arith),
+    )
 
 same-length : tie.Need-same-length Inv-loop μ-loop
 same-length c = c .before .loop .inv .1
 
 returns : tie.Need-returns Inv-loop μ-loop
-returns c = let l = c .before .loop in let s = c .before .before in copied-all (s .args .to .now) (s .args .from .now) (l .to) (l .i) (l .inv .2) (s .pre) (omega arith)
+returns c =
+    let l = c .before .loop in
+    let s = c .before .before in
+    copied-all (s .args .to .now) (s .args .from .now) (l .to) (l .i) (l .inv .2) (s .pre) (omega arith)
 
 pub copy-spec : {M : Type 1} → statement M
 copy-spec =

@@ -15,16 +15,39 @@ sub-popped : tie.Need-sub-popped
 sub-popped c = c .before .before .before .before .before .pre .low
 
 popped-requires : tie.Need-popped-requires
-popped-requires c κs = let s = c .before .before .before .before .before in let o = c .before .before .o2 .given in (s .pre .bytes, (omega (arith, s .pre .low, s .pre .high), few-done (s .args .goals) (s .args .o) (o .0 .0) (o .0 .1 .0) (o .1) (s .pre .few)))
+popped-requires c κs =
+    let s = c .before .before .before .before .before in
+    let o = c .before .before .o2 .given in (
+      s .pre .bytes,
+      (omega (arith, s .pre .low, s .pre .high), few-done (s .args .goals) (s .args .o) (o .0 .0) (o .0 .1 .0) (o .1) (s .pre .few)),
+    )
 
 returns : tie.Need-returns
-returns c = let a = c .before .before .before .before .args in (λ root cache next. turn-stopped (a .goals) root (a .height) (a .left) next (a .overflow) (a .graph .now) cache (a .o) (c .before .o .given .0 .0) (c .before .o .given .1), tt)
+returns c =
+    let a = c .before .before .before .before .args in
+    let o = c .before .o in
+    record {
+      is =
+          λ root cache next. turn-stopped (a .goals) root (a .height) (a .left) next (a .overflow) (a .graph .now) cache (a .o)
+          (o .given .0 .0) (o .given .1);
+      few = tt;
+    }
 
 same-length : tie.Need-same-length
 same-length c = search needs
 
 returns-2 : tie.Need-returns-2
-returns-2 c = let s = c .before .before .before .before .before .before .before .before in let a = s .args in let y = c .before .before .popped in let o = c .before .before .before .before .before .o2 .given in (λ root cache next. turn-done (a .goals) root (a .height) (a .left) next (a .overflow) (a .graph .now) cache (a .o) (o .0 .0) (o .0 .1 .0) (o .1) (s .pre .low) (y .last .0) (y .result) (y .ensures .0 root cache next), y .ensures .1)
+returns-2 c =
+    let s = c .before .before .before .before .before .before .before .before in
+    let a = s .args in
+    let y = c .before .before .popped in
+    let o = c .before .before .before .before .before .o2 .given in
+    record {
+      is =
+          λ root cache next. turn-done (a .goals) root (a .height) (a .left) next (a .overflow) (a .graph .now) cache (a .o) (o .0 .0)
+          (o .0 .1 .0) (o .1) (s .pre .low) (y .last .0) (y .result) (y .ensures .is root cache next);
+      few = y .ensures .few;
+    }
 
 pub end-iteration-spec : {M : Type 1} → statement M
 end-iteration-spec =

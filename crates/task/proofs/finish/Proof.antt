@@ -17,7 +17,11 @@ frame-at-requires : tie.Need-frame-at-requires
 frame-at-requires c κs = search needs
 
 required-depth-requires : tie.Need-required-depth-requires
-required-depth-requires c κs = let s = c .before .before .before .before .before .before .before in frame-bytes (s .args .h .goals) (s .args .graph .now) (c .frame-at .result .now) (s .args .height) (s .pre .bytes) (s .pre .under) (c .frame-at .ensures)
+required-depth-requires c κs =
+    let s = c .before .before .before .before .before .before .before in
+    let frame-at = c .frame-at in
+    frame-bytes (s .args .h .goals) (s .args .graph .now) (frame-at .result .now) (s .args .height) (s .pre .bytes) (s .pre .under)
+    (frame-at .ensures)
 
 minus-requires : tie.Need-minus-requires
 minus-requires c κs = search needs
@@ -26,10 +30,33 @@ update-parent-requires : tie.Need-update-parent-requires
 update-parent-requires c κs = search needs
 
 result-requires : tie.Need-result-requires
-result-requires c κs = let s = c .before .before .before .before .before .before .before .before .before .before .before .before .before .before .before in let a = s .args in let o = c .before .before .before .before .before .before .before .before .before .before .before .o2 .given in let y = c .before .before .before .before .update-parent in record { room = record { bytes = graph-bytes (a .h .goals) (a .graph .now) (y .last .0) (s .pre .bytes) (y .kept .0); under = s .pre .under; known = s .pre .known; few = few-evaluated (a .h .goals) (a .o) (o .0 .0) (o .0 .1 .0) (o .0 .1 .1 .0) (o .1) (s .pre .few) }; cache-bytes = s .pre .cache-bytes }
+result-requires c κs =
+    let c4 = c .before .before .before .before in let c11 = c4 .before .before .before .before .before .before .before in
+    let s = c11 .before .before .before .before in
+    let a = s .args in
+    let o = c11 .o2 .given in
+    let y = c4 .update-parent in
+    record {
+      room =
+          record {
+            bytes = graph-bytes (a .h .goals) (a .graph .now) (y .last .0) (s .pre .bytes) (y .kept .0);
+            under = s .pre .under;
+            known = s .pre .known;
+            few = few-evaluated (a .h .goals) (a .o) (o .0 .0) (o .0 .1 .0) (o .0 .1 .1 .0) (o .1) (s .pre .few);
+          };
+      cache-bytes = s .pre .cache-bytes;
+    }
 
 returns : tie.Need-returns
-returns c = let a = c .before .before .before .before .before .args in (λ root. finish-stopped (a .h) root (a .height) (a .goal) (a .available) (a .step) (a .graph .now) (a .cache .now) (a .o) (c .before .o .given .0 .0) (c .before .o .given .1), tt)
+returns c =
+    let a = c .before .before .before .before .before .args in
+    let o = c .before .o in
+    record {
+      is =
+          λ root. finish-stopped (a .h) root (a .height) (a .goal) (a .available) (a .step) (a .graph .now) (a .cache .now) (a .o)
+          (o .given .0 .0) (o .given .1);
+      few = tt;
+    }
 
 same-length : tie.Need-same-length
 same-length c = search needs
@@ -38,7 +65,26 @@ same-length-2 : tie.Need-same-length-2
 same-length-2 c = search needs
 
 returns-2 : tie.Need-returns-2
-returns-2 c = let a = c .before .before .before .before .before .before .before .before .before .before .before .before .before .before .before .before .before .before .before .before .args in let o = c .before .before .before .before .before .before .before .before .before .before .before .before .before .before .before .before .o2 .given in let y = c .before .before .before .before .before .before .before .before .before .update-parent in let d = c .before .before .before .before .before .before .before .before .before .before .before .before .required-depth in let z = c .before .before .before .before .result in (λ root. z .ensures .0 root ∙ finish-evaluated (a .h) root (a .height) (a .goal) (a .available) (a .step) (a .graph .now) (a .cache .now) (a .o) (o .0 .0) (o .0 .1 .0) (o .0 .1 .1 .0) (o .1) (d .result) (c .before .before .before .before .before .before .before .before .before .before .before .minus .result) (required-is (a .h .goals) (a .height) (a .graph .now) (c .before .before .before .before .before .before .before .before .before .before .before .before .before .frame-at .result .now) (d .result) (c .before .before .before .before .before .before .before .before .before .before .before .before .before .frame-at .ensures) (d .ensures .0)) (c .before .before .before .before .before .before .before .before .before .before .before .minus .ensures) (y .last .0) (y .ensures .0) (y .ensures .1 .0) (y .ensures .1 .1), z .ensures .1)
+returns-2 c =
+    let c4 = c .before .before .before .before in let c9 = c4 .before .before .before .before .before in let c11 = c9 .before .before in
+    let c12 = c11 .before in let c13 = c12 .before in let c16 = c13 .before .before .before in
+    let c20 = c16 .before .before .before .before in
+    let a = c20 .args in
+    let o = c16 .o2 .given in
+    let y = c9 .update-parent in
+    let d = c12 .required-depth in
+    let z = c4 .result in
+    let frame-at = c13 .frame-at in
+    let minus = c11 .minus in
+    record {
+      is =
+          λ root. z .ensures .is root
+          ∙ finish-evaluated (a .h) root (a .height) (a .goal) (a .available) (a .step) (a .graph .now) (a .cache .now) (a .o) (o .0 .0)
+          (o .0 .1 .0) (o .0 .1 .1 .0) (o .1) (d .result) (minus .result)
+          (required-is (a .h .goals) (a .height) (a .graph .now) (frame-at .result .now) (d .result) (frame-at .ensures) (d .ensures .0))
+          (minus .ensures) (y .last .0) (y .ensures);
+      few = z .ensures .few;
+    }
 
 pub finish-spec : {M : Type 1} → statement M
 finish-spec =

@@ -11,7 +11,16 @@ same-length : tie.Need-same-length
 same-length c = search needs
 
 returns : tie.Need-returns
-returns c = let s = c .before .before .before .before .before in let a = s .args in let y = c .before .before .rebase-provisional-cache-entries in (λ root cache. rebased-task (a .goals) root (a .own) (a .entries) (y .result) (a .graph .now) (y .last .0) cache (a .reason) (a .overflow) (a .answer) (s .pre .1 .0) (y .ensures .1) (y .ensures .0), fewer (y .result) (a .entries) (2 * a .goals) (y .ensures .2) (s .pre .1 .1))
+returns c =
+    let s = c .before .before .before .before .before in
+    let a = s .args in
+    let y = c .before .before .rebase-provisional-cache-entries in
+    record {
+      is =
+          λ root cache. rebased-task (a .goals) root (a .own) (a .entries) (y .result) (a .graph .now) (y .last .0) cache (a .reason)
+          (a .overflow) (a .answer) (s .pre .1 .0) (y .ensures);
+      few = fewer (y .result) (a .entries) (2 * a .goals) (y .ensures .few) (s .pre .1 .1);
+    }
 
 pub rebased-spec : {M : Type 1} → statement M
 rebased-spec = tie.close (tie.spec rebase-provisional-cache-entries-requires same-length returns)

@@ -20,7 +20,11 @@ nested-at-requires : tie.Need-nested-at-requires
 nested-at-requires c κs = search needs
 
 copy-requires : tie.Need-copy-requires
-copy-requires c κs = let s = c .before .before .before .before in let y = c .nested-at in array-part (s .args .goals) (s .pre .0 .few) (y .result .now) (ap length (y .ensures) ∙ nested-length (s .args .goals) (s .args .graph .now) (s .args .height) (s .pre .0) (s .pre .1))
+copy-requires c κs =
+    let s = c .before .before .before .before in
+    let y = c .nested-at in
+    array-part (s .args .goals) (s .pre .0 .few) (y .result .now)
+    (ap length (y .ensures) ∙ nested-length (s .args .goals) (s .args .graph .now) (s .args .height) (s .pre .0) (s .pre .1))
 
 sub-update-from-frame : tie.Need-sub-update-from-frame
 sub-update-from-frame c = search needs
@@ -29,7 +33,10 @@ part-update-from-frame-start : tie.Need-part-update-from-frame-start
 part-update-from-frame-start c = search needs
 
 part-update-from-frame-end : tie.Need-part-update-from-frame-end
-part-update-from-frame-end c = let s = c .before .before .before .before .before .before .before .before in let y = c .before .before .before .copy in array-room (s .args .goals) (s .pre .0 .few) (y .last .0) (y .kept .0)
+part-update-from-frame-end c =
+    let s = c .before .before .before .before .before .before .before .before in
+    let y = c .before .before .before .copy in
+    array-room (s .args .goals) (s .pre .0 .few) (y .last .0) (y .kept .0)
 
 update-from-frame-requires : tie.Need-update-from-frame-requires
 update-from-frame-requires c κs = search needs
@@ -38,7 +45,22 @@ same-length : tie.Need-same-length
 same-length c = search needs
 
 returns : tie.Need-returns
-returns c = let s = c .before .before .before .before .before .before .before .before .before .before .before .before in let a = s .args in let z = c .before .before .update-from-frame in let y = c .before .before .before .before .before .before .before .copy in let f = frameAt (a .goals) (a .height) (a .graph .now) in (z .ensures .stack ∙ parent-child (stackOf (a .goals) (a .height) (a .graph .now)) (a .step) (f .heads) (a .overflow) _ (f .nestedGoals) (a .reached) (array-first (a .goals) (s .pre .0 .few) (y .last .0) (y .kept .0) ∙ y .ensures ∙ c .before .before .before .before .before .before .before .before .nested-at .ensures), (z .ensures .entries, z .ensures .above))
+returns c =
+    let c2 = c .before .before in let c7 = c2 .before .before .before .before .before in let c8 = c7 .before in
+    let s = c8 .before .before .before .before in
+    let a = s .args in
+    let z = c2 .update-from-frame in
+    let y = c7 .copy in
+    let f = frameAt (a .goals) (a .height) (a .graph .now) in
+    let nested-at = c8 .nested-at in
+    record {
+      stack =
+          z .ensures .stack
+          ∙ parent-child (stackOf (a .goals) (a .height) (a .graph .now)) (a .step) (f .heads) (a .overflow) _ (f .nestedGoals)
+          (a .reached) (array-first (a .goals) (s .pre .0 .few) (y .last .0) (y .kept .0) ∙ y .ensures ∙ nested-at .ensures);
+      entries = z .ensures .entries;
+      frame = z .ensures .above;
+    }
 
 pub update-parent-spec : {M : Type 1} → statement M
 update-parent-spec =

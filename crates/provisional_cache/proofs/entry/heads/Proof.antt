@@ -7,8 +7,8 @@ use Rattle.provisional_cache.proofs.entry.heads.Tie as tie
 heads-size-requires : tie.Need-heads-size-requires
 heads-size-requires c κs = search needs
 
-add-e : tie.Need-add-e
-add-e c = search needs
+add-end : tie.Need-add-end
+add-end c = search needs
 
 sub-result : tie.Need-sub-result
 sub-result c = search needs
@@ -20,9 +20,12 @@ part-result-end : tie.Need-part-result-end
 part-result-end c = search needs
 
 returns : tie.Need-returns
-returns c = let a = c .before .before .before .args in heads-part (a .entry .now) 8 (c .before .heads-size .result) (headsSize (a .goals)) (c .before .heads-size .ensures)
+returns c =
+    let a = c .before .before .before .args in
+    let heads-size = c .before .heads-size in
+    heads-part (a .entry .now) 8 (heads-size .result) (headsSize (a .goals)) (heads-size .ensures)
 
 pub heads-spec : {M : Type 1} → statement M
 heads-spec =
     tie.close
-    (tie.spec heads-size-requires add-e sub-result part-result-start part-result-end returns)
+    (tie.spec heads-size-requires add-end sub-result part-result-start part-result-end returns)

@@ -13,11 +13,16 @@ heads-requires : tie.Need-heads-requires
 heads-requires c κs = search needs
 
 highest-requires : tie.Need-highest-requires
-highest-requires c κs = let s = c .before .before in entry-heads-block (s .args .goals) (s .args .entry .now) (c .heads .result .now) (s .pre) (c .heads .ensures)
+highest-requires c κs =
+    let s = c .before .before in
+    let heads = c .heads in
+    entry-heads-block (s .args .goals) (s .args .entry .now) (heads .result .now) (s .pre) (heads .ensures)
 
 returns : tie.Need-returns
 unfolding entryOf
-returns c = let s = c .before .before .before in c .highest .ensures ∙ ap (λ (l : List ℕ). highestIndex (headsOf (s .args .goals) l)) (c .before .heads .ensures)
+returns c =
+    let s = c .before .before .before in
+    c .highest .ensures ∙ ap (λ (l : List ℕ). highestIndex (headsOf (s .args .goals) l)) (c .before .heads .ensures)
 
 pub highest-head-spec : {M : Type 1} → statement M
 highest-head-spec = tie.close (tie.spec heads-requires highest-requires returns)

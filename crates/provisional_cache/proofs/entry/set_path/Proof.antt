@@ -13,7 +13,10 @@ same-length : tie.Need-same-length
 same-length c = search needs
 
 returns : tie.Need-returns
-returns c = let s = c .before .before in path-written (s .args .goals) (s .args .entry .now) (s .pre .long) (s .args .kind) (c .number .result) (c .number .ensures)
+returns c =
+    let s = c .before .before in
+    let number = c .number in
+    path-written (s .args .goals) (s .args .entry .now) (s .pre .long) (s .args .kind) (number .result) (number .ensures)
 
 pub set-path-spec : {M : Type 1} → statement M
 set-path-spec = tie.close (tie.spec number-requires slice-write-entry same-length returns)

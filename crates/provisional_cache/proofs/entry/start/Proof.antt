@@ -33,7 +33,15 @@ same-length : tie.Need-same-length
 same-length c = search needs
 
 returns : tie.Need-returns
-returns c = let s = c .before .before .before .before .before in fields-written (s .args .goals) (s .args .entry .now) (s .pre .0 .long) (s .args .goal) (s .args .overflow) (s .args .path) (s .args .answer) (c .before .before .before .low .result) (c .before .before .flag .result) (c .before .number .result) (c .number2 .result) (c .before .before .before .low .ensures) (c .before .before .flag .ensures) (c .before .number .ensures) (c .number2 .ensures)
+returns c =
+    let s = c .before .before .before .before .before in
+    let low = c .before .before .before .low in
+    let flag = c .before .before .flag in
+    let number = c .before .number in
+    let number2 = c .number2 in
+    fields-written (s .args .goals) (s .args .entry .now) (s .pre .0 .long) (s .args .goal) (s .args .overflow) (s .args .path)
+    (s .args .answer) (low .result) (flag .result) (number .result) (number2 .result) (low .ensures) (flag .ensures) (number .ensures)
+    (number2 .ensures)
 
 pub start-spec : {M : Type 1} → statement M
 start-spec =

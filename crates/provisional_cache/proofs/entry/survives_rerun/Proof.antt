@@ -13,20 +13,36 @@ highest-head-requires : tie.Need-highest-head-requires
 highest-head-requires c κs = search needs
 
 returns : tie.Need-returns
-returns c = let s = c .before .before .before in survives-other (entryOf (s .args .goals) (s .args .entry .now)) (s .args .rerun) (c .before .highest-head .result) (c .before .highest-head .ensures) (c .if1 .taken)
+returns c =
+    let s = c .before .before .before in
+    let highest-head = c .before .highest-head in
+    survives-other (entryOf (s .args .goals) (s .args .entry .now)) (s .args .rerun) (highest-head .result) (highest-head .ensures)
+    (c .if1 .taken)
 
 heads-requires : tie.Need-heads-requires
 heads-requires c κs = search needs
 
 usages-requires : tie.Need-usages-requires
-usages-requires c κs = let s = c .before .before .before .before in (entry-heads-block (s .args .goals) (s .args .entry .now) (c .heads .result .now) (s .pre .0) (c .heads .ensures), s .pre .1)
+usages-requires c κs =
+    let s = c .before .before .before .before in
+    let heads = c .heads in
+    (entry-heads-block (s .args .goals) (s .args .entry .now) (heads .result .now) (s .pre .0) (heads .ensures), s .pre .1)
 
 is-empty-requires : tie.Need-is-empty-requires
 is-empty-requires c κs = search needs
 
 returns-2 : tie.Need-returns-2
 unfolding entryOf
-returns-2 c = let s = c .before .before .before .before .before .before in survives-unused (entryOf (s .args .goals) (s .args .entry .now)) (s .args .rerun) (c .before .before .before .before .highest-head .result) (c .before .before .before .before .highest-head .ensures) (c .before .before .before .if1 .left) (headsOf (s .args .goals) (c .before .before .heads .result .now)) (ap (λ (l : List ℕ). headsOf (s .args .goals) l) (c .before .before .heads .ensures)) (c .before .usages .result) (c .before .usages .ensures) (c .is-empty .result) (c .is-empty .ensures)
+returns-2 c =
+    let s = c .before .before .before .before .before .before in
+    let highest-head = c .before .before .before .before .highest-head in
+    let if1 = c .before .before .before .if1 in
+    let heads = c .before .before .heads in
+    let usages = c .before .usages in
+    let is-empty = c .is-empty in
+    survives-unused (entryOf (s .args .goals) (s .args .entry .now)) (s .args .rerun) (highest-head .result) (highest-head .ensures)
+    (if1 .left) (headsOf (s .args .goals) (heads .result .now)) (ap (λ (l : List ℕ). headsOf (s .args .goals) l) (heads .ensures))
+    (usages .result) (usages .ensures) (is-empty .result) (is-empty .ensures)
 
 pub survives-rerun-spec : {M : Type 1} → statement M
 survives-rerun-spec =

@@ -10,7 +10,11 @@ contains-requires : tie.Need-contains-requires
 contains-requires c κs = search needs
 
 returns : tie.Need-returns
-returns c ks = let a = c .before .before .args in absent (a .eps .bits) (a .ep) ks (λ (l : List PathKind). everyEpKeeps (a .hph) (a .he) (a .ph) l) (c .before .contains .result) (c .before .contains .ensures) (c .if1 .taken)
+returns c ks =
+    let a = c .before .before .args in
+    let contains = c .before .contains in
+    absent (a .eps .bits) (a .ep) ks (λ (l : List PathKind). everyEpKeeps (a .hph) (a .he) (a .ph) l) (contains .result)
+    (contains .ensures) (c .if1 .taken)
 
 extend-requires : tie.Need-extend-requires
 extend-requires c κs = search needs
@@ -22,7 +26,15 @@ same-requires : tie.Need-same-requires
 same-requires c κs = search needs
 
 returns-2 : tie.Need-returns-2
-returns-2 c ks = let a = c .before .before .before .before .before .args in ep-there (a .eps .bits) (a .ep) ks (c .before .before .before .before .contains .result) (c .before .before .before .before .contains .ensures) (c .before .before .before .if1 .left) (c .same .result) (a .hph) (a .he) (a .ph) (c .before .before .extend .result) (c .before .extend2 .result) (c .before .before .extend .ensures) (c .before .extend2 .ensures) (c .same .ensures)
+returns-2 c ks =
+    let a = c .before .before .before .before .before .args in
+    let contains = c .before .before .before .before .contains in
+    let if1 = c .before .before .before .if1 in
+    let extend = c .before .before .extend in
+    let extend2 = c .before .extend2 in
+    let same = c .same in
+    ep-there (a .eps .bits) (a .ep) ks (contains .result) (contains .ensures) (if1 .left) (same .result) (a .hph) (a .he) (a .ph)
+    (extend .result) (extend2 .result) (extend .ensures) (extend2 .ensures) (same .ensures)
 
 pub ep-keeps-spec : {M : Type 1} → statement M
 ep-keeps-spec =

@@ -3,35 +3,31 @@ use borrow.Author.Needs.{needs}
 use Rattle.search_graph.proofs.between.end_iteration.Statement.{statement}
 use Rattle.search_graph.proofs.between.end_iteration.Tie as tie
 
--- src/between.rt:115:9
 graph-length-requires : tie.Need-graph-length-requires
 graph-length-requires c κs = search needs
 
--- src/between.rt:116:28
 sub-end-iteration : tie.Need-sub-end-iteration
 sub-end-iteration c = search needs
 
--- src/between.rt:116:28
 part-end-iteration-start : tie.Need-part-end-iteration-start
 part-end-iteration-start c = search needs
 
--- src/between.rt:116:28
 part-end-iteration-end : tie.Need-part-end-iteration-end
 part-end-iteration-end c = search needs
 
--- src/between.rt:116:5
 end-iteration-requires : tie.Need-end-iteration-requires
 end-iteration-requires c κs = search needs
 
--- src/between.rt:104:1
 same-length : tie.Need-same-length
 same-length c = search needs
 
--- src/between.rt:104:1
 returns : tie.Need-returns
 returns c =
-    let s = c .before .before .before .before .before .before in let l = c .before .before .end-iteration in
-    iteration-ended (s .args .goals) (s .args .work .now) (c .before .before .before .before .graph-length .result) (s .pre .0) (c .before .before .before .before .graph-length .ensures .0) (l .last .1 .0) (l .kept .1 .0) (s .args .height) (s .args .left) (s .args .overflow) (s .args .o) (l .result) (l .ensures .0) (l .ensures .1)
+    let s = c .before .before .before .before .before .before in
+    let l = c .before .before .end-iteration in
+    let graph-length = c .before .before .before .before .graph-length in
+    iteration-ended (s .args .goals) (s .args .work .now) (graph-length .result) (s .pre .0) (graph-length .ensures .0) (l .last .1 .0)
+    (l .kept .1 .0) (s .args .height) (s .args .left) (s .args .overflow) (s .args .o) (l .result) (l .ensures)
 
 pub end-iteration-spec : {M : Type 1} → statement M
 end-iteration-spec =

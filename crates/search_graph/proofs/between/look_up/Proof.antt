@@ -3,35 +3,32 @@ use borrow.Author.Needs.{needs}
 use Rattle.search_graph.proofs.between.look_up.Statement.{statement}
 use Rattle.search_graph.proofs.between.look_up.Tie as tie
 
--- src/between.rt:75:9
 graph-length-requires : tie.Need-graph-length-requires
 graph-length-requires c κs = search needs
 
--- src/between.rt:78:9
 sub-lookup : tie.Need-sub-lookup
 sub-lookup c = search needs
 
--- src/between.rt:78:9
 part-lookup-start : tie.Need-part-lookup-start
 part-lookup-start c = search needs
 
--- src/between.rt:78:9
 part-lookup-end : tie.Need-part-lookup-end
 part-lookup-end c = search needs
 
--- src/between.rt:76:5
 lookup-requires : tie.Need-lookup-requires
 lookup-requires c κs = search needs
 
--- src/between.rt:61:1
 same-length : tie.Need-same-length
 same-length c = search needs
 
--- src/between.rt:61:1
 returns : tie.Need-returns
 returns c =
-    let s = c .before .before .before .before .before .before .before in let l = c .before .before .lookup in
-    looked-up (s .args .h) (s .args .work .now) (c .before .before .before .before .graph-length .result) (s .pre .bytes) (c .before .before .before .before .graph-length .ensures .0) (l .last .1 .0) (l .kept .1 .0) (s .args .root) (s .args .height) (s .args .entries) (s .args .goal) (s .args .step) (s .args .lower) (s .args .cache .now) (l .result) (l .ensures .0) (l .ensures .1)
+    let s = c .before .before .before .before .before .before .before in
+    let l = c .before .before .lookup in
+    let graph-length = c .before .before .before .before .graph-length in
+    looked-up (s .args .h) (s .args .work .now) (graph-length .result) (s .pre .bytes) (graph-length .ensures .0) (l .last .1 .0)
+    (l .kept .1 .0) (s .args .root) (s .args .height) (s .args .entries) (s .args .goal) (s .args .step) (s .args .lower)
+    (s .args .cache .now) (l .result) (l .ensures)
 
 pub look-up-spec : {M : Type 1} → statement M
 look-up-spec =

@@ -3,35 +3,31 @@ use borrow.Author.Needs.{needs}
 use Rattle.search_graph.proofs.between.push.Statement.{statement}
 use Rattle.search_graph.proofs.between.push.Tie as tie
 
--- src/between.rt:100:9
 graph-length-requires : tie.Need-graph-length-requires
 graph-length-requires c κs = search needs
 
--- src/between.rt:101:17
 sub-push : tie.Need-sub-push
 sub-push c = search needs
 
--- src/between.rt:101:17
 part-push-start : tie.Need-part-push-start
 part-push-start c = search needs
 
--- src/between.rt:101:17
 part-push-end : tie.Need-part-push-end
 part-push-end c = search needs
 
--- src/between.rt:101:5
 push-requires : tie.Need-push-requires
 push-requires c κs = search needs
 
--- src/between.rt:89:1
 same-length : tie.Need-same-length
 same-length c = search needs
 
--- src/between.rt:89:1
 returns : tie.Need-returns
 returns c =
-    let s = c .before .before .before .before .before .before in let l = c .before .before .push in
-    pushed (s .args .goals) (s .args .work .now) (c .before .before .before .before .graph-length .result) (s .pre .0) (c .before .before .before .before .graph-length .ensures .0) (l .last .0) (l .kept .0) (s .args .height) (s .args .goal) (s .args .step) (s .args .available) (l .ensures .stack) (l .ensures .entries)
+    let s = c .before .before .before .before .before .before in
+    let l = c .before .before .push in
+    let graph-length = c .before .before .before .before .graph-length in
+    pushed (s .args .goals) (s .args .work .now) (graph-length .result) (s .pre .0) (graph-length .ensures .0) (l .last .0) (l .kept .0)
+    (s .args .height) (s .args .goal) (s .args .step) (s .args .available) (l .ensures .stack) (l .ensures .entries)
 
 pub push-spec : {M : Type 1} → statement M
 push-spec =

@@ -10,7 +10,11 @@ is-head-requires : tie.Need-is-head-requires
 is-head-requires c κs = search needs
 
 returns : tie.Need-returns
-returns c = let a = c .before .before .before .args in next-finish (frameOf (a .goals) (a .f .now)) (a .answer) (c .before .is-head .result) (c .before .is-head .ensures) (not-true (c .before .is-head .result) (c .if1 .taken))
+returns c =
+    let a = c .before .before .before .args in
+    let is-head = c .before .is-head in
+    next-finish (frameOf (a .goals) (a .f .now)) (a .answer) (is-head .result) (is-head .ensures)
+    (not-true (is-head .result) (c .if1 .taken))
 
 provisional-result-requires : tie.Need-provisional-result-requires
 provisional-result-requires c κs = search needs
@@ -22,7 +26,16 @@ next-of-head-requires : tie.Need-next-of-head-requires
 next-of-head-requires c κs = search needs
 
 returns-2 : tie.Need-returns-2
-returns-2 c = let a = c .before .before .before .before .before .before .args in c .next-of-head .ensures ∙ next-head (frameOf (a .goals) (a .f .now)) (a .answer) (c .before .before .before .before .is-head .result) (c .before .before .before .before .is-head .ensures) (not-false (c .before .before .before .before .is-head .result) (c .before .before .before .if1 .left)) (c .before .before .provisional-result .result) (c .before .before .provisional-result .ensures) (c .before .own-usages .result) (c .before .own-usages .ensures)
+returns-2 c =
+    let a = c .before .before .before .before .before .before .args in
+    let is-head = c .before .before .before .before .is-head in
+    let if1 = c .before .before .before .if1 in
+    let provisional-result = c .before .before .provisional-result in
+    let own-usages = c .before .own-usages in
+    c .next-of-head .ensures
+    ∙ next-head (frameOf (a .goals) (a .f .now)) (a .answer) (is-head .result) (is-head .ensures)
+    (not-false (is-head .result) (if1 .left)) (provisional-result .result) (provisional-result .ensures) (own-usages .result)
+    (own-usages .ensures)
 
 pub next-of-spec : {M : Type 1} → statement M
 next-of-spec =

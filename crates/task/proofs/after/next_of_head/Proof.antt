@@ -17,10 +17,20 @@ without-fixpoint-requires : tie.Need-without-fixpoint-requires
 without-fixpoint-requires c κs = search needs
 
 returns : tie.Need-returns
-returns c = let a = c .before .before .before .before .args in head-reached (a .provisional) (a .usages) (a .answer) (c .before .before .before .reached-fixpoint .result) (c .before .before .before .reached-fixpoint .ensures) (c .before .fixpoint .given .0 .0) (c .before .fixpoint .given .1)
+returns c =
+    let a = c .before .before .before .before .args in
+    let reached-fixpoint = c .before .before .before .reached-fixpoint in
+    let fixpoint = c .before .fixpoint in
+    head-reached (a .provisional) (a .usages) (a .answer) (reached-fixpoint .result) (reached-fixpoint .ensures) (fixpoint .given .0 .0)
+    (fixpoint .given .1)
 
 returns-2 : tie.Need-returns-2
-returns-2 c = let a = c .before .before .before .before .args in head-missed (a .provisional) (a .usages) (a .answer) (c .before .before .before .reached-fixpoint .result) (c .before .before .before .reached-fixpoint .ensures) (c .before .enum-told .given .1) (nextFor (c .without-fixpoint .result)) (c .without-fixpoint .ensures)
+returns-2 c =
+    let a = c .before .before .before .before .args in
+    let reached-fixpoint = c .before .before .before .reached-fixpoint in
+    let without-fixpoint = c .without-fixpoint in
+    head-missed (a .provisional) (a .usages) (a .answer) (reached-fixpoint .result) (reached-fixpoint .ensures)
+    (c .before .enum-told .given .1) (nextFor (without-fixpoint .result)) (without-fixpoint .ensures)
 
 pub next-of-head-spec : {M : Type 1} → statement M
 next-of-head-spec =

@@ -10,7 +10,12 @@ same-requires : tie.Need-same-requires
 same-requires c κs = search needs
 
 returns : tie.Need-returns
-returns c = let a = c .before .before .before .before .before .args in later-reached (a .provisional) (a .usages) (a .answer) (c .before .same .result) (c .before .before .before .provisional .given .0 .0) (c .before .before .before .provisional .given .1) (c .before .same .ensures) (c .if1 .taken)
+returns c =
+    let a = c .before .before .before .before .before .args in
+    let provisional = c .before .before .before .provisional in
+    let same = c .before .same in
+    later-reached (a .provisional) (a .usages) (a .answer) (same .result) (provisional .given .0 .0) (provisional .given .1)
+    (same .ensures) (c .if1 .taken)
 
 enum-told : tie.Need-enum-told
 enum-told c = search needs
@@ -22,13 +27,30 @@ is-single-requires : tie.Need-is-single-requires
 is-single-requires c κs = search needs
 
 returns-2 : tie.Need-returns-2
-returns-2 c = let a = c .before .before .before .before .before .args in first-reached (a .provisional) (a .usages) (a .answer) (c .before .is-single .result) (c .before .before .initial-kind .result) (c .before .before .before .enum-told .given .1) (c .before .before .initial-kind .ensures) (c .before .is-single .ensures) (c .if2 .taken)
+returns-2 c =
+    let a = c .before .before .before .before .before .args in
+    let enum-told = c .before .before .before .enum-told in
+    let initial-kind = c .before .before .initial-kind in
+    let is-single = c .before .is-single in
+    first-reached (a .provisional) (a .usages) (a .answer) (is-single .result) (initial-kind .result) (enum-told .given .1)
+    (initial-kind .ensures) (is-single .ensures) (c .if2 .taken)
 
 returns-3 : tie.Need-returns-3
-returns-3 c = let a = c .before .before .before .before .before .args in later-missed (a .provisional) (a .usages) (a .answer) (c .before .same .result) (c .before .before .before .provisional .given .0 .0) (c .before .before .before .provisional .given .1) (c .before .same .ensures) (c .if1 .left)
+returns-3 c =
+    let a = c .before .before .before .before .before .args in
+    let provisional = c .before .before .before .provisional in
+    let same = c .before .same in
+    later-missed (a .provisional) (a .usages) (a .answer) (same .result) (provisional .given .0 .0) (provisional .given .1)
+    (same .ensures) (c .if1 .left)
 
 returns-4 : tie.Need-returns-4
-returns-4 c = let a = c .before .before .before .before .before .args in first-missed (a .provisional) (a .usages) (a .answer) (c .before .is-single .result) (c .before .before .initial-kind .result) (c .before .before .before .enum-told .given .1) (c .before .before .initial-kind .ensures) (c .before .is-single .ensures) (c .if2 .left)
+returns-4 c =
+    let a = c .before .before .before .before .before .args in
+    let enum-told = c .before .before .before .enum-told in
+    let initial-kind = c .before .before .initial-kind in
+    let is-single = c .before .is-single in
+    first-missed (a .provisional) (a .usages) (a .answer) (is-single .result) (initial-kind .result) (enum-told .given .1)
+    (initial-kind .ensures) (is-single .ensures) (c .if2 .left)
 
 pub reached-fixpoint-spec : {M : Type 1} → statement M
 reached-fixpoint-spec =

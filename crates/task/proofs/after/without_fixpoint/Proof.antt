@@ -7,16 +7,29 @@ is-empty-requires : tie.Need-is-empty-requires
 is-empty-requires c κs = search needs
 
 returns : tie.Need-returns
-returns c = let a = c .before .before .args in without-usages (a .usages) (a .answer) (c .before .is-empty .result) (c .before .is-empty .ensures) (c .if1 .taken)
+returns c =
+    let a = c .before .before .args in
+    let is-empty = c .before .is-empty in
+    without-usages (a .usages) (a .answer) (is-empty .result) (is-empty .ensures) (c .if1 .taken)
 
 is-ambiguous-requires : tie.Need-is-ambiguous-requires
 is-ambiguous-requires c κs = search needs
 
 returns-2 : tie.Need-returns-2
-returns-2 c = let a = c .before .before .before .before .args in without-ambiguous (a .usages) (a .answer) (c .before .before .before .is-empty .result) (c .before .before .before .is-empty .ensures) (c .before .before .if1 .left) (c .before .is-ambiguous .result) (c .before .is-ambiguous .ensures) (c .if2 .taken)
+returns-2 c =
+    let a = c .before .before .before .before .args in
+    let is-empty = c .before .before .before .is-empty in
+    let is-ambiguous = c .before .is-ambiguous in
+    without-ambiguous (a .usages) (a .answer) (is-empty .result) (is-empty .ensures) (c .before .before .if1 .left) (is-ambiguous .result)
+    (is-ambiguous .ensures) (c .if2 .taken)
 
 returns-3 : tie.Need-returns-3
-returns-3 c = let a = c .before .before .before .before .args in without-rerun (a .usages) (a .answer) (c .before .before .before .is-empty .result) (c .before .before .before .is-empty .ensures) (c .before .before .if1 .left) (c .before .is-ambiguous .result) (c .before .is-ambiguous .ensures) (c .if2 .left)
+returns-3 c =
+    let a = c .before .before .before .before .args in
+    let is-empty = c .before .before .before .is-empty in
+    let is-ambiguous = c .before .is-ambiguous in
+    without-rerun (a .usages) (a .answer) (is-empty .result) (is-empty .ensures) (c .before .before .if1 .left) (is-ambiguous .result)
+    (is-ambiguous .ensures) (c .if2 .left)
 
 pub without-fixpoint-spec : {M : Type 1} → statement M
 without-fixpoint-spec =

@@ -12,16 +12,39 @@ frame-at-requires : tie.Need-frame-at-requires
 frame-at-requires c κs = search needs
 
 required-depth-requires : tie.Need-required-depth-requires
-required-depth-requires c κs = let s = c .before .before .before in frame-bytes (s .args .h .goals) (s .args .graph .now) (c .frame-at .result .now) (s .args .height) (s .pre .room .bytes) (s .pre .room .under) (c .frame-at .ensures)
+required-depth-requires c κs =
+    let s = c .before .before .before in
+    let frame-at = c .frame-at in
+    frame-bytes (s .args .h .goals) (s .args .graph .now) (frame-at .result .now) (s .args .height) (s .pre .room .bytes)
+    (s .pre .room .under) (frame-at .ensures)
 
 returns : tie.Need-returns
-returns c = let s = c .before .before .before .before .before in let a = s .args in let d = c .before .required-depth in (λ root. global-past (a .h) root (a .height) (a .entries) (a .goal) (a .overflow) (a .answer) (a .graph .now) (a .cache .now) (d .result) (required-is (a .h .goals) (a .height) (a .graph .now) (c .before .before .frame-at .result .now) (d .result) (c .before .before .frame-at .ensures) (d .ensures .0)) (c .if1 .taken), tt)
+returns c =
+    let s = c .before .before .before .before .before in
+    let a = s .args in
+    let d = c .before .required-depth in
+    let frame-at = c .before .before .frame-at in
+    record {
+      is =
+          λ root. global-past (a .h) root (a .height) (a .entries) (a .goal) (a .overflow) (a .answer) (a .graph .now) (a .cache .now)
+          (d .result)
+          (required-is (a .h .goals) (a .height) (a .graph .now) (frame-at .result .now) (d .result) (frame-at .ensures) (d .ensures .0))
+          (c .if1 .taken);
+      few = tt;
+    }
 
 nested-at-requires : tie.Need-nested-at-requires
 nested-at-requires c κs = search needs
 
 insert-requires : tie.Need-insert-requires
-insert-requires c κs = let s = c .before .before .before .before .before .before .before in (s .pre .cache-bytes, s .pre .room .known, omega arith, ap length (c .before .nested-at .ensures) ∙ nested-length (s .args .h .goals) (s .args .graph .now) (s .args .height) (s .pre .room .bytes) (s .pre .room .under))
+insert-requires c κs =
+    let s = c .before .before .before .before .before .before .before in (
+      s .pre .cache-bytes,
+      s .pre .room .known,
+      omega arith,
+      ap length (c .before .nested-at .ensures)
+          ∙ nested-length (s .args .h .goals) (s .args .graph .now) (s .args .height) (s .pre .room .bytes) (s .pre .room .under),
+    )
 
 enum-told : tie.Need-enum-told
 enum-told c = search needs
@@ -33,13 +56,45 @@ same-length : tie.Need-same-length
 same-length c = search needs
 
 returns-2 : tie.Need-returns-2
-returns-2 c = let s = c .before .before .before .before .before .before .before .before .before .before .before .before in let a = s .args in let d = c .before .before .before .before .before .before .before .before .required-depth in let y = c .before .before .before .before .insert in (λ root. global-kept (a .h) root (a .height) (a .entries) (a .goal) (a .overflow) (a .answer) (a .graph .now) (a .cache .now) (d .result) (required-is (a .h .goals) (a .height) (a .graph .now) (c .before .before .before .before .before .before .before .before .before .frame-at .result .now) (d .result) (c .before .before .before .before .before .before .before .before .before .frame-at .ensures) (d .ensures .0)) (c .before .before .before .before .before .before .before .if1 .left) (c .before .before .before .before .before .before .nested-at .result .now) (c .before .before .before .before .before .before .nested-at .ensures) (y .result) (y .last .0) (y .ensures .0) (c .enum-told .given .1), s .pre .room .few)
+returns-2 c =
+    let c4 = c .before .before .before .before in let c6 = c4 .before .before in let c7 = c6 .before in let c8 = c7 .before in
+    let c9 = c8 .before in let s = c9 .before .before .before in
+    let a = s .args in
+    let d = c8 .required-depth in
+    let y = c4 .insert in
+    let frame-at = c9 .frame-at in
+    let if1 = c7 .if1 in
+    let nested-at = c6 .nested-at in
+    record {
+      is =
+          λ root. global-kept (a .h) root (a .height) (a .entries) (a .goal) (a .overflow) (a .answer) (a .graph .now) (a .cache .now)
+          (d .result)
+          (required-is (a .h .goals) (a .height) (a .graph .now) (frame-at .result .now) (d .result) (frame-at .ensures) (d .ensures .0))
+          (if1 .left) (nested-at .result .now) (nested-at .ensures) (y .result) (y .last .0) (y .ensures .0) (c .enum-told .given .1);
+      few = s .pre .room .few;
+    }
 
 same-length-2 : tie.Need-same-length-2
 same-length-2 c = search needs
 
 returns-3 : tie.Need-returns-3
-returns-3 c = let s = c .before .before .before .before .before .before .before .before .before .before .before .before in let a = s .args in let d = c .before .before .before .before .before .before .before .before .required-depth in let y = c .before .before .before .before .insert in (λ root. global-conflict (a .h) root (a .height) (a .entries) (a .goal) (a .overflow) (a .answer) (a .graph .now) (a .cache .now) (d .result) (required-is (a .h .goals) (a .height) (a .graph .now) (c .before .before .before .before .before .before .before .before .before .frame-at .result .now) (d .result) (c .before .before .before .before .before .before .before .before .before .frame-at .ensures) (d .ensures .0)) (c .before .before .before .before .before .before .before .if1 .left) (c .before .before .before .before .before .before .nested-at .result .now) (c .before .before .before .before .before .before .nested-at .ensures) (y .result) (y .last .0) (y .ensures .0) (c .enum-told2 .given .1), tt)
+returns-3 c =
+    let c4 = c .before .before .before .before in let c6 = c4 .before .before in let c7 = c6 .before in let c8 = c7 .before in
+    let c9 = c8 .before in let s = c9 .before .before .before in
+    let a = s .args in
+    let d = c8 .required-depth in
+    let y = c4 .insert in
+    let frame-at = c9 .frame-at in
+    let if1 = c7 .if1 in
+    let nested-at = c6 .nested-at in
+    record {
+      is =
+          λ root. global-conflict (a .h) root (a .height) (a .entries) (a .goal) (a .overflow) (a .answer) (a .graph .now) (a .cache .now)
+          (d .result)
+          (required-is (a .h .goals) (a .height) (a .graph .now) (frame-at .result .now) (d .result) (frame-at .ensures) (d .ensures .0))
+          (if1 .left) (nested-at .result .now) (nested-at .ensures) (y .result) (y .last .0) (y .ensures .0) (c .enum-told2 .given .1);
+      few = tt;
+    }
 
 pub in-global-cache-spec : {M : Type 1} → statement M
 in-global-cache-spec =

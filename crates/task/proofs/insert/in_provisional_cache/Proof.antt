@@ -19,13 +19,34 @@ same-length : tie.Need-same-length
 same-length c = search needs
 
 returns : tie.Need-returns
-returns c = let s = c .before .before .before .before .before .before .before in let a = s .args in let y = c .before .before .before .before .insert in (λ root cache. provisional-kept (a .h) root (a .height) (a .entries) (a .goal) (a .overflow) (a .answer) (a .graph .now) cache (a .step) (y .last .0) (y .result) (y .ensures) (s .pre .under) (c .enum-told .given .1), provisional-few (a .h .goals) (a .height) (a .entries) (a .goal) (a .step) (a .overflow) (a .answer) (a .graph .now) (y .last .0) (y .result) (y .ensures) (c .enum-told .given .1))
+returns c =
+    let s = c .before .before .before .before .before .before .before in
+    let a = s .args in
+    let y = c .before .before .before .before .insert in
+    let enum-told = c .enum-told in
+    record {
+      is =
+          λ root cache. provisional-kept (a .h) root (a .height) (a .entries) (a .goal) (a .overflow) (a .answer) (a .graph .now) cache
+          (a .step) (y .last .0) (y .result) (y .ensures) (s .pre .under) (enum-told .given .1);
+      few =
+          provisional-few (a .h .goals) (a .height) (a .entries) (a .goal) (a .step) (a .overflow) (a .answer) (a .graph .now)
+          (y .last .0) (y .result) (y .ensures) (enum-told .given .1);
+    }
 
 same-length-2 : tie.Need-same-length-2
 same-length-2 c = search needs
 
 returns-2 : tie.Need-returns-2
-returns-2 c = let s = c .before .before .before .before .before .before .before in let a = s .args in let y = c .before .before .before .before .insert in (λ root cache. provisional-full (a .h) root (a .height) (a .entries) (a .goal) (a .overflow) (a .answer) (a .graph .now) cache (a .step) (y .last .0) (y .result) (y .ensures) (c .enum-told2 .given .1), tt)
+returns-2 c =
+    let s = c .before .before .before .before .before .before .before in
+    let a = s .args in
+    let y = c .before .before .before .before .insert in
+    record {
+      is =
+          λ root cache. provisional-full (a .h) root (a .height) (a .entries) (a .goal) (a .overflow) (a .answer) (a .graph .now) cache
+          (a .step) (y .last .0) (y .result) (y .ensures) (c .enum-told2 .given .1);
+      few = tt;
+    }
 
 pub in-provisional-cache-spec : {M : Type 1} → statement M
 in-provisional-cache-spec =

@@ -1,41 +1,26 @@
-use Rattle.task.proofs.Nested.{nested-room, nested-is}
+use mathlib.Core.Path.{ap, _∙_}
+use mathlib.Core.List.{List}
+use Prim.Native.Nat.{ℕ}
+use Rattle.layout.specs.Frame.{frameOf}
+use Rattle.stack.proofs.Graph.{frame-bytes}
 use borrow.Author.Needs.{needs}
 use Rattle.task.proofs.insert.nested_at.Statement.{statement}
 use Rattle.task.proofs.insert.nested_at.Tie as tie
 
-frame-start-requires : tie.Need-frame-start-requires
-frame-start-requires c κs = search needs
+frame-at-requires : tie.Need-frame-at-requires
+frame-at-requires c κs = search needs
 
-nested-start-requires : tie.Need-nested-start-requires
-nested-start-requires c κs = search needs
-
-add-a : tie.Need-add-a
-add-a c = search needs
-
-add-e : tie.Need-add-e
-add-e c = search needs
-
-sub-result : tie.Need-sub-result
-sub-result c = search needs
-
-part-result-start : tie.Need-part-result-start
-part-result-start c = search needs
-
-part-result-end : tie.Need-part-result-end
-part-result-end c = let s = c .before .before .before in nested-room (s .args .goals) (s .args .graph .now) (s .args .height) (c .before .frame-start .result) (c .nested-start .result) (c .before .frame-start .ensures .0) (c .nested-start .ensures) (s .pre .0) (s .pre .1)
+nested-requires : tie.Need-nested-requires
+nested-requires c κs =
+    let s = c .before .before in
+    let frame-at = c .frame-at in
+    frame-bytes (s .args .goals) (s .args .graph .now) (frame-at .result .now) (s .args .height) (s .pre .0) (s .pre .1)
+    (frame-at .ensures)
 
 returns : tie.Need-returns
-returns c = let s = c .before .before .before .before in nested-is (s .args .goals) (s .args .graph .now) (s .args .height) (c .before .before .frame-start .result) (c .before .nested-start .result) (c .before .before .frame-start .ensures .0) (c .before .nested-start .ensures)
+returns c =
+    let a = c .before .before .before .args in
+    c .nested .ensures ∙ ap (λ (l : List ℕ). (frameOf (a .goals) l) .nestedGoals) (c .before .frame-at .ensures)
 
 pub nested-at-spec : {M : Type 1} → statement M
-nested-at-spec =
-    tie.close
-    (tie.spec
-    frame-start-requires
-    nested-start-requires
-    add-a
-    add-e
-    sub-result
-    part-result-start
-    part-result-end
-    returns)
+nested-at-spec = tie.close (tie.spec frame-at-requires nested-requires returns)

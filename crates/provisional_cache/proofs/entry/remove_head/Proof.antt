@@ -1,14 +1,14 @@
 use Rattle.definition.specs.Heads.{CycleHeads, removeHead}
-use Rattle.rebase.proofs.Writes.{heads-written}
+use Rattle.provisional_cache.proofs.Entries.{heads-written}
 use borrow.Author.Needs.{needs}
-use Rattle.rebase.proofs.entry.remove_head.Statement.{statement}
-use Rattle.rebase.proofs.entry.remove_head.Tie as tie
+use Rattle.provisional_cache.proofs.entry.remove_head.Statement.{statement}
+use Rattle.provisional_cache.proofs.entry.remove_head.Tie as tie
 
 heads-size-requires : tie.Need-heads-size-requires
 heads-size-requires c κs = search needs
 
-add-z : tie.Need-add-z
-add-z c = search needs
+add-end : tie.Need-add-end
+add-end c = search needs
 
 sub-remove : tie.Need-sub-remove
 sub-remove c = search needs
@@ -26,14 +26,19 @@ same-length : tie.Need-same-length
 same-length c = search needs
 
 returns : tie.Need-returns
-returns c = let a = c .before .before .before .before .before .before .args in heads-written (a .goals) (a .e .now) (c .before .before .before .before .heads-size .result) (c .before .before .remove .last .0) (λ (hs : CycleHeads). removeHead hs (a .i)) (c .before .before .before .before .before .before .pre .0) (c .before .before .before .before .heads-size .ensures) (c .before .before .remove .kept .0) (c .before .before .remove .ensures)
+returns c =
+    let a = c .before .before .before .before .before .before .args in
+    let heads-size = c .before .before .before .before .heads-size in
+    let remove = c .before .before .remove in
+    heads-written (a .goals) (a .entry .now) (heads-size .result) (remove .last .0) (λ (hs : CycleHeads). removeHead hs (a .i))
+    (c .before .before .before .before .before .before .pre .0) (heads-size .ensures) (remove .kept .0) (remove .ensures)
 
 pub remove-head-spec : {M : Type 1} → statement M
 remove-head-spec =
     tie.close
     (tie.spec
     heads-size-requires
-    add-z
+    add-end
     sub-remove
     part-remove-start
     part-remove-end

@@ -1,0 +1,59 @@
+-- What follows a goal's last iteration, in the bytes of the graph and of the cache, for every root.
+-- The goal's frame stood at index `height`.
+use mathlib.Core.Path.{_≡_}
+use mathlib.Core.Bool.{Bool}
+use mathlib.Core.List.{List}
+use Prim.Native.Nat.{ℕ}
+use Rattle.definition.specs.declared.paths.PathKind.{PathKind}
+use Rattle.definition.specs.declared.answers.Answer.{Answer}
+use Rattle.definition.specs.declared.format.Header.{Header}
+use Rattle.definition.specs.Graph.{finalize}
+use Rattle.definition.specs.Parent.{updateParentGoal, Ordinary}
+use Rattle.definition.specs.Evaluate.{insertGlobalCache, insertProvisionalCache, insertResult, afterTask}
+use Rattle.layout.specs.Work.{stackOf, entriesOf, graphOf}
+use Rattle.stack.specs.Bytes.{frameBytes, frameAt}
+use Rattle.evaluation.specs.declared.Outcome.{Outcome}
+use Rattle.evaluation.specs.declared.TaskOutcome.{TaskOutcome}
+use Rattle.evaluation.specs.Outcomes.{outcomeOf, taskOutcomeOf, FewEntries}
+
+-- the parent learns what the goal came to; the goal's frame is as before
+pub record ParentUpdated (goals height : ℕ) (step : PathKind) (overflow : Bool) (reached : ℕ) (old new : List ℕ) : Type 0 where
+  pub stack :
+      stackOf goals height new
+      ≡ updateParentGoal (stackOf goals height old) step ((frameAt goals height old) .heads) overflow
+      (Ordinary ((frameAt goals height old) .nestedGoals)) reached
+  pub entries : (n : ℕ) → entriesOf goals n new ≡ entriesOf goals n old
+  pub frame : frameBytes goals height new ≡ frameBytes goals height old
+
+-- the result goes to the global cache, which becomes `cacheAfter`
+pub record InGlobalCache (h : Header) (height n goal : ℕ) (overflow : Bool) (answer : Answer)
+    (graph cache cacheAfter : List ℕ) (r : Outcome) : Type 0 where
+  pub is : (root : ℕ)
+      → outcomeOf (h .goals) root height graph cacheAfter r
+      ≡ insertGlobalCache h (graphOf (h .goals) root height n graph cache) goal (finalize (frameAt (h .goals) height graph) overflow answer)
+  pub few : FewEntries (h .goals) r
+
+-- to the provisional cache
+pub record InProvisionalCache (h : Header) (height n goal : ℕ) (step : PathKind) (overflow : Bool) (answer : Answer)
+    (old new : List ℕ) (r : Outcome) : Type 0 where
+  pub is : (root : ℕ) (cache : List ℕ)
+      → outcomeOf (h .goals) root height new cache r
+      ≡ insertProvisionalCache h (graphOf (h .goals) root height n old cache) goal step
+      (finalize (frameAt (h .goals) height old) overflow answer)
+  pub few : FewEntries (h .goals) r
+
+-- to one of them, or to none
+pub record InCache (h : Header) (height n goal : ℕ) (step : PathKind) (overflow : Bool) (answer : Answer)
+    (cache cacheAfter old new : List ℕ) (r : Outcome) : Type 0 where
+  pub is : (root : ℕ)
+      → outcomeOf (h .goals) root height new cacheAfter r
+      ≡ insertResult h (graphOf (h .goals) root height n old cache) goal step (finalize (frameAt (h .goals) height old) overflow answer)
+  pub few : FewEntries (h .goals) r
+
+-- the goal's outcome
+pub record Finished (h : Header) (height goal : ℕ) (step : PathKind) (available : ℕ) (o : TaskOutcome)
+    (cache cacheAfter old new : List ℕ) (r : Outcome) : Type 0 where
+  pub is : (root : ℕ)
+      → outcomeOf (h .goals) root height new cacheAfter r
+      ≡ afterTask h goal step available (taskOutcomeOf (h .goals) root height old cache o)
+  pub few : FewEntries (h .goals) r
