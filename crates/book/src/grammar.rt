@@ -1,4 +1,5 @@
 // The grammar of a book's body.
+use crate::code::Code;
 use crate::line;
 ghost use mathlib.Core.Path.{_≡_};
 ghost use mathlib.Core.Bool.{Bool};
@@ -85,13 +86,15 @@ fn opened_by(s: &[u8], goals: usize, in_pick: bool) -> Opened
     requires { ⌜ 16 ≤ length (now s) ⌝ }
     ensures { λ r. ⌜ ((inner : Bool → List Line → Option TakenPart) (ls : List Line) → afterOpened r inner ls ≡ afterPart (readByCode goals (lineIn (now (s .entry)) .code) «in_pick» inner (lineIn (now (s .entry))) ls)) ⌝ }
 {
-    let code = line::field_at(s, 0);
+    let number = line::field_at(s, 0);
+    let code = Code::of_number(number);
     match code {
-        2 => opened_if(call_fits(s, goals), 0, in_pick),
-        3..=4 => opened_if(uses_first(s), line::field_at(s, 3), in_pick),
-        5 => opened_if(pick_fits(s, in_pick), line::field_at(s, 3), true),
-        6 => opened_if(undecided_fits(s), 0, in_pick),
-        0..=1 | 7..=65535 => Opened::Nothing,
+        Code::Call => opened_if(call_fits(s, goals), 0, in_pick),
+        Code::Group(_) => opened_if(uses_first(s), line::field_at(s, 3), in_pick),
+        Code::Pick => opened_if(pick_fits(s, in_pick), line::field_at(s, 3), true),
+        Code::Undecided => opened_if(undecided_fits(s), 0, in_pick),
+        Code::Goal => Opened::Nothing,
+        Code::Unknown => Opened::Nothing,
     }
 }
 
@@ -129,9 +132,10 @@ fn is_goal_line(s: &[u8], goal: usize) -> bool
     requires { ⌜ 16 ≤ length (now s) ⌝ }
     ensures { λ r. ⌜ r ≡ isGoalLine goal (lineIn (now (s .entry))) ⌝ }
 {
-    if line::field_at(s, 0) != 1 {
+    let code = Code::of_number(line::field_at(s, 0));
+    let Code::Goal = code else {
         return false;
-    }
+    };
     let number = line::field_at(s, 3) as usize;
     if number != goal {
         return false;
