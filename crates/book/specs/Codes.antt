@@ -1,9 +1,16 @@
 -- What the code of a line says.
 use Prim.Native.Nat.{ℕ, zero, suc}
 use Rattle.definition.specs.declared.format.Line.{Line}
+use Rattle.definition.specs.Part as part
+use Rattle.book.specs.declared.code.Op.{Op}
 use Rattle.book.specs.declared.code.Op.the-variants.{All, Any}
 use Rattle.book.specs.declared.code.Code.{Code}
 use Rattle.book.specs.declared.code.Code.the-variants.{Goal, Call, Group, Pick, Undecided, Unknown}
+
+-- the definition's name
+abbrev pub opOf : Op → part.Op
+opOf All = part.All
+opOf Any = part.Any
 
 abbrev pub codeOf : ℕ → Code
 codeOf zero = Unknown

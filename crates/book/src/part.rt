@@ -51,10 +51,10 @@ fn below(part: &[u8]) -> usize
 {
     let first = code(part);
     match first {
-        Code::Group(_) => count(part),
-        Code::Pick => count(part),
         Code::Goal => 0,
         Code::Call => 0,
+        Code::Group(_) => count(part),
+        Code::Pick => count(part),
         Code::Undecided => 0,
         Code::Unknown => 0,
     }
@@ -89,7 +89,7 @@ fn kind(number: u16) -> PathKind
 impl Call {
     // The call of the first line.
     pub fn first(part: &[u8]) -> Call
-        requires { ⌜ StartsPart (now part) × (lineIn (now part) .code ≡ 2) ⌝ }
+        requires { ⌜ StartsPart (now part) × (codeOf (lineIn (now part) .code) ≡ Code.Call) ⌝ }
         ensures { λ r. ⌜ r ≡ callOf (lineIn (now (part .entry))) ⌝ }
     {
         let step = kind(line::digit_at(part, 6));
