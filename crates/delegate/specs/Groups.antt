@@ -13,6 +13,7 @@ use Rattle.definition.specs.Graph as graph
 use Rattle.definition.specs.Evaluate.{Evaluator, evalPart, evalAll, evalAny}
 use Rattle.book.specs.declared.code.Op.{Op}
 use Rattle.book.specs.declared.code.Op.the-variants.{All, Any}
+use Rattle.book.specs.Codes.{opOf}
 use Rattle.layout.specs.Work.{graphOf}
 use Rattle.evaluation.specs.declared.Outcome.{Outcome}
 use Rattle.evaluation.specs.declared.Outcome.the-variants.{Done}
@@ -20,11 +21,6 @@ use Rattle.evaluation.specs.Outcomes.{outcomeOf, FewEntries}
 use Rattle.delegate.specs.declared.group.Group.{Group}
 use Rattle.delegate.specs.declared.group.Weighed.{Weighed}
 use Rattle.delegate.specs.declared.group.Weighed.the-variants.{Ended, More}
-
--- the definition's name
-abbrev pub opOf : Op → part.Op
-opOf All = part.All
-opOf Any = part.Any
 
 -- the answer of a part that decides the group
 abbrev pub deciding : Op → Answer
@@ -38,16 +34,16 @@ module _ (evaluate : Evaluator) (goals : ℕ) where
   restOf All combined ps g = evalAll evaluate goals ps combined g
   restOf Any combined ps g = evalAny evaluate goals ps combined g
 
+  -- a part came to the answer a, and these parts are left
+  abbrev pub nextOf : Op → Answer → Parts → Graph → Answer → graph.Outcome
+  nextOf op combined ps g a =
+      elim (sameAnswer a (deciding op)) [ true ↦ graph.Done g (deciding op) | false ↦ restOf op (combine combined a) ps g ]
+
   abbrev pub rest : Group → Parts → Graph → graph.Outcome
   rest group ps g = restOf (group .op) (group .combined) ps g
 
-  -- a part came to the answer a, and these parts are left
   abbrev pub next : Group → Parts → Graph → Answer → graph.Outcome
-  next group ps g a =
-      elim (sameAnswer a (deciding (group .op))) [
-        | true ↦ graph.Done g (deciding (group .op))
-        | false ↦ restOf (group .op) (combine (group .combined) a) ps g
-      ]
+  next group ps g a = nextOf (group .op) (group .combined) ps g a
 
 -- ---- `start`
 pub record GroupStarted (op : Op) (entries : ℕ) (group : Group) : Type 0 where
