@@ -2,14 +2,13 @@
 use mathlib.Core.Path.{_≡_, refl, sym, ap, _∙_}
 use mathlib.Core.Bool.{Bool, true, false}
 use mathlib.Core.Option.{Option, none, some}
-use mathlib.Core.List.{List, [], _∷_}
-use Prim.Native.Nat.{ℕ, zero, suc, _+_, _*_, _-_, _/_, _≤_, _<_}
+use mathlib.Core.List.{List}
+use Prim.Native.Nat.{ℕ, suc, _+_, _*_, _-_, _/_, _≤_, _<_}
 use native.Mathlib.Omega.{arith}
-use native.Mathlib.Decide.{ℕ-discrete}
 use lib.ListN.{length, take, drop}
 use lib.Seq.{drop-drop}
 use Rattle.definition.specs.declared.format.Line.{Line}
-use Rattle.definition.specs.Part.{End, Then}
+use Rattle.definition.specs.Part.{End}
 use Rattle.definition.specs.Reader.{TakenPart, TakenParts, readParts, readPart}
 use Rattle.definition.proofs.Lists.{part-from}
 use Rattle.book.specs.Lines.{lineIn, linesIn}

@@ -11,12 +11,11 @@ use Rattle.definition.specs.declared.replies.Refusal.{Refusal}
 use Rattle.definition.specs.declared.replies.Refusal.the-variants.{Unreachable}
 use Rattle.definition.specs.declared.usages.HeadUsages.{HeadUsages}
 use Rattle.definition.specs.Answers.{combine, sameAnswer}
-use Rattle.definition.specs.Part.{Parts}
 use Rattle.definition.specs.Graph.{Graph}
 use Rattle.definition.specs.Graph as graph
 use Rattle.definition.specs.Usages.{mergeUsages}
 use Rattle.definition.specs.Candidates.{noCandidateUsages, setCandidateUsages, candidateUsagesOf, finishSingleCandidate, canIgnore, ignoreOnTop, ignoreCandidateHeadUsages}
-use Rattle.definition.specs.Evaluate.{Evaluator, mergeUnless, endPick, evalPick}
+use Rattle.definition.specs.Evaluate.{mergeUnless, endPick, evalPick}
 use Rattle.layout.specs.Work.{stackOf, entriesOf, mergedOf, graphOf}
 use Rattle.evaluation.specs.declared.Outcome.{Outcome}
 use Rattle.evaluation.specs.declared.Outcome.the-variants.{Done, Stopped}
@@ -24,7 +23,6 @@ use Rattle.evaluation.specs.Workspace.{graphIn}
 use Rattle.evaluation.specs.Outcomes.{outcomeOf}
 use Rattle.candidates.specs.Written.{MergedWritten}
 use Rattle.delegate.specs.declared.pick.Pick.{Pick}
-use Rattle.delegate.specs.declared.pick.Tried.{Tried}
 use Rattle.delegate.specs.declared.pick.Tried.the-variants.{Ended, More}
 use Rattle.delegate.specs.Picks.{rest, next, MergedKept, PickBegun, CandidateEntered, leftOf, CandidateFinished, PickEnded, Tracked, MergedUnless, Counted}
 
