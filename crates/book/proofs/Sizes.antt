@@ -108,7 +108,9 @@ module _ (goals : ℕ) (p : Bool) (inner : Bool → List Line → Option TakenPa
     Right = afterOpened r inner ls ≡ afterPart (readByCode goals (l .code) p inner l ls)
 
     at-code : (k : Code) → code ≡ k → afterOpened r inner ls ≡ afterPart (readAs goals p inner l ls k) → Right
-    at-code k e h = h ∙ ap (λ (c : Code). afterPart (readAs goals p inner l ls c)) (sym e ∙ is) ∙ ap afterPart (sym (read-as goals p inner l ls (l .code)))
+    at-code k e h =
+        h ∙ ap (λ (c : Code). afterPart (readAs goals p inner l ls c)) (sym e ∙ is)
+        ∙ ap afterPart (sym (read-as goals p inner l ls (l .code)))
 
     pub goal-opens : r ≡ Nothing → code ≡ codes.Goal → Right
     goal-opens e k = at-code codes.Goal k (rw e)

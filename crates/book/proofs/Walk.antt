@@ -99,7 +99,8 @@ module _ (goals : ℕ) (p : Bool) (bytes : List ℕ) (l : Line) (is : l ≡ line
       tests true false c d e = off e
       tests false b c d e = off e
 
-  pub is-call : codeOf (l .code) ≡ codes.Call → (partIn goals p bytes ≡ Call (l .first) (kindOf (l .second)) (eqb (l .third) 1)) × (l .first < goals)
+  pub is-call : codeOf (l .code) ≡ codes.Call
+      → (partIn goals p bytes ≡ Call (l .first) (kindOf (l .second)) (eqb (l .third) 1)) × (l .first < goals)
   unfolding whole
   is-call k = let v = as-call seen k in (ap (λ (t : TakenPart). t .part) (sym (v .1)), fits k .0)
 
@@ -108,10 +109,14 @@ module _ (goals : ℕ) (p : Bool) (bytes : List ℕ) (l : Line) (is : l ≡ line
   has-digits k = fits k .1
 
   pub is-group : (op : kinds.Op) → codeOf (l .code) ≡ codes.Group op
-      → (partIn goals p bytes ≡ Node (opOf op) (partsIn goals p (l .first) (drop 16 bytes))) × ReadsParts goals p (l .first) (drop 16 bytes)
+      → (partIn goals p bytes ≡ Node (opOf op) (partsIn goals p (l .first) (drop 16 bytes)))
+      × ReadsParts goals p (l .first) (drop 16 bytes)
   is-group op k = node (opOf op) p (as-group seen op k)
 
-  pub is-pick : codeOf (l .code) ≡ codes.Pick → (p ≡ false) × ((partIn goals p bytes ≡ Node Pick (partsIn goals true (l .first) (drop 16 bytes))) × ReadsParts goals true (l .first) (drop 16 bytes))
+  pub is-pick : codeOf (l .code) ≡ codes.Pick
+      → (p ≡ false)
+      × ((partIn goals p bytes ≡ Node Pick (partsIn goals true (l .first) (drop 16 bytes)))
+      × ReadsParts goals true (l .first) (drop 16 bytes))
   is-pick k = let v = as-pick seen k in (v .0, node Pick true (v .1))
 
   pub is-undecided : codeOf (l .code) ≡ codes.Undecided → partIn goals p bytes ≡ UndecidedLine
