@@ -2,7 +2,7 @@
 use Prim.Native.Nat.{ℕ, zero, suc}
 use mathlib.Core.Bool.{Bool, true, false, not, _&&_}
 use mathlib.Core.Option.{Option, none, some}
-use mathlib.Core.List.{List, [], _∷_}
+use mathlib.Core.List.{List}
 use lib.Dec.{eqb, leb, ltb}
 use lib.ListN.{drop}
 use Rattle.definition.specs.declared.format.Line.{Line}
@@ -34,6 +34,9 @@ afterOpened Nothing inner ls = none
 abbrev pub openedIf : Bool → ℕ → Bool → Opened
 openedIf true n inPick = Parts n inPick
 openedIf false n inPick = Nothing
+
+abbrev pub goalFits : ℕ → Line → Bool
+goalFits goal l = eqb (l .first) goal && usesFirst l
 
 abbrev pub callFits : ℕ → Line → Bool
 callFits goals l = ltb (l .first) goals && leb (l .second) 3 && leb (l .third) 1 && eqb (l .fourth) 0
