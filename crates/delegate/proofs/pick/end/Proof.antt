@@ -40,7 +40,7 @@ returns-3 c =
     let can = c .before .before .before .before .before .can-ignore in
     let i = c .before .before .ignore in
     ended-ignored (a .goals) (a .height) (a .pick) (a .work .now) (f .pre .1) (not-false (a .pick .met) (c .before .before .before .before .before .before .before .if1 .left)) (f .pre .0 .1 .0)
-    (can .result) (can .ensures) (not-false (can .result) (c .before .before .before .before .if2 .left)) (i .last .0) (i .ensures .0) (i .ensures .1 .0) (i .ensures .1 .1)
+    (can .result) (can .ensures) (not-false (can .result) (c .before .before .before .before .if2 .left)) (i .last .0) (i .ensures .stack) (i .ensures .entries) (i .ensures .merged)
 
 pub end-spec : {M : Type 1} → statement M
 end-spec =

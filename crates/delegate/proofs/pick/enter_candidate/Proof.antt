@@ -36,7 +36,7 @@ returns c =
     let e = c .before .before .enter-single-candidate in
     entered (a .goals) (a .height) (a .work .now) _ (f .pre .1 .0)
     (tracked (a .goals) (a .work .now) (f .pre .0) (n .result) (n .ensures .0) (e .last .0) (e .kept .0) (a .height - 1)
-    (some (noCandidateUsages (a .goals))) (e .ensures .0) (e .ensures .1))
+    (some (noCandidateUsages (a .goals))) (e .ensures .stack) (e .ensures .entries))
 
 pub enter-candidate-spec : {M : Type 1} → statement M
 enter-candidate-spec =

@@ -28,7 +28,7 @@ returns c =
     let a = f .args in
     let n = c .before .before .before .before .graph-length in
     let e = c .before .before .finish-single-candidate in
-    tracked (a .goals) (a .work .now) (f .pre .0) (n .result) (n .ensures .0) (e .last .0) (e .kept .0) (a .own) none (e .ensures .0) (e .ensures .1)
+    tracked (a .goals) (a .work .now) (f .pre .0) (n .result) (n .ensures .0) (e .last .0) (e .kept .0) (a .own) none (e .ensures .stack) (e .ensures .entries)
 
 pub untrack-spec : {M : Type 1} → statement M
 untrack-spec =
