@@ -37,3 +37,14 @@ pub record WorkWritten (goals h : ℕ) (s : Stack) (old new : List ℕ) : Type 0
 -- the frame is f, and the frames below are as they were
 abbrev pub FrameWritten : ℕ → ℕ → Frame → List ℕ → List ℕ → Type 0
 FrameWritten goals own f old new = WorkWritten goals (own + 1) (f ∷ stackOf goals own (graphIn goals old)) old new
+
+-- what was there, as `make` makes it
+abbrev pub WorkTopChanged : ℕ → ℕ → (Frame → Frame) → List ℕ → List ℕ → Type 0
+WorkTopChanged goals own make old new = FrameWritten goals own (make (topOf goals own old)) old new
+
+abbrev pub MergedChanged : ℕ → ℕ → (List HeadUsages → List HeadUsages) → List ℕ → List ℕ → Type 0
+MergedChanged goals own make old new = MergedWritten goals own (make (mergedOf goals own old)) old new
+
+-- the stack of a workspace, with the frame on top
+abbrev pub stackIn : ℕ → ℕ → List ℕ → Stack
+stackIn goals own work = stackOf goals (own + 1) (graphIn goals work)

@@ -12,19 +12,19 @@ ghost use Rattle.definition.specs.Usages.{mergeUsages};
 ghost use Rattle.definition.specs.Candidates.{noCandidateUsages, setCandidateUsages, candidateUsagesOf, headsCover, canIgnore, ignoreOnTop};
 ghost use Rattle.layout.specs.Blocks.{UsagesBlock, candidateOf};
 ghost use Rattle.layout.specs.Frame.{frameOf};
-ghost use Rattle.layout.specs.Work.{stackOf, mergedOf};
+ghost use Rattle.layout.specs.Work.{mergedOf};
 ghost use Rattle.stack.specs.Bytes.{FrameBytes, GraphBytes};
-ghost use Rattle.stack.specs.Written.{StackWritten};
-ghost use Rattle.evaluation.specs.Workspace.{WorkBytes, graphIn};
+ghost use Rattle.stack.specs.Written.{StackChanged};
+ghost use Rattle.evaluation.specs.Workspace.{WorkBytes};
 ghost use Rattle.layout.specs.AtIndex.{addAt};
 ghost use Rattle.stack.specs.Tracked.{ignoreHeadAt, ignoreHeads, ignoreOwn};
-ghost use Rattle.candidates.specs.Written.{mergedBytes, topBytes, topOf, MergedWritten, WorkWritten, FrameWritten};
+ghost use Rattle.candidates.specs.Written.{mergedBytes, topBytes, stackIn, MergedWritten, MergedChanged, WorkWritten, WorkTopChanged};
 
 // ---- one candidate
 
 pub fn enter_single_candidate(graph: &mut [u8], goals: usize, own: usize)
     requires { ⌜ GraphBytes goals (now graph) × (own < goals) ⌝ }
-    ensures { λ _. ⌜ StackWritten goals (own + 1) (setCandidateUsages (some (noCandidateUsages goals)) (stackOf goals (own + 1) (now (graph .entry)))) (now (graph .entry)) (now (graph .exit)) ⌝ }
+    ensures { λ _. ⌜ StackChanged goals (own + 1) (setCandidateUsages (some (noCandidateUsages goals))) (now (graph .entry)) (now (graph .exit)) ⌝ }
 {
     let start = offsets::frame_start(goals, own);
     let end = start + offsets::frame_size(goals);
@@ -33,7 +33,7 @@ pub fn enter_single_candidate(graph: &mut [u8], goals: usize, own: usize)
 
 pub fn finish_single_candidate(graph: &mut [u8], goals: usize, own: usize)
     requires { ⌜ GraphBytes goals (now graph) × (own < goals) ⌝ }
-    ensures { λ _. ⌜ StackWritten goals (own + 1) (setCandidateUsages none (stackOf goals (own + 1) (now (graph .entry)))) (now (graph .entry)) (now (graph .exit)) ⌝ }
+    ensures { λ _. ⌜ StackChanged goals (own + 1) (setCandidateUsages none) (now (graph .entry)) (now (graph .exit)) ⌝ }
 {
     let start = offsets::frame_start(goals, own);
     let end = start + offsets::frame_size(goals);
@@ -77,7 +77,7 @@ pub fn start(work: &mut [u8], goals: usize, own: usize)
 // The merged usages of index i, with u.
 fn add_at(work: &mut [u8], goals: usize, own: usize, i: usize, u: HeadUsages)
     requires { ⌜ WorkBytes goals (now work) × ((own < goals) × (i < goals)) ⌝ }
-    ensures { λ _. ⌜ MergedWritten goals own (addAt i u (mergedOf goals own (now (work .entry)))) (now (work .entry)) (now (work .exit)) ⌝ }
+    ensures { λ _. ⌜ MergedChanged goals own (addAt i u) (now (work .entry)) (now (work .exit)) ⌝ }
 {
     let start = offsets::merged_start(goals, own);
     let end = start + offsets::block_size(goals);
@@ -87,7 +87,7 @@ fn add_at(work: &mut [u8], goals: usize, own: usize, i: usize, u: HeadUsages)
 // The usages of the candidate that is tracked are merged.
 pub fn merge(work: &mut [u8], goals: usize, own: usize)
     requires { ⌜ WorkBytes goals (now work) × (own < goals) ⌝ }
-    ensures { λ _. ⌜ MergedWritten goals own (mergeUsages (mergedOf goals own (now (work .entry))) (candidateUsagesOf goals (stackOf goals (own + 1) (graphIn goals (now (work .entry)))))) (now (work .entry)) (now (work .exit)) ⌝ }
+    ensures { λ _. ⌜ MergedChanged goals own (λ us. mergeUsages us (candidateUsagesOf goals (stackIn goals own (now (work .entry))))) (now (work .entry)) (now (work .exit)) ⌝ }
 {
     let mut left = tracked::mask(top(work, goals, own), goals);
     while 0 < left {
@@ -120,7 +120,7 @@ fn heads_cover(f: &[u8], b: &[u8], goals: usize, own: usize) -> bool
 // Whether no subtraction fails where the merged usages are ignored.
 pub fn can_ignore(work: &[u8], goals: usize, own: usize) -> bool
     requires { ⌜ WorkBytes goals (now work) × (own < goals) ⌝ }
-    ensures { λ r. ⌜ r ≡ canIgnore (mergedOf goals own (now (work .entry))) (stackOf goals (own + 1) (graphIn goals (now (work .entry)))) ⌝ }
+    ensures { λ r. ⌜ r ≡ canIgnore (mergedOf goals own (now (work .entry))) (stackIn goals own (now (work .entry))) ⌝ }
 {
     let f = top(work, goals, own);
     let b = merged(work, goals, own);
@@ -134,7 +134,7 @@ pub fn can_ignore(work: &[u8], goals: usize, own: usize) -> bool
 // The usages u are taken from the head at index i.
 fn ignore_head(work: &mut [u8], goals: usize, own: usize, i: usize, u: HeadUsages)
     requires { ⌜ WorkBytes goals (now work) × ((own < goals) × (i < goals)) ⌝ }
-    ensures { λ _. ⌜ FrameWritten goals own (ignoreHeadAt i u (topOf goals own (now (work .entry)))) (now (work .entry)) (now (work .exit)) ⌝ }
+    ensures { λ _. ⌜ WorkTopChanged goals own (ignoreHeadAt i u) (now (work .entry)) (now (work .exit)) ⌝ }
 {
     let start = offsets::frame_start(goals, own);
     let end = start + offsets::frame_size(goals);
@@ -144,7 +144,7 @@ fn ignore_head(work: &mut [u8], goals: usize, own: usize, i: usize, u: HeadUsage
 // The usages u are taken from the frame's own.
 fn ignore_own(work: &mut [u8], goals: usize, own: usize, u: HeadUsages)
     requires { ⌜ WorkBytes goals (now work) × (own < goals) ⌝ }
-    ensures { λ _. ⌜ FrameWritten goals own (ignoreOwn u (topOf goals own (now (work .entry)))) (now (work .entry)) (now (work .exit)) ⌝ }
+    ensures { λ _. ⌜ WorkTopChanged goals own (ignoreOwn u) (now (work .entry)) (now (work .exit)) ⌝ }
 {
     let start = offsets::frame_start(goals, own);
     let end = start + offsets::frame_size(goals);
@@ -154,7 +154,7 @@ fn ignore_own(work: &mut [u8], goals: usize, own: usize, u: HeadUsages)
 // The merged usages are taken from the heads.
 fn ignore_at_heads(work: &mut [u8], goals: usize, own: usize)
     requires { ⌜ WorkBytes goals (now work) × (own < goals) ⌝ }
-    ensures { λ _. ⌜ FrameWritten goals own (ignoreHeads (mergedOf goals own (now (work .entry))) (topOf goals own (now (work .entry)))) (now (work .entry)) (now (work .exit)) ⌝ }
+    ensures { λ _. ⌜ WorkTopChanged goals own (ignoreHeads (mergedOf goals own (now (work .entry)))) (now (work .entry)) (now (work .exit)) ⌝ }
 {
     let mut left = candidate::mask(merged(work, goals, own), goals);
     while 0 < left {
@@ -168,7 +168,7 @@ fn ignore_at_heads(work: &mut [u8], goals: usize, own: usize)
 // The merged usages are ignored.
 pub fn ignore(work: &mut [u8], goals: usize, own: usize)
     requires { ⌜ WorkBytes goals (now work) × (own < goals) ⌝ }
-    ensures { λ _. ⌜ WorkWritten goals (own + 1) (ignoreOnTop (mergedOf goals own (now (work .entry))) (stackOf goals (own + 1) (graphIn goals (now (work .entry))))) (now (work .entry)) (now (work .exit)) ⌝ }
+    ensures { λ _. ⌜ WorkWritten goals (own + 1) (ignoreOnTop (mergedOf goals own (now (work .entry))) (stackIn goals own (now (work .entry)))) (now (work .entry)) (now (work .exit)) ⌝ }
 {
     ignore_at_heads(work, goals, own);
     let u = candidate::usages(merged(work, goals, own), goals, own);

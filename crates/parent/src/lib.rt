@@ -7,27 +7,21 @@ use layout::heads;
 use layout::offsets;
 use stack::frame::child;
 ghost use mathlib.Core.Bool.{false};
-ghost use Prim.Native.Nat.{_+_, _*_, _<_, _≤_};
-ghost use lib.ListN.{length};
+ghost use Prim.Native.Nat.{_*_, _<_, _≤_};
 ghost use Rattle.definition.specs.Paths.{flagOf};
 ghost use Rattle.definition.specs.Heads.{noHeads, insertHead};
 ghost use Rattle.definition.specs.Parent.{addHeads, addRest, Ordinary, CycleOnStack, ProvisionalCacheHit};
-ghost use Rattle.buffer.specs.Regions.{region};
-ghost use Rattle.layout.specs.Blocks.{headsSize, headsOf};
-ghost use Rattle.layout.specs.Frame.{frameSize};
-ghost use Rattle.layout.specs.Entry.{entrySize, entryOf};
-ghost use Rattle.layout.specs.Work.{frameStart, entryStart};
 ghost use Rattle.stack.specs.Bytes.{GraphBytes, frameAt};
 ghost use Rattle.stack.specs.Child.{addHeadAt};
-ghost use Rattle.stack.specs.Written.{TopWritten};
-ghost use Rattle.parent.specs.Updated.{Updated};
+ghost use Rattle.stack.specs.Written.{TopChanged};
+ghost use Rattle.parent.specs.Updated.{HeadsAbove, headsIn, entryHeads, Updated};
 
 // ---- the frame at index `own`, on top
 
 // A head of the nested goal, at index i.
 fn add_head(graph: &mut [u8], goals: usize, own: usize, step: PathKind, i: usize, head: CycleHead)
     requires { ⌜ GraphBytes goals (now graph) × ((own < goals) × (i < goals)) ⌝ }
-    ensures { λ _. ⌜ TopWritten goals own (addHeadAt step own i head (frameAt goals own (now (graph .entry)))) (now (graph .entry)) (now (graph .exit)) ⌝ }
+    ensures { λ _. ⌜ TopChanged goals own (addHeadAt step own i head) (now (graph .entry)) (now (graph .exit)) ⌝ }
 {
     let start = offsets::frame_start(goals, own);
     let end = start + offsets::frame_size(goals);
@@ -36,8 +30,8 @@ fn add_head(graph: &mut [u8], goals: usize, own: usize, step: PathKind, i: usize
 
 // The heads of the nested goal, in the block at `start` of the graph, behind the frame.
 fn add_heads(graph: &mut [u8], goals: usize, own: usize, step: PathKind, start: usize)
-    requires { ⌜ GraphBytes goals (now graph) × ((own < goals) × ((frameStart goals own + frameSize goals ≤ start) × (start + headsSize goals ≤ length (now graph)))) ⌝ }
-    ensures { λ _. ⌜ TopWritten goals own (addHeads step own (headsOf goals (region start (headsSize goals) (now (graph .entry)))) (frameAt goals own (now (graph .entry)))) (now (graph .entry)) (now (graph .exit)) ⌝ }
+    requires { ⌜ GraphBytes goals (now graph) × ((own < goals) × HeadsAbove goals own start (now graph)) ⌝ }
+    ensures { λ _. ⌜ TopChanged goals own (addHeads step own (headsIn goals start (now (graph .entry)))) (now (graph .entry)) (now (graph .exit)) ⌝ }
 {
     let end = start + offsets::heads_size(goals);
     let mut left = heads::mask(&graph[start..end], goals);
@@ -60,7 +54,7 @@ fn add_ordinary(
     reached: usize,
 )
     requires { ⌜ GraphBytes goals (now graph) × (own < goals) ⌝ }
-    ensures { λ _. ⌜ TopWritten goals own (addRest step overflow (Ordinary (now (nested .entry))) reached (frameAt goals own (now (graph .entry)))) (now (graph .entry)) (now (graph .exit)) ⌝ }
+    ensures { λ _. ⌜ TopChanged goals own (addRest step overflow (Ordinary (now (nested .entry))) reached) (now (graph .entry)) (now (graph .exit)) ⌝ }
 {
     let start = offsets::frame_start(goals, own);
     let end = start + offsets::frame_size(goals);
@@ -84,7 +78,7 @@ fn add_entry(
     reached: usize,
 )
     requires { ⌜ GraphBytes goals (now graph) × (own < goals) ⌝ }
-    ensures { λ _. ⌜ TopWritten goals own (addRest step overflow ProvisionalCacheHit reached (frameAt goals own (now (graph .entry)))) (now (graph .entry)) (now (graph .exit)) ⌝ }
+    ensures { λ _. ⌜ TopChanged goals own (addRest step overflow ProvisionalCacheHit reached) (now (graph .entry)) (now (graph .exit)) ⌝ }
 {
     let start = offsets::frame_start(goals, own);
     let end = start + offsets::frame_size(goals);
@@ -101,7 +95,7 @@ fn add_cycle(
     reached: usize,
 )
     requires { ⌜ GraphBytes goals (now graph) × (own < goals) ⌝ }
-    ensures { λ _. ⌜ TopWritten goals own (addRest step false (CycleOnStack goal) reached (frameAt goals own (now (graph .entry)))) (now (graph .entry)) (now (graph .exit)) ⌝ }
+    ensures { λ _. ⌜ TopChanged goals own (addRest step false (CycleOnStack goal) reached) (now (graph .entry)) (now (graph .exit)) ⌝ }
 {
     let start = offsets::frame_start(goals, own);
     let end = start + offsets::frame_size(goals);
@@ -140,7 +134,7 @@ pub fn update_from_entry(
     reached: usize,
 )
     requires { ⌜ GraphBytes goals (now graph) × ((height ≤ goals) × (i < 2 * goals)) ⌝ }
-    ensures { λ _. ⌜ Updated goals height step ((entryOf goals (region (entryStart goals i) (entrySize goals) (now (graph .entry)))) .heads) overflow ProvisionalCacheHit reached (now (graph .entry)) (now (graph .exit)) ⌝ }
+    ensures { λ _. ⌜ Updated goals height step (entryHeads goals i (now (graph .entry))) overflow ProvisionalCacheHit reached (now (graph .entry)) (now (graph .exit)) ⌝ }
 {
     if height == 0 {
         return;

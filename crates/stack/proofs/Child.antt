@@ -25,7 +25,7 @@ use Rattle.layout.proofs.Frames.{frame-reached, frame-overflow, frame-has-usage
 use Rattle.stack.specs.Results.{isSome}
 use Rattle.stack.proofs.Parts.{part, returned, part-length, part-back}
 use Rattle.layout.specs.AtIndex.{addFromNestedAt}
-use Rattle.stack.specs.Child.{trackedAt, joined, used, trackAt, joinAt, useOwn, addHeadAt, reachFrame}
+use Rattle.stack.specs.Child.{trackedAt, joined, used, trackAt, joinAt, useOwn, addHeadAt, reachFrame, insertOwn}
 
 -- ---- `track`
 tracked-none : (o : Option (List HeadUsages)) (i : ℕ) (u : HeadUsages) → isSome o ≡ false → o ≡ trackedAt o i u
@@ -132,10 +132,7 @@ nested-frame f goals bs ys a long is-a kept is-y =
     ∙ ap (withNestedGoals (frameOf goals bs)) is
 
 -- the frame's own goal
-abbrev pub withItself : Frame → Frame
-withItself f = withNestedGoals f (insertNested (f .nestedGoals) (f .input) emptyPath)
-
-pub itself-frame : (f h : Frame) (g : ℕ) → g ≡ f .input → h ≡ withNestedGoals f (insertNested (f .nestedGoals) g 1) → h ≡ withItself f
+pub itself-frame : (f h : Frame) (g : ℕ) → g ≡ f .input → h ≡ withNestedGoals f (insertNested (f .nestedGoals) g 1) → h ≡ insertOwn f
 itself-frame f h g is e = e ∙ ap (λ (x : ℕ). withNestedGoals f (insertNested (f .nestedGoals) x 1)) is
 
 -- ---- after a nested goal; f, and what it becomes step by step
@@ -150,12 +147,12 @@ module _ (step : PathKind) (overflow : Bool) (reached : ℕ) (f f1 : Frame) (fir
     pub ordinary-empty : t ≡ true → f2 ≡ addRest step overflow (Ordinary child) reached f
     ordinary-empty e = so-far ∙ sym (ap after (ap not (sym is-t ∙ e)))
 
-    pub ordinary-more : t ≡ false → (f3 : Frame) → f3 ≡ withItself f2 → f3 ≡ addRest step overflow (Ordinary child) reached f
-    ordinary-more e f3 last = last ∙ ap withItself so-far ∙ sym (ap after (ap not (sym is-t ∙ e)))
+    pub ordinary-more : t ≡ false → (f3 : Frame) → f3 ≡ insertOwn f2 → f3 ≡ addRest step overflow (Ordinary child) reached f
+    ordinary-more e f3 last = last ∙ ap insertOwn so-far ∙ sym (ap after (ap not (sym is-t ∙ e)))
 
-  pub entry-added : (f2 : Frame) → f2 ≡ withItself f1 → f2 ≡ addRest step overflow ProvisionalCacheHit reached f
-  entry-added f2 e = e ∙ ap withItself first
+  pub entry-added : (f2 : Frame) → f2 ≡ insertOwn f1 → f2 ≡ addRest step overflow ProvisionalCacheHit reached f
+  entry-added f2 e = e ∙ ap insertOwn first
 
-  pub cycle-added : (goal p : ℕ) (f2 f3 : Frame) → p ≡ flagOf step → f2 ≡ withNestedGoals f1 (insertNested (f1 .nestedGoals) goal p) → f3 ≡ withItself f2 → f3 ≡ addRest step overflow (CycleOnStack goal) reached f
+  pub cycle-added : (goal p : ℕ) (f2 f3 : Frame) → p ≡ flagOf step → f2 ≡ withNestedGoals f1 (insertNested (f1 .nestedGoals) goal p) → f3 ≡ insertOwn f2 → f3 ≡ addRest step overflow (CycleOnStack goal) reached f
   cycle-added goal p f2 f3 is e last =
-      last ∙ ap withItself (e ∙ ap₂ (λ (x : Frame) (q : ℕ). withNestedGoals x (insertNested (x .nestedGoals) goal q)) first is)
+      last ∙ ap insertOwn (e ∙ ap₂ (λ (x : Frame) (q : ℕ). withNestedGoals x (insertNested (x .nestedGoals) goal q)) first is)

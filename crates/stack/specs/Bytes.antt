@@ -17,6 +17,10 @@ pub record GraphBytes (goals : ℕ) (bs : List ℕ) : Type 0 where
   pub few : goals ≤ 64
   pub long : length bs ≡ graphLength goals
 
+-- the frame became what `make` makes of it
+abbrev pub FrameChanged : ℕ → (Frame → Frame) → List ℕ → List ℕ → Type 0
+FrameChanged goals make old new = frameOf goals new ≡ make (frameOf goals old)
+
 -- the bytes of frame i of a graph
 abbrev pub frameBytes : ℕ → ℕ → List ℕ → List ℕ
 frameBytes goals i bs = region (frameStart goals i) (frameSize goals) bs

@@ -7,10 +7,11 @@ use lib.Dec.{eqb, ltb}
 use Rattle.definition.specs.declared.paths.PathKind.{PathKind}
 use Rattle.definition.specs.declared.usages.HeadUsages.{HeadUsages}
 use Rattle.definition.specs.declared.heads.CycleHead.{CycleHead}
-use Rattle.definition.specs.Paths.{extendWith}
+use Rattle.definition.specs.Paths.{extendWith, emptyPath}
 use Rattle.definition.specs.Usages.{addUsagesFromNested}
 use Rattle.definition.specs.Heads.{CycleHeads, insertHead}
-use Rattle.definition.specs.Stack.{Frame, withReached, withHeads, withOverflow, withUsages, withCandidateUsages}
+use Rattle.definition.specs.Nested.{NestedGoals, insertNested, extendFromChild}
+use Rattle.definition.specs.Stack.{Frame, withReached, withHeads, withOverflow, withUsages, withCandidateUsages, withNestedGoals}
 use Rattle.definition.specs.Parent.{orNoUsages}
 use Rattle.layout.specs.AtIndex.{addFromNestedAt}
 
@@ -48,3 +49,13 @@ addHeadAt step own i c f =
 -- overflow, and the depth reached
 abbrev pub reachFrame : Bool → ℕ → Frame → Frame
 reachFrame overflow reached f = withOverflow (withReached f (min (f .minReachedAvailableDepth) reached)) (f .encounteredOverflow || overflow)
+
+-- paths to a nested goal, to the frame's own goal, and to the nested goals of the child
+abbrev pub insertGoal : ℕ → ℕ → Frame → Frame
+insertGoal goal paths f = withNestedGoals f (insertNested (f .nestedGoals) goal paths)
+
+abbrev pub insertOwn : Frame → Frame
+insertOwn f = insertGoal (f .input) emptyPath f
+
+abbrev pub extendNested : PathKind → NestedGoals → Frame → Frame
+extendNested step child f = withNestedGoals f (extendFromChild (f .nestedGoals) step child)

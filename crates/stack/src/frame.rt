@@ -19,7 +19,7 @@ ghost use Rattle.definition.specs.Evaluate.{newFrame};
 ghost use Rattle.buffer.specs.Regions.{region};
 ghost use Rattle.layout.specs.Blocks.{headsSize};
 ghost use Rattle.layout.specs.Frame.{headsStart, frameOf};
-ghost use Rattle.stack.specs.Bytes.{FrameBytes};
+ghost use Rattle.stack.specs.Bytes.{FrameBytes, FrameChanged};
 ghost use Rattle.stack.specs.Results.{isSome, provisionalOf, NestedDepth};
 
 pub mod child;
@@ -200,7 +200,7 @@ pub fn start(frame: &mut [u8], goals: usize, goal: usize, step: PathKind, availa
 // the frame without using its result are still there, and must be rebased at the end.
 pub fn reset(frame: &mut [u8], goals: usize, answer: Answer)
     requires { ⌜ FrameBytes goals (now frame) ⌝ }
-    ensures { λ _. ⌜ frameOf goals (now (frame .exit)) ≡ rerunFrame (frameOf goals (now (frame .entry))) answer ⌝ }
+    ensures { λ _. ⌜ FrameChanged goals (λ f. rerunFrame f answer) (now (frame .entry)) (now (frame .exit)) ⌝ }
 {
     frame[offsets::FRAME_PROVISIONAL] = answer.number() + 1;
     frame[offsets::FRAME_OVERFLOW] = 0;
@@ -215,7 +215,7 @@ pub fn reset(frame: &mut [u8], goals: usize, answer: Answer)
 // The frame met overflow; its own goal is among its nested goals then.
 pub fn mark_overflow(frame: &mut [u8], goals: usize)
     requires { ⌜ FrameBytes goals (now frame) ⌝ }
-    ensures { λ _. ⌜ frameOf goals (now (frame .exit)) ≡ markOverflow (frameOf goals (now (frame .entry))) ⌝ }
+    ensures { λ _. ⌜ FrameChanged goals markOverflow (now (frame .entry)) (now (frame .exit)) ⌝ }
 {
     fields::mark_bytes(&mut frame[0..offsets::FRAME_USAGES]);
     let goal = input(frame, goals);

@@ -13,9 +13,9 @@ ghost use Rattle.definition.specs.Task.{rerunFrame};
 ghost use Rattle.definition.specs.Evaluate.{newFrame};
 ghost use Rattle.definition.specs.Lookup.{anyOnStack};
 ghost use Rattle.layout.specs.Work.{stackOf};
-ghost use Rattle.stack.specs.Bytes.{GraphBytes, frameBytes, frameAt};
+ghost use Rattle.stack.specs.Bytes.{GraphBytes, frameBytes};
 ghost use Rattle.stack.specs.Results.{Found, NestedDepth};
-ghost use Rattle.stack.specs.Written.{StackWritten, TopWritten};
+ghost use Rattle.stack.specs.Written.{TopWritten, StackChanged, TopChanged};
 
 pub mod frame;
 
@@ -55,7 +55,7 @@ pub fn push(
 // The frame at index `own`, on top again, before its next iteration.
 pub fn reset_for_rerun(graph: &mut [u8], goals: usize, own: usize, answer: Answer)
     requires { ⌜ GraphBytes goals (now graph) × (own < goals) ⌝ }
-    ensures { λ _. ⌜ TopWritten goals own (rerunFrame (frameAt goals own (now (graph .entry))) answer) (now (graph .entry)) (now (graph .exit)) ⌝ }
+    ensures { λ _. ⌜ TopChanged goals own (λ f. rerunFrame f answer) (now (graph .entry)) (now (graph .exit)) ⌝ }
 {
     let start = offsets::frame_start(goals, own);
     let end = start + offsets::frame_size(goals);
@@ -65,7 +65,7 @@ pub fn reset_for_rerun(graph: &mut [u8], goals: usize, own: usize, answer: Answe
 // handle_overflow: the top frame met overflow.
 pub fn mark_top_overflow(graph: &mut [u8], goals: usize, height: usize)
     requires { ⌜ GraphBytes goals (now graph) × (height ≤ goals) ⌝ }
-    ensures { λ _. ⌜ StackWritten goals height (handleOverflow (stackOf goals height (now (graph .entry)))) (now (graph .entry)) (now (graph .exit)) ⌝ }
+    ensures { λ _. ⌜ StackChanged goals height handleOverflow (now (graph .entry)) (now (graph .exit)) ⌝ }
 {
     if height == 0 {
         return;

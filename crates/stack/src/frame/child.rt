@@ -14,20 +14,17 @@ use layout::records;
 ghost use mathlib.Core.Path.{_≡_};
 ghost use mathlib.Core.Bool.{false, _||_};
 ghost use Prim.Native.Nat.{_<_, min};
-ghost use Rattle.definition.specs.Paths.{emptyPath};
-ghost use Rattle.definition.specs.Nested.{insertNested, extendFromChild};
-ghost use Rattle.definition.specs.Stack.{withNestedGoals};
 ghost use Rattle.definition.specs.Parent.{addRest, Ordinary, CycleOnStack, ProvisionalCacheHit};
-ghost use Rattle.layout.specs.Frame.{truth, frameOf};
-ghost use Rattle.stack.specs.Bytes.{FrameBytes};
-ghost use Rattle.stack.specs.Child.{trackAt, joinAt, useOwn, addHeadAt, reachFrame};
+ghost use Rattle.layout.specs.Frame.{truth};
+ghost use Rattle.stack.specs.Bytes.{FrameBytes, FrameChanged};
+ghost use Rattle.stack.specs.Child.{trackAt, joinAt, useOwn, addHeadAt, reachFrame, insertGoal, insertOwn, extendNested};
 
 // ---- heads
 
 // The usages of the head at index i, in the candidate that the frame tracks, if any.
 fn track(frame: &mut [u8], goals: usize, i: usize, usages: HeadUsages)
     requires { ⌜ FrameBytes goals (now frame) × (i < goals) ⌝ }
-    ensures { λ _. ⌜ frameOf goals (now (frame .exit)) ≡ trackAt i usages (frameOf goals (now (frame .entry))) ⌝ }
+    ensures { λ _. ⌜ FrameChanged goals (trackAt i usages) (now (frame .entry)) (now (frame .exit)) ⌝ }
 {
     if !frame::tracks(frame, goals) {
         return;
@@ -40,7 +37,7 @@ fn track(frame: &mut [u8], goals: usize, i: usize, usages: HeadUsages)
 // The head at index i, reached by one step more.
 fn join(frame: &mut [u8], goals: usize, step: PathKind, i: usize, head: CycleHead)
     requires { ⌜ FrameBytes goals (now frame) × (i < goals) ⌝ }
-    ensures { λ _. ⌜ frameOf goals (now (frame .exit)) ≡ joinAt step i head (frameOf goals (now (frame .entry))) ⌝ }
+    ensures { λ _. ⌜ FrameChanged goals (joinAt step i head) (now (frame .entry)) (now (frame .exit)) ⌝ }
 {
     let paths = PathsToNested { bits: head.paths };
     let extended = paths.extend_with(step);
@@ -58,7 +55,7 @@ fn join(frame: &mut [u8], goals: usize, step: PathKind, i: usize, head: CycleHea
 // The parent itself is used as a head.
 fn use_itself(frame: &mut [u8], goals: usize, usages: HeadUsages)
     requires { ⌜ FrameBytes goals (now frame) ⌝ }
-    ensures { λ _. ⌜ frameOf goals (now (frame .exit)) ≡ useOwn usages (frameOf goals (now (frame .entry))) ⌝ }
+    ensures { λ _. ⌜ FrameChanged goals (useOwn usages) (now (frame .entry)) (now (frame .exit)) ⌝ }
 {
     let before = frame::own_usages(frame, goals);
     records::write_usages(
@@ -78,7 +75,7 @@ pub fn add_head(
     head: CycleHead,
 )
     requires { ⌜ FrameBytes goals (now frame) × (i < goals) ⌝ }
-    ensures { λ _. ⌜ frameOf goals (now (frame .exit)) ≡ addHeadAt step own i head (frameOf goals (now (frame .entry))) ⌝ }
+    ensures { λ _. ⌜ FrameChanged goals (addHeadAt step own i head) (now (frame .entry)) (now (frame .exit)) ⌝ }
 {
     let usages = head.usages;
     track(frame, goals, i, usages);
@@ -115,7 +112,7 @@ fn lesser(a: u8, b: usize) -> u8
 // Overflow, and the depth that was reached.
 fn reach(frame: &mut [u8], goals: usize, overflow: bool, reached: usize)
     requires { ⌜ FrameBytes goals (now frame) ⌝ }
-    ensures { λ _. ⌜ frameOf goals (now (frame .exit)) ≡ reachFrame overflow reached (frameOf goals (now (frame .entry))) ⌝ }
+    ensures { λ _. ⌜ FrameChanged goals (reachFrame overflow reached) (now (frame .entry)) (now (frame .exit)) ⌝ }
 {
     frame[offsets::FRAME_OVERFLOW] = marked(frame[offsets::FRAME_OVERFLOW], overflow);
     frame[offsets::FRAME_REACHED] = lesser(frame[offsets::FRAME_REACHED], reached);
@@ -124,7 +121,7 @@ fn reach(frame: &mut [u8], goals: usize, overflow: bool, reached: usize)
 // Paths to a nested goal.
 fn insert_nested(frame: &mut [u8], goals: usize, goal: usize, paths: u8)
     requires { ⌜ FrameBytes goals (now frame) ⌝ }
-    ensures { λ _. ⌜ frameOf goals (now (frame .exit)) ≡ withNestedGoals (frameOf goals (now (frame .entry))) (insertNested ((frameOf goals (now (frame .entry))) .nestedGoals) goal paths) ⌝ }
+    ensures { λ _. ⌜ FrameChanged goals (insertGoal goal paths) (now (frame .entry)) (now (frame .exit)) ⌝ }
 {
     let start = offsets::nested_start(goals);
     let end = start + goals;
@@ -134,7 +131,7 @@ fn insert_nested(frame: &mut [u8], goals: usize, goal: usize, paths: u8)
 // The frame's own goal is among its nested goals.
 fn insert_itself(frame: &mut [u8], goals: usize)
     requires { ⌜ FrameBytes goals (now frame) ⌝ }
-    ensures { λ _. ⌜ frameOf goals (now (frame .exit)) ≡ withNestedGoals (frameOf goals (now (frame .entry))) (insertNested ((frameOf goals (now (frame .entry))) .nestedGoals) ((frameOf goals (now (frame .entry))) .input) emptyPath) ⌝ }
+    ensures { λ _. ⌜ FrameChanged goals insertOwn (now (frame .entry)) (now (frame .exit)) ⌝ }
 {
     let goal = frame::input(frame, goals);
     insert_nested(frame, goals, goal, 1);
@@ -143,7 +140,7 @@ fn insert_itself(frame: &mut [u8], goals: usize)
 // The nested goals, with those of a child.
 fn extend(frame: &mut [u8], goals: usize, step: PathKind, child: &[u8])
     requires { ⌜ FrameBytes goals (now frame) ⌝ }
-    ensures { λ _. ⌜ frameOf goals (now (frame .exit)) ≡ withNestedGoals (frameOf goals (now (frame .entry))) (extendFromChild ((frameOf goals (now (frame .entry))) .nestedGoals) step (now (child .entry))) ⌝ }
+    ensures { λ _. ⌜ FrameChanged goals (extendNested step (now (child .entry))) (now (frame .entry)) (now (frame .exit)) ⌝ }
 {
     let start = offsets::nested_start(goals);
     let end = start + goals;
@@ -161,7 +158,7 @@ pub fn add_ordinary(
     reached: usize,
 )
     requires { ⌜ FrameBytes goals (now frame) ⌝ }
-    ensures { λ _. ⌜ frameOf goals (now (frame .exit)) ≡ addRest step overflow (Ordinary (now (child .entry))) reached (frameOf goals (now (frame .entry))) ⌝ }
+    ensures { λ _. ⌜ FrameChanged goals (addRest step overflow (Ordinary (now (child .entry))) reached) (now (frame .entry)) (now (frame .exit)) ⌝ }
 {
     reach(frame, goals, overflow, reached);
     extend(frame, goals, step, child);
@@ -174,7 +171,7 @@ pub fn add_ordinary(
 // Beside the heads, after a goal that was found in the provisional cache.
 pub fn add_entry(frame: &mut [u8], goals: usize, step: PathKind, overflow: bool, reached: usize)
     requires { ⌜ FrameBytes goals (now frame) ⌝ }
-    ensures { λ _. ⌜ frameOf goals (now (frame .exit)) ≡ addRest step overflow ProvisionalCacheHit reached (frameOf goals (now (frame .entry))) ⌝ }
+    ensures { λ _. ⌜ FrameChanged goals (addRest step overflow ProvisionalCacheHit reached) (now (frame .entry)) (now (frame .exit)) ⌝ }
 {
     reach(frame, goals, overflow, reached);
     insert_itself(frame, goals);
@@ -183,7 +180,7 @@ pub fn add_entry(frame: &mut [u8], goals: usize, step: PathKind, overflow: bool,
 // Beside the heads, after a goal that is on the stack.
 pub fn add_cycle(frame: &mut [u8], goals: usize, step: PathKind, goal: usize, reached: usize)
     requires { ⌜ FrameBytes goals (now frame) ⌝ }
-    ensures { λ _. ⌜ frameOf goals (now (frame .exit)) ≡ addRest step false (CycleOnStack goal) reached (frameOf goals (now (frame .entry))) ⌝ }
+    ensures { λ _. ⌜ FrameChanged goals (addRest step false (CycleOnStack goal) reached) (now (frame .entry)) (now (frame .exit)) ⌝ }
 {
     reach(frame, goals, false, reached);
     let paths = PathsToNested::from_kind(step);

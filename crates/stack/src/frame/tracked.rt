@@ -18,14 +18,14 @@ ghost use Rattle.definition.specs.Candidates.{noCandidateUsages};
 ghost use Rattle.buffer.specs.Regions.{region};
 ghost use Rattle.layout.specs.Blocks.{blockSize};
 ghost use Rattle.layout.specs.Frame.{candidateStart, frameOf};
-ghost use Rattle.stack.specs.Bytes.{FrameBytes};
+ghost use Rattle.stack.specs.Bytes.{FrameBytes, FrameChanged};
 ghost use Rattle.layout.specs.AtIndex.{Names};
 ghost use Rattle.stack.specs.Tracked.{trackedOf, ignoreHeadAt, ignoreOwn};
 
 // enter_single_candidate
 pub fn enter(frame: &mut [u8], goals: usize)
     requires { ⌜ FrameBytes goals (now frame) ⌝ }
-    ensures { λ _. ⌜ frameOf goals (now (frame .exit)) ≡ withCandidateUsages (frameOf goals (now (frame .entry))) (some (noCandidateUsages goals)) ⌝ }
+    ensures { λ _. ⌜ FrameChanged goals (λ f. withCandidateUsages f (some (noCandidateUsages goals))) (now (frame .entry)) (now (frame .exit)) ⌝ }
 {
     let start = offsets::candidate_start(goals);
     let end = offsets::nested_start(goals);
@@ -36,7 +36,7 @@ pub fn enter(frame: &mut [u8], goals: usize)
 // finish_single_candidate, which forgets the candidate's usages
 pub fn finish(frame: &mut [u8], goals: usize)
     requires { ⌜ FrameBytes goals (now frame) ⌝ }
-    ensures { λ _. ⌜ frameOf goals (now (frame .exit)) ≡ withCandidateUsages (frameOf goals (now (frame .entry))) none ⌝ }
+    ensures { λ _. ⌜ FrameChanged goals (λ f. withCandidateUsages f none) (now (frame .entry)) (now (frame .exit)) ⌝ }
 {
     frame[offsets::FRAME_TRACKS] = 0;
 }
@@ -94,7 +94,7 @@ pub fn own_covers(frame: &[u8], goals: usize, u: HeadUsages) -> bool
 // The usages u are taken from the head at index i, if there is one.
 pub fn ignore_head(frame: &mut [u8], goals: usize, i: usize, u: HeadUsages)
     requires { ⌜ FrameBytes goals (now frame) × (i < goals) ⌝ }
-    ensures { λ _. ⌜ frameOf goals (now (frame .exit)) ≡ ignoreHeadAt i u (frameOf goals (now (frame .entry))) ⌝ }
+    ensures { λ _. ⌜ FrameChanged goals (ignoreHeadAt i u) (now (frame .entry)) (now (frame .exit)) ⌝ }
 {
     let end = offsets::candidate_start(goals);
     heads::ignore(&mut frame[offsets::FRAME_HEADS..end], goals, i, u);
@@ -103,7 +103,7 @@ pub fn ignore_head(frame: &mut [u8], goals: usize, i: usize, u: HeadUsages)
 // The usages u are taken from the frame's own, if it is a head.
 pub fn ignore_own(frame: &mut [u8], goals: usize, u: HeadUsages)
     requires { ⌜ FrameBytes goals (now frame) ⌝ }
-    ensures { λ _. ⌜ frameOf goals (now (frame .exit)) ≡ ignoreOwn u (frameOf goals (now (frame .entry))) ⌝ }
+    ensures { λ _. ⌜ FrameChanged goals (ignoreOwn u) (now (frame .entry)) (now (frame .exit)) ⌝ }
 {
     if !frame::is_head(frame, goals) {
         return;
