@@ -13,6 +13,7 @@ pub mod HeadLaws
 pub mod Inv
 pub mod Logic
 pub mod Lookups
+pub mod Meets
 pub mod Parts
 pub mod Pigeons
 pub mod Queries
@@ -26,5 +27,6 @@ pub mod Slots
 pub mod Steps
 pub mod Support
 pub mod Theorems
+pub mod Traces
 pub mod Update
 pub mod World

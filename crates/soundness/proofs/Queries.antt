@@ -120,7 +120,14 @@ module _ (W : World) where
       → After W [] (newGraph depth cache) (Claims W [] goal) (evaluateRoot (W .book) cache goal depth)
   root-ok cache goal depth p v =
       evaluate-ok W (W .book .header .goals) [] tt (omega arith) (newGraph depth cache) goal Inductive true
-      (record { here = refl; root = p .shallow; frames = tt; entries = tt; cache = record { order = p .order; claims = v .fits (p .order .size) } })
+      (record {
+        here = refl;
+        root = p .shallow;
+        frames = tt;
+        entries = tt;
+        live = omega arith;
+        cache = record { order = p .order; claims = v .fits (p .order .size) };
+      })
       (p .inside) (λ l. absurd (omega arith))
 
   module _ (set : Bool → Goals) (judged : Judges W set) where
