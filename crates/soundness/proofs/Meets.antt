@@ -22,7 +22,7 @@ use Rattle.definition.specs.declared.format.Header.{Header}
 use Rattle.definition.specs.declared.paths.PathKind.{PathKind}
 use Rattle.definition.specs.declared.replies.Refusal.the-variants.{Unreachable}
 use Rattle.soundness.specs.Always.{Apart, InOrder, goalsOf}
-use Rattle.soundness.specs.Trace.{Answers, InsertsEntry, InsertsInSlot, Trace, Tracer, after, met, traceAfterTask, traceAtDepth, traceCompute, traceGoal, traceGoalWith, traceInsert, traceNewFrame, tracePart, tracePick, traceTask, traceUntil, unlessMet}
+use Rattle.soundness.specs.Trace.{Answers, InsertsEntry, InsertsInSlot, Trace, Tracer, after, met, traceAfterTask, traceAtDepth, traceCompute, traceGoal, traceGoalWith, traceNewFrame, tracePart, tracePick, traceTask, traceUntil, unlessMet}
 use Rattle.soundness.proofs.Traces.{only-append}
 use Rattle.soundness.proofs.World.{AllCalls, CallOk, Calls, World}
 use Rattle.soundness.proofs.Counters.{Reads}
@@ -30,7 +30,7 @@ use Rattle.soundness.proofs.Assumed.{Base, baseOf, length-bases}
 use Rattle.soundness.proofs.Inv.{After, BasesOk, State, in-order}
 use Rattle.soundness.proofs.Candidates.{enter-step, finish-step}
 use Rattle.soundness.proofs.Parts.{Claims, EvalOk, RightAt, part-ok}
-use Rattle.soundness.proofs.Runs.{ComputesGoal, Finished, Ordered, TaskAfter, TracesGoal, task-meets}
+use Rattle.soundness.proofs.Runs.{ComputesGoal, Ordered, TaskAfter, TracesGoal, task-meets}
 use Rattle.soundness.proofs.Lookups.{FindPost, depth-ok, find-at}
 use Rattle.soundness.proofs.Evaluate.{compute-ok, evaluate-ok, frame-ok, new-bases, none-left, part-is, pushed, updated, with-ok}
 

@@ -1,5 +1,5 @@
 -- Laws of traces.
-use mathlib.Core.List.{List, [], _∷_, _++_}
+use mathlib.Core.List.{[], _∷_, _++_}
 use Rattle.soundness.specs.Trace.{EndsWith, Event, MeetsOnly, Trace}
 
 pub only-append : (P : Event → Type 0) (s t : Trace) → MeetsOnly P s → MeetsOnly P t → MeetsOnly P (s ++ t)

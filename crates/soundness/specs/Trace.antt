@@ -1,5 +1,5 @@
--- What an evaluation meets on its way, in order: for each function of the definition's Evaluate and Task that leads to another
--- evaluation or to an insertion, the same steps, with the states that they start from. What comes out of a step is the definition's.
+-- What an evaluation meets on its way, in order. For each function of the definition's Evaluate and Task that leads to another
+-- evaluation or to an insertion stands one here that takes the same steps; what comes out of a step is the definition's.
 use mathlib.Core.Bool.{Bool, true, false}
 use mathlib.Core.Option.{Option, none, some}
 use mathlib.Core.List.{List, [], _∷_, _++_}
@@ -72,8 +72,8 @@ module _ (evaluate : Evaluator) (trace : Tracer) (goals : ℕ) where
     pub tracePick : Parts → Graph → Trace
     tracePick End g = []
     tracePick (Then p ps) g =
-        tracePart p (enterSingleCandidate goals g) ++ after (evalPart evaluate goals p (enterSingleCandidate goals g)) λ g1 a.
-        tracePick ps (finishSingleCandidate g1)
+        tracePart p (enterSingleCandidate goals g) ++
+        after (evalPart evaluate goals p (enterSingleCandidate goals g)) λ g1 a. tracePick ps (finishSingleCandidate g1)
 
 abbrev pub traceCompute : Evaluator → Tracer → Book → ℕ → Graph → Trace
 traceCompute evaluate trace b input g =
@@ -110,14 +110,18 @@ traceAfterTask h input step available (TaskStopped r) = []
 traceAfterTask h input step available (Evaluated g r) =
     traceInsert h
     (withStack g
-    (updateParentGoal (g .stack) step (r .heads) (r .encounteredOverflow) (Ordinary (r .nestedGoals)) (available - r .requiredDepth)))
+    (updateParentGoal (g .stack) step (r .heads) (r .encounteredOverflow) (Ordinary (r .nestedGoals))
+    (available - r .requiredDepth)))
     input r
+
+abbrev pub pushNew : Header → Graph → ℕ → PathKind → ℕ → Graph
+pushNew h g input step available = withStack g (newFrame (h .goals) input step available ∷ g .stack)
 
 abbrev pub traceNewFrame : Header → (ℕ → Graph → Outcome) → (ℕ → Graph → Trace) → Graph → ℕ → PathKind → ℕ → Trace
 traceNewFrame h compute trace g input step available =
-    traceTask (compute input) (trace input) (pred (h .limit)) (withStack g (newFrame (h .goals) input step available ∷ g .stack)) ++
+    traceTask (compute input) (trace input) (pred (h .limit)) (pushNew h g input step available) ++
     traceAfterTask h input step available
-    (evaluateGoalInTask (compute input) (pred (h .limit)) false (withStack g (newFrame (h .goals) input step available ∷ g .stack)))
+    (evaluateGoalInTask (compute input) (pred (h .limit)) false (pushNew h g input step available))
 
 abbrev pub traceAtDepth : Header → (ℕ → Graph → Outcome) → (ℕ → Graph → Trace) → Graph → ℕ → PathKind → ℕ → Trace
 traceAtDepth h compute trace g input step available =
@@ -137,7 +141,8 @@ traceGoalWith h compute trace g input step lower =
 
 abbrev pub traceGoal : Book → ℕ → Tracer
 traceGoal b zero = traceGoalWith (b .header) (λ input g. Stopped Unreachable) (λ input g. [])
-traceGoal b (suc off) = traceGoalWith (b .header) (computeGoal (evaluateGoal b off) b) (traceCompute (evaluateGoal b off) (traceGoal b off) b)
+traceGoal b (suc off) =
+    traceGoalWith (b .header) (computeGoal (evaluateGoal b off) b) (traceCompute (evaluateGoal b off) (traceGoal b off) b)
 
 -- the evaluation of a query's root
 abbrev pub traceRoot : Book → List ℕ → ℕ → ℕ → Trace
