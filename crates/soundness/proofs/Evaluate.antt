@@ -289,7 +289,8 @@ compute-ok W xs evaluate ok x s g v =
     (partAt (W .book .parts) (x .goal)) refl
 
 -- with every goal on the stack nothing is computed
-pub none-left : (W : World) (xs : List Base) → length xs ≡ W .book .header .goals → ComputesGoal W xs (λ input g. Stopped Unreachable)
+pub none-left : (W : World) (xs : List Base) → length xs ≡ W .book .header .goals
+    → ComputesGoal W xs (λ input g. Stopped Unreachable)
 none-left W xs e x s g v =
     absurd (omega (
       arith,

@@ -101,8 +101,8 @@ module _ (b : Book) (ok : BookOk anyKind b) where
   unfolding any-book
   meets-in-order off g goal step lower v e l =
       run-of (b .header) (evaluate-why b off g goal step lower)
-      (evaluate-meets W off (basesOf (g .stack)) (bases-ok (g .stack) (v .distinct)) (omega (arith, length-bases (g .stack))) g goal step lower
-      (inv-of g v) l (λ z. tt))
+      (evaluate-meets W off (basesOf (g .stack)) (bases-ok (g .stack) (v .distinct))
+      (omega (arith, length-bases (g .stack))) g goal step lower (inv-of g v) l (λ z. tt))
 
   -- ---- a frame
   entries-on : (n : ℕ) (xs : List Base) (L : ℕ → Type 0) → ((i : ℕ) → L i → i < n) → (es : List Entry) → Every (EntryOk W xs L) es
@@ -209,8 +209,8 @@ always-in-order b ok =
           (keeps-order b ok (b .header .goals) (newGraph depth cache) goal Inductive true (starts-in-order b ok cache work goal depth e)
           (omega arith) (passed b cache work goal depth e .inside));
       runs = λ cache work goal depth e.
-          meets-in-order b ok (b .header .goals) (newGraph depth cache) goal Inductive true (starts-in-order b ok cache work goal depth e)
-          (omega arith) (passed b cache work goal depth e .inside);
+          meets-in-order b ok (b .header .goals) (newGraph depth cache) goal Inductive true
+          (starts-in-order b ok cache work goal depth e) (omega arith) (passed b cache work goal depth e .inside);
     }
 
 -- ---- the query
@@ -244,7 +244,8 @@ module _ (r : Refusal) (late : Early r → ⊥) (cache work : List ℕ) (goal de
   of-outcome (Stopped q) z = cc
 
   of-checks : (b : Book) (o : Option Refusal) → firstFailed (checks b cache work goal depth) ≡ o
-      → Refuses r (elim o [ some q ↦ untouched q cache work | none ↦ replyOf cache work (evaluateRoot b cache goal depth) ])
+      → Refuses r
+      (elim o [ some q ↦ untouched q cache work | none ↦ replyOf cache work (evaluateRoot b cache goal depth) ])
       → Passes b cache work goal depth × (evaluateRoot b cache goal depth ≡ Stopped r)
   of-checks b none e z = (e, of-outcome (evaluateRoot b cache goal depth) z)
   of-checks b (some q) e z =
@@ -253,11 +254,14 @@ module _ (r : Refusal) (late : Early r → ⊥) (cache work : List ℕ) (goal de
 
   of-book : (bytes : List ℕ) (o : BookRead) → readBook bytes ≡ o
       → Refuses r (elim o [ Rejected q ↦ untouched q cache work | Accepted b ↦ queryBook b cache work goal depth ])
-      → (b : Book) × (readBook bytes ≡ Accepted b) × Passes b cache work goal depth × (evaluateRoot b cache goal depth ≡ Stopped r)
-  of-book bytes (Accepted b) e z = let (p, s) = of-checks b (firstFailed (checks b cache work goal depth)) refl z in (b, e, p, s)
+      → (b : Book) × (readBook bytes ≡ Accepted b) × Passes b cache work goal depth
+      × (evaluateRoot b cache goal depth ≡ Stopped r)
+  of-book bytes (Accepted b) e z =
+      let (p, s) = of-checks b (firstFailed (checks b cache work goal depth)) refl z in (b, e, p, s)
   of-book bytes (Rejected q) e z =
       let w : q ≡ r = cc in
-      absurd (late (rw w at (book-rejected anyKind (λ l. Unit {0}) (λ n l p c i. (i, tt)) bytes q e (λ ls f. any-line ls))))
+      absurd (late
+      (rw w at (book-rejected anyKind (λ l. Unit {0}) (λ n l p c i. (i, tt)) bytes q e (λ ls f. any-line ls))))
 
 not-expected : (r : Refusal) → Expected r → r ≢ Unreachable
 not-expected r (inl e) z = clash (cc)

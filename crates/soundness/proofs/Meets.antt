@@ -37,14 +37,16 @@ use Rattle.soundness.proofs.Evaluate.{compute-ok, evaluate-ok, frame-ok
 -- what `traceGoal` promises
 abbrev pub TraceOk : World → List Base → Tracer → Type 0
 TraceOk W xs trace =
-    (g : Graph) (goal : ℕ) (step : PathKind) (lower : Bool) → State W xs g → goal < W .book .header .goals → (0 < length xs → T (W .allowed step))
+    (g : Graph) (goal : ℕ) (step : PathKind) (lower : Bool) → State W xs g → goal < W .book .header .goals
+    → (0 < length xs → T (W .allowed step))
     → Ordered W (trace g goal step lower)
 
 module _ (W : World) (xs : List Base) where
   joined : (s t : Trace) → Ordered W s → Ordered W t → Ordered W (s ++ t)
   joined = only-append (λ e. InOrder (W .book .header) (e .state))
 
-  after-meets : (P : Reads → Answer → Type 0) (g : Graph) (o : Outcome) (more : Graph → Answer → Trace) → After W xs g P o
+  after-meets : (P : Reads → Answer → Type 0) (g : Graph) (o : Outcome) (more : Graph → Answer → Trace)
+      → After W xs g P o
       → ((g1 : Graph) (a : Answer) → State W xs g1 → Ordered W (more g1 a)) → Ordered W (after o more)
   after-meets P g (Done g1 a) more (d, s, p) k = k g1 a (s .inv)
   after-meets P g (Stopped r) more t k = tt
@@ -63,7 +65,8 @@ module _ (W : World) (xs : List Base) where
     G = W .book .header .goals
 
     mutual
-      part-meets : (p : Part) → Calls (CallOk (W .allowed) G) p → (g : Graph) → State W xs g → Ordered W (tracePart evaluate trace G p g)
+      part-meets : (p : Part) → Calls (CallOk (W .allowed) G) p → (g : Graph) → State W xs g
+          → Ordered W (tracePart evaluate trace G p g)
       part-meets (Call goal kind lower) c g v = meets g goal kind lower v (c .0) (λ h. c .1)
       part-meets (Node All ps) c g v = until-meets No ps c g v
       part-meets (Node Any ps) c g v = until-meets Yes ps c g v
@@ -78,11 +81,13 @@ module _ (W : World) (xs : List Base) where
           (after-meets (RightAt W xs p) g (evalPart evaluate G p g) _ (part-ok W xs evaluate ok p (c .0) g v) λ g1 a w.
           unless-stop (sameAnswer a stop) _ (until-meets stop ps (c .1) g1 w))
 
-      pick-meets : (ps : Parts) → AllCalls (CallOk (W .allowed) G) ps → (g : Graph) → State W xs g → Ordered W (tracePick evaluate trace G ps g)
+      pick-meets : (ps : Parts) → AllCalls (CallOk (W .allowed) G) ps → (g : Graph) → State W xs g
+          → Ordered W (tracePick evaluate trace G ps g)
       pick-meets End c g v = tt
       pick-meets (Then p ps) c g v =
           let w : State W xs (enterSingleCandidate G g) = enter-step W xs g v .inv in
-          joined (tracePart evaluate trace G p (enterSingleCandidate G g)) _ (part-meets p (c .0) (enterSingleCandidate G g) w)
+          joined (tracePart evaluate trace G p (enterSingleCandidate G g)) _
+          (part-meets p (c .0) (enterSingleCandidate G g) w)
           (after-meets (RightAt W xs p) (enterSingleCandidate G g) (evalPart evaluate G p (enterSingleCandidate G g)) _
           (part-ok W xs evaluate ok p (c .0) (enterSingleCandidate G g) w) λ g1 a u.
           pick-meets ps (c .1) (finishSingleCandidate g1) (finish-step W xs g1 u .inv))
@@ -91,42 +96,53 @@ module _ (W : World) (xs : List Base) where
         → Ordered W (elim o [ none ↦ [] | some p ↦ tracePart evaluate trace G p g ])
     own-meets goal g v none e = tt
     own-meets goal g v (some p) e =
-        part-meets p (part-is (Calls (CallOk (W .allowed) (W .book .header .goals))) (W .book .parts) (W .read .calls) goal p e) g v
+        part-meets p (part-is (Calls (CallOk (W .allowed) G)) (W .book .parts) (W .read .calls) goal p e) g v
 
-compute-meets : (W : World) (xs : List Base) (evaluate : Evaluator) → ((x : Base) → BasesOk W (x ∷ xs) → EvalOk W (x ∷ xs) evaluate)
-    → (trace : Tracer) → ((x : Base) → BasesOk W (x ∷ xs) → TraceOk W (x ∷ xs) trace) → TracesGoal W xs (traceCompute evaluate trace (W .book))
+compute-meets : (W : World) (xs : List Base) (evaluate : Evaluator)
+    → ((x : Base) → BasesOk W (x ∷ xs) → EvalOk W (x ∷ xs) evaluate)
+    → (trace : Tracer) → ((x : Base) → BasesOk W (x ∷ xs) → TraceOk W (x ∷ xs) trace)
+    → TracesGoal W xs (traceCompute evaluate trace (W .book))
 compute-meets W xs evaluate ok trace meets x s g v = (
   in-order W (x ∷ xs) s g v,
   own-meets W (x ∷ xs) evaluate (ok x s) trace (meets x s) (x .goal) g v (partAt (W .book .parts) (x .goal)) refl,
 )
 
 -- ---- evaluate_goal
-module _ (W : World) (xs : List Base) (bases : BasesOk W xs) (g₀ : Graph) (v : State W xs g₀) (small : length (g₀ .stack) ≤ W .book .header .goals)
-    (goal : ℕ) (inside : goal < W .book .header .goals) (step : PathKind) (available : ℕ) (deep : available ≤ W .book .header .top)
+module _ (W : World) (xs : List Base) (bases : BasesOk W xs) (g₀ : Graph) (v : State W xs g₀)
+    (small : length (g₀ .stack) ≤ W .book .header .goals)
+    (goal : ℕ) (inside : goal < W .book .header .goals) (step : PathKind) (available : ℕ)
+    (deep : available ≤ W .book .header .top)
     (call : 0 < length xs → T (W .allowed step)) where
   abbrev h : Header
   h = W .book .header
 
   inserts-meets : (g : Graph) (r : EvaluationResult) → InOrder h g → (on empty : Bool)
-      → Ordered W (elim empty [ true ↦ met g (InsertsInSlot goal r) | false ↦ elim on [ true ↦ met g (InsertsEntry goal r) | false ↦ [] ] ])
+      → Ordered W (elim empty [
+        | true ↦ met g (InsertsInSlot goal r)
+        | false ↦ elim on [ true ↦ met g (InsertsEntry goal r) | false ↦ [] ]
+      ])
   inserts-meets g r w on true = (w, tt)
   inserts-meets g r w true false = (w, tt)
   inserts-meets g r w false false = tt
 
-  after-task-meets : (t : TaskOutcome) → TaskAfter W xs (g₀ .stack) goal available t → Ordered W (traceAfterTask h goal step available t)
+  after-task-meets : (t : TaskOutcome) → TaskAfter W xs (g₀ .stack) goal available t
+      → Ordered W (traceAfterTask h goal step available t)
   after-task-meets (Evaluated g r) w =
-      inserts-meets _ r (in-order W xs bases _ (updated W xs bases g₀ v small goal inside step available deep call g r w))
+      inserts-meets _ r (in-order W xs bases _
+      (updated W xs bases g₀ v small goal inside step available deep call g r w))
       (h .provisional) (headsEmpty (r .heads))
   after-task-meets (TaskStopped r) w = tt
 
-  module _ (compute : ℕ → Graph → Outcome) (ok : ComputesGoal W xs compute) (trace : ℕ → Graph → Trace) (meets : TracesGoal W xs trace) where
+  module _ (compute : ℕ → Graph → Outcome) (ok : ComputesGoal W xs compute) (trace : ℕ → Graph → Trace)
+      (meets : TracesGoal W xs trace) where
     abbrev new : Frame
     new = newFrame (h .goals) goal step available
 
     frame-meets : Apart goal (goalsOf (g₀ .stack)) → Ordered W (traceNewFrame h compute trace g₀ goal step available)
     frame-meets apart =
         joined W xs (traceTask (compute goal) (trace goal) (pred (h .limit)) (withStack g₀ (new ∷ g₀ .stack))) _
-        (task-meets W xs (g₀ .stack) goal available (v .here) (omega (arith, length-bases (g₀ .stack), ap length (v .here))) (v .frames)
+        (task-meets W xs (g₀ .stack) goal available (v .here)
+        (omega (arith, length-bases (g₀ .stack), ap length (v .here))) (v .frames)
         compute ok trace meets (pred (h .limit)) (baseOf new) new (withStack g₀ (new ∷ g₀ .stack))
         refl refl (new-bases W xs bases g₀ v small goal inside step available deep call apart) refl
         (pushed W xs bases g₀ v small goal inside step available deep call))
@@ -145,17 +161,23 @@ module _ (W : World) (xs : List Base) (bases : BasesOk W xs) (g₀ : Graph) (v :
         (unless-found W xs (lookupGlobalCache h g₀ goal step available) _
         (cycle-meets (stackFind (g₀ .stack) goal) (find-at goal (g₀ .stack))))
 
-module _ (W : World) (xs : List Base) (bases : BasesOk W xs) (small : length xs ≤ W .book .header .goals) (compute : ℕ → Graph → Outcome)
+module _ (W : World) (xs : List Base) (bases : BasesOk W xs) (small : length xs ≤ W .book .header .goals)
+    (compute : ℕ → Graph → Outcome)
     (ok : ComputesGoal W xs compute) (trace : ℕ → Graph → Trace) (meets : TracesGoal W xs trace) where
-  from-depth-meets : (g : Graph) (v : State W xs g) (goal : ℕ) → goal < W .book .header .goals → (step : PathKind) (lower : Bool)
+  from-depth-meets : (g : Graph) (v : State W xs g) (goal : ℕ) → goal < W .book .header .goals
+      → (step : PathKind) (lower : Bool)
       → (0 < length xs → T (W .allowed step)) → (t : Trace) → Ordered W t → (o : Option ℕ)
       → allowedDepthForNested (W .book .header) (g .rootDepth) (g .stack) lower ≡ o
-      → Ordered W (elim o [ none ↦ [] | some available ↦ traceAtDepth (W .book .header) compute trace g goal step available ] ++ t)
+      → Ordered W (elim o [
+        | none ↦ []
+        | some available ↦ traceAtDepth (W .book .header) compute trace g goal step available
+      ] ++ t)
   from-depth-meets g v goal l step lower call t w none e = w
   from-depth-meets g v goal l step lower call t w (some available) e =
       joined W xs (traceAtDepth (W .book .header) compute trace g goal step available) t
       (at-depth-meets W xs bases g v (omega (arith, length-bases (g .stack), ap length (v .here))) goal l step available
-      (depth-ok (W .book .header) (g .rootDepth) (g .stack) (v .root) (v .frames) lower available e) call compute ok trace meets)
+      (depth-ok (W .book .header) (g .rootDepth) (g .stack) (v .root) (v .frames) lower available e)
+      call compute ok trace meets)
       w
 
   with-meets : TraceOk W xs (traceGoalWith (W .book .header) compute trace)
@@ -163,7 +185,8 @@ module _ (W : World) (xs : List Base) (bases : BasesOk W xs) (small : length xs 
     in-order W xs bases g v,
     from-depth-meets g v goal l step lower call
         (after (evaluateGoalWith (W .book .header) compute g goal step lower) λ g1 a. met g1 (Answers goal))
-        (after-meets W xs (Claims W xs goal) g (evaluateGoalWith (W .book .header) compute g goal step lower) (λ g1 a. met g1 (Answers goal))
+        (after-meets W xs (Claims W xs goal) g (evaluateGoalWith (W .book .header) compute g goal step lower)
+        (λ g1 a. met g1 (Answers goal))
         (with-ok W xs bases small compute ok g goal step lower v l call) λ g1 a w. (in-order W xs bases g1 w, tt))
         (allowedDepthForNested (W .book .header) (g .rootDepth) (g .stack) lower) refl,
   )
@@ -171,10 +194,12 @@ module _ (W : World) (xs : List Base) (bases : BasesOk W xs) (small : length xs 
 pub evaluate-meets : (W : World) (off : ℕ) (xs : List Base) → BasesOk W xs → length xs + off ≡ W .book .header .goals
     → TraceOk W xs (traceGoal (W .book) off)
 evaluate-meets W zero xs bases e =
-    with-meets W xs bases (omega arith) (λ input g. Stopped Unreachable) (none-left W xs (omega arith)) (λ input g. []) (λ x s g v. tt)
+    with-meets W xs bases (omega arith) (λ input g. Stopped Unreachable) (none-left W xs (omega arith))
+    (λ input g. []) (λ x s g v. tt)
 evaluate-meets W (suc off) xs bases e =
     with-meets W xs bases (omega arith) (computeGoal (evaluateGoal (W .book) off) (W .book))
     (compute-ok W xs (evaluateGoal (W .book) off) (λ x s. evaluate-ok W off (x ∷ xs) s (omega arith)))
     (traceCompute (evaluateGoal (W .book) off) (traceGoal (W .book) off) (W .book))
-    (compute-meets W xs (evaluateGoal (W .book) off) (λ x s. evaluate-ok W off (x ∷ xs) s (omega arith)) (traceGoal (W .book) off)
+    (compute-meets W xs (evaluateGoal (W .book) off) (λ x s. evaluate-ok W off (x ∷ xs) s (omega arith))
+    (traceGoal (W .book) off)
     (λ x s. evaluate-meets W off (x ∷ xs) s (omega arith)))

@@ -205,6 +205,6 @@ module _ (allowed : PathKind → Bool) (P : Line → Type 0)
       → BookOk allowed b
   book-read bytes b e v = rw e at (read-ok bytes v)
 
-  pub book-rejected : (bytes : List ℕ) (r : Refusal) → readBook bytes ≡ Rejected r → ((ls : List Line) → linesOf bytes ≡ some ls → EveryLine P ls)
-      → Early r
+  pub book-rejected : (bytes : List ℕ) (r : Refusal) → readBook bytes ≡ Rejected r
+      → ((ls : List Line) → linesOf bytes ≡ some ls → EveryLine P ls) → Early r
   book-rejected bytes r e v = rw e at (read-ok bytes v)

@@ -58,7 +58,8 @@ Ordered W = MeetsOnly (λ e. InOrder (W .book .header) (e .state))
 
 -- what `traceCompute` promises
 abbrev pub TracesGoal : World → List Base → (ℕ → Graph → Trace) → Type 0
-TracesGoal W xs trace = (x : Base) → BasesOk W (x ∷ xs) → (g : Graph) → State W (x ∷ xs) g → Ordered W (trace (x .goal) g)
+TracesGoal W xs trace =
+    (x : Base) → BasesOk W (x ∷ xs) → (g : Graph) → State W (x ∷ xs) g → Ordered W (trace (x .goal) g)
 
 module _ (W : World) (xs : List Base) (fs : Stack) (goal available : ℕ) (here : basesOf fs ≡ xs) (small : length xs ≤ W .book .header .goals)
     (framesOk : FramesInOrder (W .book .header) fs) where
@@ -97,7 +98,15 @@ module _ (W : World) (xs : List Base) (fs : Stack) (goal available : ℕ) (here 
         below = v .frame .below;
         nested = v .frame .nested;
         required = omega (arith, v .isDepth, ap (λ (y : Base). y .depth) (v .same));
-        inv = record { here = here; root = v .root; frames = framesOk; entries = w; live = omega (arith, v .live); cache = v .cache };
+        inv =
+            record {
+              here = here;
+              root = v .root;
+              frames = framesOk;
+              entries = w;
+              live = omega (arith, v .live);
+              cache = v .cache;
+            };
       }
 
   not-a-head : (x : Base) (f : Frame) (g : Graph) (a : Answer) (o : Bool) → Ran x f g a → f .usages ≡ none
@@ -119,8 +128,9 @@ module _ (W : World) (xs : List Base) (fs : Stack) (goal available : ℕ) (here 
   abbrev Popped : Base → Graph → Stack → Answer → Type 0
   Popped x g s a = (f : Frame) × (s ≡ f ∷ fs) × Ran x f g a
 
-  popped-ran : (x : Base) (f₀ : Frame) {s : Stack} {d : Reads} (g : Graph) (a : Answer) → x .goal ≡ goal → x .depth ≡ available
-      → BasesOk W (x ∷ xs) → Gain (f₀ ∷ fs) s d → Inv W (x ∷ xs) (Known s) g → basesOf s ≡ x ∷ xs → FramesInOrder (W .book .header) s
+  popped-ran : (x : Base) (f₀ : Frame) {s : Stack} {d : Reads} (g : Graph) (a : Answer)
+      → x .goal ≡ goal → x .depth ≡ available → BasesOk W (x ∷ xs) → Gain (f₀ ∷ fs) s d
+      → Inv W (x ∷ xs) (Known s) g → basesOf s ≡ x ∷ xs → FramesInOrder (W .book .header) s
       → RightGoal W (x ∷ xs) (x .goal) d a → Popped x g s a
   popped-ran x f₀ g a i j v (top-gains {f′ = f} {d = d} t) inv h fr r = (
     f,
@@ -142,9 +152,11 @@ module _ (W : World) (xs : List Base) (fs : Stack) (goal available : ℕ) (here 
     },
   )
 
-  ran : (x : Base) (f₀ : Frame) (g₀ g : Graph) (a : Answer) (d : Reads) → x .goal ≡ goal → x .depth ≡ available → BasesOk W (x ∷ xs)
+  ran : (x : Base) (f₀ : Frame) (g₀ g : Graph) (a : Answer) (d : Reads)
+      → x .goal ≡ goal → x .depth ≡ available → BasesOk W (x ∷ xs)
       → g₀ .stack ≡ f₀ ∷ fs → Step W (x ∷ xs) g₀ g d → RightGoal W (x ∷ xs) (x .goal) d a → Popped x g (g .stack) a
-  ran x f₀ g₀ g a d i j v st s r = popped-ran x f₀ g a i j v (rw st at (s .gain)) (s .inv) (s .inv .here) (s .inv .frames) r
+  ran x f₀ g₀ g a d i j v st s r =
+      popped-ran x f₀ g a i j v (rw st at (s .gain)) (s .inv) (s .inv .here) (s .inv .frames) r
 
   RerunOk : (Bool → Graph → Frame → Answer → TaskOutcome) → Type 0
   RerunOk more = (o : Bool) (x : Base) (f : Frame) (g : Graph) (a : Answer) → Ran x f g a → Task (more o (withStack g fs) f a)
@@ -232,29 +244,34 @@ module _ (W : World) (xs : List Base) (fs : Stack) (goal available : ℕ) (here 
   -- ---- what the runs meet
   abbrev MeetsFrom : (Graph → Trace) → Type 0
   MeetsFrom trace =
-      (x : Base) (f : Frame) (g : Graph) → x .goal ≡ goal → x .depth ≡ available → BasesOk W (x ∷ xs) → g .stack ≡ f ∷ fs → State W (x ∷ xs) g
+      (x : Base) (f : Frame) (g : Graph) → x .goal ≡ goal → x .depth ≡ available
+      → BasesOk W (x ∷ xs) → g .stack ≡ f ∷ fs → State W (x ∷ xs) g
       → Ordered W (trace g)
 
-  next-meets : (n : Next) (t : Trace) → Ordered W t → Ordered W (elim n [ Finish ↦ [] | Rebase reason ↦ [] | Rerun ↦ t ])
+  next-meets : (n : Next) (t : Trace) → Ordered W t
+      → Ordered W (elim n [ Finish ↦ [] | Rebase reason ↦ [] | Rerun ↦ t ])
   next-meets Finish t v = tt
   next-meets (Rebase reason) t v = tt
   next-meets Rerun t v = v
 
-  run-meets : (more : Graph → Trace) → MeetsFrom more → (x : Base) (f₀ : Frame) (g₀ : Graph) → x .goal ≡ goal → x .depth ≡ available
-      → BasesOk W (x ∷ xs) → g₀ .stack ≡ f₀ ∷ fs → (out : Outcome) → After W (x ∷ xs) g₀ (RightGoal W (x ∷ xs) (x .goal)) out
+  run-meets : (more : Graph → Trace) → MeetsFrom more
+      → (x : Base) (f₀ : Frame) (g₀ : Graph) → x .goal ≡ goal → x .depth ≡ available
+      → BasesOk W (x ∷ xs) → g₀ .stack ≡ f₀ ∷ fs
+      → (out : Outcome) → After W (x ∷ xs) g₀ (RightGoal W (x ∷ xs) (x .goal)) out
       → Ordered W (after out λ g a. traceNext more g (g .stack) a)
   run-meets more k x f₀ g₀ i j v st (Done g a) (d, s, r) =
       let (f, e, w) = ran x f₀ g₀ g a d i j v st s r in
       rw e
       (next-meets (nextOf f a) (more (pushRerun (withStack g fs) f a))
-      (k (rerun-base x a) (rerunFrame f a) (pushRerun (withStack g fs) f a) (w .isGoal) (w .isDepth) (rerun-bases x f g a w) refl
-      (rerun-inv x f g a w)))
+      (k (rerun-base x a) (rerunFrame f a) (pushRerun (withStack g fs) f a) (w .isGoal) (w .isDepth)
+      (rerun-bases x f g a w) refl (rerun-inv x f g a w)))
   run-meets more k x f₀ g₀ i j v st (Stopped r) t = tt
 
-  pub task-meets : (compute : ℕ → Graph → Outcome) → ComputesGoal W xs compute → (trace : ℕ → Graph → Trace) → TracesGoal W xs trace → (left : ℕ)
+  pub task-meets : (compute : ℕ → Graph → Outcome) → ComputesGoal W xs compute
+      → (trace : ℕ → Graph → Trace) → TracesGoal W xs trace → (left : ℕ)
       → MeetsFrom (traceTask (compute goal) (trace goal) left)
   task-meets compute ok trace meets zero x f g i j v st inv = rw (← i) (meets x v g inv)
   task-meets compute ok trace meets (suc left) x f g i j v st inv =
       only-append (λ e. InOrder (W .book .header) (e .state)) (trace goal g) _ (rw (← i) (meets x v g inv))
-      (run-meets (traceTask (compute goal) (trace goal) left) (task-meets compute ok trace meets left) x f g i j v st (compute goal g)
-      (rw (← i) (ok x v g inv)))
+      (run-meets (traceTask (compute goal) (trace goal) left) (task-meets compute ok trace meets left)
+      x f g i j v st (compute goal g) (rw (← i) (ok x v g inv)))

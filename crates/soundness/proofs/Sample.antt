@@ -11,8 +11,8 @@ use Rattle.definition.specs.Query.{workLength}
 use Rattle.definition.specs.Usages.{counterLimit}
 use Rattle.definition.specs.declared.format.Line.{Line}
 use Rattle.definition.specs.declared.paths.PathKind.{PathKind}
-use Rattle.definition.specs.declared.paths.PathKind.the-variants.{Coinductive, ForcedAmbiguity, Inductive, Unknown}
-use Rattle.soundness.specs.Always.{Conflict, Full}
+use Rattle.definition.specs.declared.paths.PathKind.the-variants.{Coinductive, Inductive}
+use Rattle.soundness.specs.Always.{Conflict}
 use Rattle.soundness.specs.Sets.{greatest, least}
 use Rattle.soundness.specs.Statement.{AllRight, Query}
 use Rattle.soundness.specs.Trace.{Act, Answers, Computes, EndsWith, Evaluates, InsertsEntry, InsertsInSlot, Trace, traceRoot}
@@ -108,7 +108,11 @@ ring-meets = refl
 
 -- ---- refusal 11: an any of none, whose slot in the cache says Yes with required depth 5, asked at depth 3
 abbrev emptyAny : Book
-emptyAny = record { header = record { provisional = true; goals = 1; top = 5; limit = 1; divisor = 1 }; parts = Node Any End ∷ [] }
+emptyAny =
+    record {
+      header = record { provisional = true; goals = 1; top = 5; limit = 1; divisor = 1 };
+      parts = Node Any End ∷ [];
+    }
 
 abbrev written : List ℕ
 written = 1 ∷ 1 ∷ 5 ∷ 0 ∷ replicate 24 0
@@ -116,29 +120,5 @@ written = 1 ∷ 1 ∷ 5 ∷ 0 ∷ replicate 24 0
 pub conflict-met : EndsWith (Conflict (emptyAny .header)) (traceRoot emptyAny written 0 3)
 unfolding counterLimit
 conflict-met =
-    always (digits 1 1 5 1 1 ++ (digits 1 0 0 0 0 ++ digits 4 0 0 0 0)) emptyAny refl .runs written workspace 0 3 refl .conflict refl
-
--- ---- refusal 10: goal 0 is a pick of eight calls; the seventh entry is one too many
-abbrev eightCalls : Book
-eightCalls =
-    record {
-      header = record { provisional = true; goals = 3; top = 2; limit = 1; divisor = 1 };
-      parts =
-          Node Pick (Then (Call 1 Inductive true) (Then (Call 2 Inductive true) (Then (Call 1 Unknown true) (Then (Call 2 Unknown true)
-          (Then (Call 1 Coinductive true) (Then (Call 2 Coinductive true) (Then (Call 1 ForcedAmbiguity true)
-          (Then (Call 2 ForcedAmbiguity true) End))))))))
-          ∷ Call 0 Inductive true
-          ∷ Call 0 Inductive true
-          ∷ [];
-    }
-
-abbrev eightLines : List ℕ
-eightLines =
-    digits 1 3 2 1 1 ++ (digits 1 0 0 0 0 ++ (digits 5 8 0 0 0
-    ++ (digits 2 1 0 1 0 ++ (digits 2 2 0 1 0 ++ (digits 2 1 1 1 0 ++ (digits 2 2 1 1 0
-    ++ (digits 2 1 2 1 0 ++ (digits 2 2 2 1 0 ++ (digits 2 1 3 1 0 ++ (digits 2 2 3 1 0
-    ++ (digits 1 1 0 0 0 ++ (digits 2 0 0 1 0 ++ (digits 1 2 0 0 0 ++ digits 2 0 0 1 0)))))))))))))
-
-pub full-met : EndsWith (Full (eightCalls .header)) (traceRoot eightCalls (replicate 72 0) 0 2)
-unfolding counterLimit
-full-met = always eightLines eightCalls refl .runs (replicate 72 0) (replicate (workLength 3) 7) 0 2 refl .full refl
+    always (digits 1 1 5 1 1 ++ (digits 1 0 0 0 0 ++ digits 4 0 0 0 0)) emptyAny refl
+    .runs written workspace 0 3 refl .conflict refl

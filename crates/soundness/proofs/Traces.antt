@@ -15,7 +15,8 @@ ends-append P [] t v = v
 ends-append P (e ∷ s) t v = ends-after P e (s ++ t) (ends-append P s t v)
 
 -- what holds of every event holds of the last
-pub ends-only : (P Q R : Event → Type 0) → ((e : Event) → P e → Q e → R e) → (t : Trace) → EndsWith P t → MeetsOnly Q t → EndsWith R t
+pub ends-only : (P Q R : Event → Type 0) → ((e : Event) → P e → Q e → R e) → (t : Trace) → EndsWith P t
+    → MeetsOnly Q t → EndsWith R t
 ends-only P Q R h [] v w = v
 ends-only P Q R h (e ∷ []) v w = h e v (w .0)
 ends-only P Q R h (e ∷ x ∷ t) v w = ends-only P Q R h (x ∷ t) v (w .1)

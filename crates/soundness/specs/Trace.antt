@@ -1,5 +1,5 @@
--- What an evaluation meets on its way, in order. For each function of the definition's Evaluate and Task that leads to another
--- evaluation or to an insertion stands one here that takes the same steps; what comes out of a step is the definition's.
+-- What an evaluation meets on its way, in order. For each function of the definition's Evaluate and Task that leads to
+-- another evaluation or to an insertion one stands here that takes the same steps; their outcomes are the definition's.
 use mathlib.Core.Bool.{Bool, true, false}
 use mathlib.Core.Option.{Option, none, some}
 use mathlib.Core.List.{List, [], _∷_, _++_}
@@ -142,7 +142,8 @@ traceGoalWith h compute trace g input step lower =
 abbrev pub traceGoal : Book → ℕ → Tracer
 traceGoal b zero = traceGoalWith (b .header) (λ input g. Stopped Unreachable) (λ input g. [])
 traceGoal b (suc off) =
-    traceGoalWith (b .header) (computeGoal (evaluateGoal b off) b) (traceCompute (evaluateGoal b off) (traceGoal b off) b)
+    traceGoalWith (b .header) (computeGoal (evaluateGoal b off) b)
+    (traceCompute (evaluateGoal b off) (traceGoal b off) b)
 
 -- the evaluation of a query's root
 abbrev pub traceRoot : Book → List ℕ → ℕ → ℕ → Trace
