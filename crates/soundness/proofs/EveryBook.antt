@@ -41,7 +41,7 @@ use Rattle.soundness.proofs.Lookups.{find-at}
 use Rattle.soundness.proofs.Pigeons.{all-on-stack}
 use Rattle.soundness.proofs.Evaluate.{compute-ok, evaluate-ok, frame-ok}
 use Rattle.soundness.proofs.Meets.{evaluate-meets}
-use Rattle.soundness.proofs.Refusals.{evaluate-why, run-of}
+use Rattle.soundness.proofs.Refusals.{evaluate-run}
 use Rattle.soundness.proofs.Reading.{Early, book-read, book-rejected}
 use Rattle.soundness.proofs.Books.{any-book, anyKind}
 use Rattle.soundness.proofs.Queries.{Passed, passed}
@@ -100,7 +100,7 @@ module _ (b : Book) (ok : BookOk anyKind b) where
       → Run (b .header) (traceGoal b off g goal step lower) (evaluateGoal b off g goal step lower)
   unfolding any-book
   meets-in-order off g goal step lower v e l =
-      run-of (b .header) (evaluate-why b off g goal step lower)
+      evaluate-run b off g goal step lower
       (evaluate-meets W off (basesOf (g .stack)) (bases-ok (g .stack) (v .distinct))
       (omega (arith, length-bases (g .stack))) g goal step lower (inv-of g v) l (λ z. tt))
 
