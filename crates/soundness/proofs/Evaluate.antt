@@ -259,7 +259,8 @@ part-is P (q ∷ ps) v zero p e = let z : q ≡ p = cc in rw z at (v .0)
 part-is P (q ∷ ps) v (suc g) p e = part-is P ps (v .1) g p e
 
 -- the goal of the frame on top is one of the book's
-top-goal : (h : Header) (s : Stack) (x : Base) (xs : List Base) → basesOf s ≡ x ∷ xs → FramesInOrder h s → x .goal < h .goals
+pub top-goal : (h : Header) (s : Stack) (x : Base) (xs : List Base) → basesOf s ≡ x ∷ xs → FramesInOrder h s
+    → x .goal < h .goals
 top-goal h [] x xs e v = clash (cc)
 top-goal h (f ∷ fs) x xs e v = let z : baseOf f ≡ x = cc in subst (λ (y : Base). y .goal < h .goals) z (v .0 .goal)
 

@@ -21,7 +21,7 @@ use Rattle.definition.specs.declared.answers.Answer.the-variants.{No, Yes}
 use Rattle.definition.specs.declared.format.Header.{Header}
 use Rattle.definition.specs.declared.paths.PathKind.{PathKind}
 use Rattle.definition.specs.declared.replies.Refusal.the-variants.{Unreachable}
-use Rattle.soundness.specs.Always.{Apart, InOrder, goalsOf}
+use Rattle.soundness.specs.Always.{Apart, EventInOrder, InOrder, goalsOf}
 use Rattle.soundness.specs.Trace.{Answers, InsertsEntry, InsertsInSlot, Trace, Tracer, after, met, traceAfterTask, traceAtDepth, traceCompute, traceGoal, traceGoalWith, traceNewFrame, tracePart, tracePick, traceTask, traceUntil, unlessMet}
 use Rattle.soundness.proofs.Traces.{only-append}
 use Rattle.soundness.proofs.World.{AllCalls, CallOk, Calls, World}
@@ -32,7 +32,7 @@ use Rattle.soundness.proofs.Candidates.{enter-step, finish-step}
 use Rattle.soundness.proofs.Parts.{Claims, EvalOk, RightAt, part-ok}
 use Rattle.soundness.proofs.Runs.{ComputesGoal, Ordered, TaskAfter, TracesGoal, task-meets}
 use Rattle.soundness.proofs.Lookups.{FindPost, depth-ok, find-at}
-use Rattle.soundness.proofs.Evaluate.{compute-ok, evaluate-ok, frame-ok, new-bases, none-left, part-is, pushed, updated, with-ok}
+use Rattle.soundness.proofs.Evaluate.{compute-ok, evaluate-ok, frame-ok, new-bases, none-left, part-is, pushed, top-goal, updated, with-ok}
 
 -- what `traceGoal` promises
 abbrev pub TraceOk : World → List Base → Tracer → Type 0
@@ -43,7 +43,7 @@ TraceOk W xs trace =
 
 module _ (W : World) (xs : List Base) where
   joined : (s t : Trace) → Ordered W s → Ordered W t → Ordered W (s ++ t)
-  joined = only-append (λ e. InOrder (W .book .header) (e .state))
+  joined = only-append (EventInOrder (W .book .header))
 
   after-meets : (P : Reads → Answer → Type 0) (g : Graph) (o : Outcome) (more : Graph → Answer → Trace)
       → After W xs g P o
@@ -103,7 +103,7 @@ compute-meets : (W : World) (xs : List Base) (evaluate : Evaluator)
     → (trace : Tracer) → ((x : Base) → BasesOk W (x ∷ xs) → TraceOk W (x ∷ xs) trace)
     → TracesGoal W xs (traceCompute evaluate trace (W .book))
 compute-meets W xs evaluate ok trace meets x s g v = (
-  in-order W (x ∷ xs) s g v,
+  (in-order W (x ∷ xs) s g v, top-goal (W .book .header) (g .stack) x xs (v .here) (v .frames)),
   own-meets W (x ∷ xs) evaluate (ok x s) trace (meets x s) (x .goal) g v (partAt (W .book .parts) (x .goal)) refl,
 )
 
@@ -121,8 +121,8 @@ module _ (W : World) (xs : List Base) (bases : BasesOk W xs) (g₀ : Graph) (v :
         | true ↦ met g (InsertsInSlot goal r)
         | false ↦ elim on [ true ↦ met g (InsertsEntry goal r) | false ↦ [] ]
       ])
-  inserts-meets g r w on true = (w, tt)
-  inserts-meets g r w true false = (w, tt)
+  inserts-meets g r w on true = ((w, inside), tt)
+  inserts-meets g r w true false = ((w, inside), tt)
   inserts-meets g r w false false = tt
 
   after-task-meets : (t : TaskOutcome) → TaskAfter W xs (g₀ .stack) goal available t
@@ -182,12 +182,12 @@ module _ (W : World) (xs : List Base) (bases : BasesOk W xs) (small : length xs 
 
   with-meets : TraceOk W xs (traceGoalWith (W .book .header) compute trace)
   with-meets g goal step lower v l call = (
-    in-order W xs bases g v,
+    (in-order W xs bases g v, l),
     from-depth-meets g v goal l step lower call
         (after (evaluateGoalWith (W .book .header) compute g goal step lower) λ g1 a. met g1 (Answers goal))
         (after-meets W xs (Claims W xs goal) g (evaluateGoalWith (W .book .header) compute g goal step lower)
         (λ g1 a. met g1 (Answers goal))
-        (with-ok W xs bases small compute ok g goal step lower v l call) λ g1 a w. (in-order W xs bases g1 w, tt))
+        (with-ok W xs bases small compute ok g goal step lower v l call) λ g1 a w. ((in-order W xs bases g1 w, l), tt))
         (allowedDepthForNested (W .book .header) (g .rootDepth) (g .stack) lower) refl,
   )
 

@@ -19,7 +19,7 @@ use Rattle.definition.specs.declared.answers.RebaseReason.{RebaseReason}
 use Rattle.definition.specs.declared.answers.RebaseReason.the-variants.{Ambiguity}
 use Rattle.definition.specs.declared.paths.PathKind.{PathKind}
 use Rattle.definition.specs.declared.usages.HeadUsages.{HeadUsages}
-use Rattle.soundness.specs.Always.{Every, Expected, FrameInOrder, FramesInOrder, HasHead, InOrder, Known}
+use Rattle.soundness.specs.Always.{EventInOrder, Every, Expected, FrameInOrder, FramesInOrder, HasHead, Known}
 use Rattle.soundness.specs.Trace.{MeetsOnly, Trace, after, traceNext, traceTask}
 use Rattle.soundness.proofs.Logic.{nobody}
 use Rattle.soundness.proofs.Traces.{only-append}
@@ -52,9 +52,9 @@ ComputesGoal W xs compute =
     (x : Base) → BasesOk W (x ∷ xs) → (g : Graph) → State W (x ∷ xs) g
     → After W (x ∷ xs) g (RightGoal W (x ∷ xs) (x .goal)) (compute (x .goal) g)
 
--- every state of a trace is in order
+-- every event of a trace is in order
 abbrev pub Ordered : World → Trace → Type 0
-Ordered W = MeetsOnly (λ e. InOrder (W .book .header) (e .state))
+Ordered W = MeetsOnly (EventInOrder (W .book .header))
 
 -- what `traceCompute` promises
 abbrev pub TracesGoal : World → List Base → (ℕ → Graph → Trace) → Type 0
@@ -272,6 +272,6 @@ module _ (W : World) (xs : List Base) (fs : Stack) (goal available : ℕ) (here 
       → MeetsFrom (traceTask (compute goal) (trace goal) left)
   task-meets compute ok trace meets zero x f g i j v st inv = rw (← i) (meets x v g inv)
   task-meets compute ok trace meets (suc left) x f g i j v st inv =
-      only-append (λ e. InOrder (W .book .header) (e .state)) (trace goal g) _ (rw (← i) (meets x v g inv))
+      only-append (EventInOrder (W .book .header)) (trace goal g) _ (rw (← i) (meets x v g inv))
       (run-meets (traceTask (compute goal) (trace goal) left) (task-meets compute ok trace meets left)
       x f g i j v st (compute goal g) (rw (← i) (ok x v g inv)))

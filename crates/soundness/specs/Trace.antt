@@ -28,6 +28,13 @@ pub data Act : Type 0 where
   -- a goal's result goes among the provisional entries, or into its slot of the global cache
   InsertsEntry InsertsInSlot : ℕ → EvaluationResult → Act
 
+abbrev pub goalOf : Act → ℕ
+goalOf (Evaluates goal) = goal
+goalOf (Computes goal) = goal
+goalOf (Answers goal) = goal
+goalOf (InsertsEntry goal r) = goal
+goalOf (InsertsInSlot goal r) = goal
+
 -- an act, and the state that it finds
 pub record Event : Type 0 where
   pub state : Graph
