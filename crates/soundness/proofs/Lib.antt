@@ -22,6 +22,7 @@ pub mod Rebase
 pub mod Refusals
 pub mod Runs
 pub mod Sample
+pub mod SampleTrace
 pub mod Settle
 pub mod Slots
 pub mod Steps

@@ -1,22 +1,20 @@
 -- The theorems used: a book of one goal that calls itself, by an inductive step, and by a coinductive one.
 use mathlib.Core.Bool.{Bool, false, not, true}
 use mathlib.Core.List.{List, [], _++_, _∷_}
-use mathlib.Core.Path.{_≡_, refl}
+use mathlib.Core.Path.{refl}
 use Prim.Native.Nat.{_+_, ℕ}
 use native.Mathlib.Omega.{arith}
 use lib.Dec.{T}
 use lib.ListN.{replicate}
-use Rattle.definition.specs.Part.{All, Any, Book, Call, End, Node, Pick, Then}
+use Rattle.definition.specs.Part.{Book, Call}
 use Rattle.definition.specs.Query.{workLength}
 use Rattle.definition.specs.Usages.{counterLimit}
 use Rattle.definition.specs.declared.format.Line.{Line}
 use Rattle.definition.specs.declared.paths.PathKind.{PathKind}
 use Rattle.definition.specs.declared.paths.PathKind.the-variants.{Coinductive, Inductive}
-use Rattle.soundness.specs.Always.{Conflict}
 use Rattle.soundness.specs.Sets.{greatest, least}
 use Rattle.soundness.specs.Statement.{AllRight, Query}
-use Rattle.soundness.specs.Trace.{Act, Answers, Computes, EndsWith, Evaluates, InsertsEntry, InsertsInSlot, Trace, traceRoot}
-use Rattle.soundness.proofs.Theorems.{always, no-coinductive-step, no-inductive-step}
+use Rattle.soundness.proofs.Theorems.{no-coinductive-step, no-inductive-step}
 
 -- a line of five digits
 abbrev field : ℕ → List ℕ
@@ -69,56 +67,3 @@ in-greatest = coinductive-right .0 .whenYes refl
 -- the two sets of one book differ
 pub sets-differ : T (not (least (book Inductive) true 0)) × T (greatest (book Inductive) false 0)
 sets-differ = (tt, tt)
-
--- ---- what an evaluation meets: goal 0 is all of 1 and 2, goal 1 a pick of 0, goal 2 an any of none
-pub data Word : Type 0 where
-  evaluates computes answers entry slot : ℕ → Word
-
-abbrev word : Act → Word
-word (Evaluates goal) = evaluates goal
-word (Computes goal) = computes goal
-word (Answers goal) = answers goal
-word (InsertsEntry goal r) = entry goal
-word (InsertsInSlot goal r) = slot goal
-
-abbrev words : Trace → List Word
-words [] = []
-words (e ∷ es) = word (e .act) ∷ words es
-
-abbrev ring : Book
-ring =
-    record {
-      header = record { provisional = true; goals = 3; top = 1; limit = 3; divisor = 1 };
-      parts =
-          Node All (Then (Call 1 Coinductive false) (Then (Call 2 Inductive false) End))
-          ∷ Node Pick (Then (Call 0 Coinductive false) End)
-          ∷ Node Any End
-          ∷ [];
-    }
-
--- goal 0 starts from Yes, comes to No, and runs again, where its all stops at the first No
-pub ring-meets : words (traceRoot ring (replicate 54 0) 0 1)
-    ≡ evaluates 0 ∷ computes 0
-    ∷ evaluates 1 ∷ computes 1 ∷ evaluates 0 ∷ answers 0 ∷ entry 1 ∷ answers 1
-    ∷ evaluates 2 ∷ computes 2 ∷ slot 2 ∷ answers 2
-    ∷ computes 0 ∷ evaluates 1 ∷ computes 1 ∷ evaluates 0 ∷ answers 0 ∷ entry 1 ∷ answers 1
-    ∷ slot 0 ∷ answers 0 ∷ []
-unfolding counterLimit
-ring-meets = refl
-
--- ---- refusal 11: an any of none, whose slot in the cache says Yes with required depth 5, asked at depth 3
-abbrev emptyAny : Book
-emptyAny =
-    record {
-      header = record { provisional = true; goals = 1; top = 5; limit = 1; divisor = 1 };
-      parts = Node Any End ∷ [];
-    }
-
-abbrev written : List ℕ
-written = 1 ∷ 1 ∷ 5 ∷ 0 ∷ replicate 24 0
-
-pub conflict-met : EndsWith (Conflict (emptyAny .header)) (traceRoot emptyAny written 0 3)
-unfolding counterLimit
-conflict-met =
-    always (digits 1 1 5 1 1 ++ (digits 1 0 0 0 0 ++ digits 4 0 0 0 0)) emptyAny refl
-    .runs written workspace 0 3 refl .conflict refl
