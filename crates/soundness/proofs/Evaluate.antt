@@ -7,7 +7,7 @@ use mathlib.Core.Path.{_≡_, ap, refl, subst, sym}
 use Prim.Native.Nat.{_*_, _+_, _-_, _<_, _≤_, pred, suc, zero, ℕ}
 use native.Mathlib.Omega.{arith}
 use lib.Dec.{T, leb, nleb→lt}
-use lib.ListN.{length, length-replicate}
+use lib.ListN.{length, length-append, length-replicate}
 use Rattle.definition.specs.Evaluate.{Evaluator, afterTask, computeGoal, evalPart, evaluateAtDepth, evaluateGoal, evaluateGoalWith, evaluateNewFrame, insertGlobalCache, insertInSlot, insertProvisionalCache, newEntry, newFrame}
 use Rattle.definition.specs.GlobalCache.{cacheInsert}
 use Rattle.definition.specs.Graph.{Done, Entry, EvaluationResult, Graph, Outcome, Stopped, unlessFound, withGlobalCache, withProvisionalCache, withStack}
@@ -29,7 +29,7 @@ use Rattle.soundness.proofs.Support.{step}
 use Rattle.soundness.proofs.World.{CallOk, Calls, EveryPart, World}
 use Rattle.soundness.proofs.Counters.{Reads, nothing}
 use Rattle.soundness.proofs.Assumed.{A, A-mono, A-none, A-under, Base, baseOf, basesOf, length-bases}
-use Rattle.soundness.proofs.Inv.{After, BasesOk, EntryOk, Gain, State, goals-here, goalsIn, readsOf}
+use Rattle.soundness.proofs.Inv.{After, BasesOk, EntryOk, Gain, State, distinct-goals, goals-here, readsOf}
 use Rattle.soundness.proofs.Steps.{after-map, every-map, gain-known}
 use Rattle.soundness.proofs.HeadLaws.{absent-noHeads, empty-heads, head-or-unused, not-empty}
 use Rattle.soundness.proofs.Update.{childReads, update-gains, update-inv, update-known}
@@ -83,7 +83,7 @@ module _ (W : World) (xs : List Base) (bases : BasesOk W xs) (g₀ : Graph) (v :
     known i (inl k) = gain-known gain i k
     known i (inr p) = named i p
 
-    updated : State W xs g′
+    pub updated : State W xs g′
     updated =
         update-inv W step (r .heads) (r .encounteredOverflow) (Ordinary (r .nestedGoals)) (available - r .requiredDepth) xs
         (λ i. Known (g₀ .stack) i ⊎ HasHead (r .heads) i) g (w .inv) room′ known
@@ -109,7 +109,15 @@ module _ (W : World) (xs : List Base) (bases : BasesOk W xs) (g₀ : Graph) (v :
       childReads (r .heads),
       record {
         gain = gain;
-        inv = record { here = updated .here; root = updated .root; frames = updated .frames; entries = updated .entries; cache = k };
+        inv =
+            record {
+              here = updated .here;
+              root = updated .root;
+              frames = updated .frames;
+              entries = updated .entries;
+              live = updated .live;
+              cache = k;
+            };
       },
       claimed,
     )
@@ -118,13 +126,13 @@ module _ (W : World) (xs : List Base) (bases : BasesOk W xs) (g₀ : Graph) (v :
     entry-ok : headsEmpty (r .heads) ≡ false → EntryOk W xs (Known s′) (newEntry g′ goal step r)
     entry-ok e = record { claims = w .claims; order = record { heads = w .heads; known = named; notEmpty = not-empty (r .heads) e } }
 
-    entered : (full : Bool) → headsEmpty (r .heads) ≡ false
+    entered : (full : Bool) → leb (2 * h .goals) (length (g .provisionalCache)) ≡ full → headsEmpty (r .heads) ≡ false
         → Settled (elim full [
           | true ↦ Stopped ProvisionalCacheFull
           | false ↦ Done (withProvisionalCache g′ (g .provisionalCache ++ (newEntry g′ goal step r ∷ []))) (r .result)
         ])
-    entered true e = inl refl
-    entered false e = (
+    entered true l e = inl refl
+    entered false l e = (
       childReads (r .heads),
       record {
         gain = gain;
@@ -134,6 +142,12 @@ module _ (W : World) (xs : List Base) (bases : BasesOk W xs) (g₀ : Graph) (v :
               root = updated .root;
               frames = updated .frames;
               entries = every-append (EntryOk W xs (Known s′)) (g .provisionalCache) (newEntry g′ goal step r) (updated .entries) (entry-ok e);
+              live =
+                  omega (
+                    arith,
+                    nleb→lt (2 * h .goals) (length (g .provisionalCache)) (of-false _ l),
+                    length-append (g .provisionalCache) (newEntry g′ goal step r ∷ []),
+                  );
               cache = updated .cache;
             };
       },
@@ -154,7 +168,7 @@ module _ (W : World) (xs : List Base) (bases : BasesOk W xs) (g₀ : Graph) (v :
           | false ↦ elim on [ true ↦ insertProvisionalCache h g′ goal step r | false ↦ Done g′ (r .result) ]
         ])
     kept on true e = slotted (leb (r .requiredDepth) (h .top)) refl e
-    kept true false e = entered (leb (2 * h .goals) (length (g .provisionalCache))) e
+    kept true false e = entered (leb (2 * h .goals) (length (g .provisionalCache))) refl e
     kept false false e = (childReads (r .heads), record { gain = gain; inv = updated }, claimed)
 
   after-task : (t : TaskOutcome) → TaskAfter W xs (g₀ .stack) goal available t → Settled (afterTask h goal step available t)
@@ -165,7 +179,7 @@ module _ (W : World) (xs : List Base) (bases : BasesOk W xs) (g₀ : Graph) (v :
   abbrev new : Frame
   new = newFrame (h .goals) goal step available
 
-  new-bases : Apart goal (goalsOf (g₀ .stack)) → BasesOk W (baseOf new ∷ xs)
+  pub new-bases : Apart goal (goalsOf (g₀ .stack)) → BasesOk W (baseOf new ∷ xs)
   new-bases apart = (
     record {
       result = λ a e n. clash (cc);
@@ -195,7 +209,7 @@ module _ (W : World) (xs : List Base) (bases : BasesOk W xs) (g₀ : Graph) (v :
         nested = length-replicate (h .goals) 0;
       }
 
-  pushed : State W (baseOf new ∷ xs) (withStack g₀ (new ∷ g₀ .stack))
+  pub pushed : State W (baseOf new ∷ xs) (withStack g₀ (new ∷ g₀ .stack))
   pushed =
       record {
         here = ap (λ (ys : List Base). baseOf new ∷ ys) (v .here);
@@ -204,6 +218,7 @@ module _ (W : World) (xs : List Base) (bases : BasesOk W xs) (g₀ : Graph) (v :
         entries =
             every-map (EntryOk W xs (Known (g₀ .stack))) (EntryOk W (baseOf new ∷ xs) (Known (new ∷ g₀ .stack)))
             under-new (g₀ .provisionalCache) (v .entries);
+        live = v .live;
         cache = v .cache;
       }
 
@@ -238,13 +253,14 @@ part-there [] g l e = omega arith
 part-there (p ∷ ps) zero l e = clash (cc)
 part-there (p ∷ ps) (suc g) l e = part-there ps g (omega arith) e
 
-part-is : (P : Part → Type 0) (ps : List Part) → EveryPart P ps → (g : ℕ) (p : Part) → partAt ps g ≡ some p → P p
+pub part-is : (P : Part → Type 0) (ps : List Part) → EveryPart P ps → (g : ℕ) (p : Part) → partAt ps g ≡ some p → P p
 part-is P [] v g p e = clash (cc)
 part-is P (q ∷ ps) v zero p e = let z : q ≡ p = cc in rw z at (v .0)
 part-is P (q ∷ ps) v (suc g) p e = part-is P ps (v .1) g p e
 
 -- the goal of the frame on top is one of the book's
-top-goal : (h : Header) (s : Stack) (x : Base) (xs : List Base) → basesOf s ≡ x ∷ xs → FramesInOrder h s → x .goal < h .goals
+pub top-goal : (h : Header) (s : Stack) (x : Base) (xs : List Base) → basesOf s ≡ x ∷ xs → FramesInOrder h s
+    → x .goal < h .goals
 top-goal h [] x xs e v = clash (cc)
 top-goal h (f ∷ fs) x xs e v = let z : baseOf f ≡ x = cc in subst (λ (y : Base). y .goal < h .goals) z (v .0 .goal)
 
@@ -274,11 +290,8 @@ compute-ok W xs evaluate ok x s g v =
     (partAt (W .book .parts) (x .goal)) refl
 
 -- with every goal on the stack nothing is computed
-distinct-goals : (W : World) (xs : List Base) → BasesOk W xs → Distinct (goalsIn xs)
-distinct-goals W [] v = tt
-distinct-goals W (x ∷ xs) v = (v .0 .apart, distinct-goals W xs (v .1))
-
-none-left : (W : World) (xs : List Base) → length xs ≡ W .book .header .goals → ComputesGoal W xs (λ input g. Stopped Unreachable)
+pub none-left : (W : World) (xs : List Base) → length xs ≡ W .book .header .goals
+    → ComputesGoal W xs (λ input g. Stopped Unreachable)
 none-left W xs e x s g v =
     absurd (omega (
       arith,
@@ -305,7 +318,7 @@ module _ (W : World) (xs : List Base) (bases : BasesOk W xs) (small : length xs 
       at-depth W xs bases g v (omega (arith, length-bases (g .stack), ap length (v .here))) goal l step available
       (depth-ok (W .book .header) (g .rootDepth) (g .stack) (v .root) (v .frames) lower available e) call compute ok
 
-  with-ok : EvalOk W xs (evaluateGoalWith (W .book .header) compute)
+  pub with-ok : EvalOk W xs (evaluateGoalWith (W .book .header) compute)
   with-ok g goal step lower v l call =
       from-depth g v goal l step lower call (allowedDepthForNested (W .book .header) (g .rootDepth) (g .stack) lower) refl
 

@@ -23,9 +23,10 @@ use Rattle.definition.specs.declared.format.Line.{Line}
 use Rattle.definition.specs.declared.paths.PathKind.{PathKind}
 use Rattle.definition.specs.declared.paths.PathKind.the-variants.{Inductive}
 use Rattle.definition.specs.declared.replies.Refusal.{Refusal}
-use Rattle.definition.specs.declared.replies.Refusal.the-variants.{Unreachable}
+use Rattle.definition.specs.declared.replies.Refusal.the-variants.{CacheConflict, ProvisionalCacheFull, Unreachable}
 use Rattle.definition.specs.declared.replies.Response.the-variants.{Refused}
-use Rattle.soundness.specs.Always.{Always, Apart, Distinct, Ends, EntryInOrder, Every, Expected, FinishesFrame, Follows, HasHead, HeadsOn, InOrder, Keeps, Known, NeverUnreachable, goalsOf}
+use Rattle.soundness.specs.Always.{Always, Apart, Conflict, Distinct, Ends, EntryInOrder, Every, Expected, FinishesFrame, Follows, Full, HasHead, HeadsOn, InOrder, Keeps, Known, NeverUnreachable, OnlyUnder, Passes, Run, goalsOf}
+use Rattle.soundness.specs.Trace.{traceGoal}
 use Rattle.soundness.specs.Statement.{EveryLine}
 use Rattle.definition.proofs.Tests.{and-left, and-right}
 use Rattle.soundness.proofs.Logic.{clash, of-true}
@@ -33,13 +34,15 @@ use Rattle.soundness.proofs.Support.{step}
 use Rattle.soundness.proofs.World.{BookOk, World}
 use Rattle.soundness.proofs.Counters.{Reads}
 use Rattle.soundness.proofs.Assumed.{Base, basesOf, length-bases}
-use Rattle.soundness.proofs.Inv.{After, BasesOk, EntryOk, State, goals-here, goalsIn, known-bound}
+use Rattle.soundness.proofs.Inv.{After, BasesOk, EntryOk, State, goals-here, goalsIn, in-order, known-bound}
 use Rattle.soundness.proofs.Parts.{Claims}
 use Rattle.soundness.proofs.Runs.{TaskAfter}
 use Rattle.soundness.proofs.Lookups.{find-at}
 use Rattle.soundness.proofs.Pigeons.{all-on-stack}
 use Rattle.soundness.proofs.Evaluate.{compute-ok, evaluate-ok, frame-ok}
-use Rattle.soundness.proofs.Reading.{book-read, never-rejected}
+use Rattle.soundness.proofs.Meets.{evaluate-meets}
+use Rattle.soundness.proofs.Refusals.{evaluate-run}
+use Rattle.soundness.proofs.Reading.{Early, book-read, book-rejected}
 use Rattle.soundness.proofs.Books.{any-book, anyKind}
 use Rattle.soundness.proofs.Queries.{Passed, passed}
 
@@ -69,33 +72,16 @@ module _ (b : Book) (ok : BookOk anyKind b) where
         root = v .root;
         frames = v .frames;
         entries = entries-ok (basesOf (g .stack)) (Known (g .stack)) (g .provisionalCache) (v .entries);
+        live = v .live;
         cache = record { order = v .cache; claims = λ goal slot l m t. tt };
       }
 
   -- ---- and back
-  order-of : (xs : List Base) (L : ℕ → Type 0) (es : List Entry) → Every (EntryOk W xs L) es → Every (EntryInOrder (b .header) L) es
-  unfolding any-book
-  order-of xs L [] v = tt
-  order-of xs L (e ∷ es) v = (v .0 .order, order-of xs L es (v .1))
-
-  in-order : (xs : List Base) (g : Graph) → State W xs g → Distinct (goalsIn xs) → InOrder (b .header) g
-  unfolding any-book
-  in-order xs g v d =
-      record {
-        root = v .root;
-        frames = v .frames;
-        distinct = subst (λ (l : List ℕ). Distinct l) (goals-here (g .stack) xs (v .here)) d;
-        entries = order-of xs (Known (g .stack)) (g .provisionalCache) (v .entries);
-        cache = v .cache .order;
-      }
-
-  distinct-bases : (s : Stack) → Distinct (goalsOf s) → Distinct (goalsIn (basesOf s))
-  distinct-bases s d = subst (λ (l : List ℕ). Distinct l) (sym (goals-here s (basesOf s) refl)) d
-
   after-keeps : (g : Graph) → InOrder (b .header) g → (P : Reads → Answer → Type 0) (o : Outcome) → After W (basesOf (g .stack)) g P o
       → Keeps (b .header) g o
+  unfolding any-book
   after-keeps g v P (Done g′ a) (d, s, p) = (
-    in-order (basesOf (g .stack)) g′ (s .inv) (distinct-bases (g .stack) (v .distinct)),
+    in-order W (basesOf (g .stack)) (bases-ok (g .stack) (v .distinct)) g′ (s .inv),
     sym (goals-here (g′ .stack) (basesOf (g .stack)) (s .inv .here)) ∙ goals-here (g .stack) (basesOf (g .stack)) refl,
   )
   after-keeps g v P (Stopped r) t = t
@@ -108,6 +94,15 @@ module _ (b : Book) (ok : BookOk anyKind b) where
       after-keeps g v (Claims W (basesOf (g .stack)) goal) (evaluateGoal b off g goal step lower)
       (evaluate-ok W off (basesOf (g .stack)) (bases-ok (g .stack) (v .distinct)) (omega (arith, length-bases (g .stack))) g goal step lower
       (inv-of g v) l (λ z. tt))
+
+  meets-in-order : (off : ℕ) (g : Graph) (goal : ℕ) (step : PathKind) (lower : Bool) → InOrder (b .header) g
+      → length (g .stack) + off ≡ b .header .goals → goal < b .header .goals
+      → Run (b .header) (traceGoal b off g goal step lower) (evaluateGoal b off g goal step lower)
+  unfolding any-book
+  meets-in-order off g goal step lower v e l =
+      evaluate-run b off g goal step lower
+      (evaluate-meets W off (basesOf (g .stack)) (bases-ok (g .stack) (v .distinct))
+      (omega (arith, length-bases (g .stack))) g goal step lower (inv-of g v) l (λ z. tt))
 
   -- ---- a frame
   entries-on : (n : ℕ) (xs : List Base) (L : ℕ → Type 0) → ((i : ℕ) → L i → i < n) → (es : List Entry) → Every (EntryOk W xs L) es
@@ -150,7 +145,7 @@ module _ (b : Book) (ok : BookOk anyKind b) where
       → InOrder (b .header) (newGraph depth cache)
   starts-in-order cache work goal depth e =
       let p : Passed (b .header) cache goal depth = passed b cache work goal depth e in
-      record { root = p .shallow; frames = tt; distinct = tt; entries = tt; cache = p .order }
+      record { root = p .shallow; frames = tt; distinct = tt; entries = tt; live = omega arith; cache = p .order }
 
 -- ---- what follows of a state in order
 known-entries : (h : Header) (s : Stack) (es : List Entry) → Every (EntryInOrder h (Known s)) es → Every (HeadsOn (length s)) es
@@ -207,11 +202,15 @@ always-in-order b ok =
     record {
       starts = starts-in-order b ok;
       keeps = keeps-order b ok;
+      meets = meets-in-order b ok;
       finishes = finishes-frame b ok;
       ends = λ cache work goal depth e.
           ends-of (b .header) (newGraph depth cache) refl (evaluateRoot b cache goal depth)
           (keeps-order b ok (b .header .goals) (newGraph depth cache) goal Inductive true (starts-in-order b ok cache work goal depth e)
           (omega arith) (passed b cache work goal depth e .inside));
+      runs = λ cache work goal depth e.
+          meets-in-order b ok (b .header .goals) (newGraph depth cache) goal Inductive true
+          (starts-in-order b ok cache work goal depth e) (omega arith) (passed b cache work goal depth e .inside);
     }
 
 -- ---- the query
@@ -222,58 +221,63 @@ any-line (l ∷ ls) = (tt, any-line ls)
 pub any-read : (bytes : List ℕ) (b : Book) → readBook bytes ≡ Accepted b → BookOk anyKind b
 any-read bytes b e = book-read anyKind (λ l. Unit {0}) (λ n l p c i. (i, tt)) bytes b e (λ ls f. any-line ls)
 
+-- a refusal that is not early comes of the evaluation
+abbrev AllEarly : List Check → Type 0
+AllEarly [] = Unit {0}
+AllEarly (c ∷ cs) = Early (c .otherwise) × AllEarly cs
+
+failed-early : (cs : List Check) → AllEarly cs → (r : Refusal) → firstFailed cs ≡ some r → Early r
+failed-early [] h r e = clash (cc)
+failed-early (c ∷ cs) h r e = one (c .passed) (failed-early cs (h .1) r) e
+  where
+    one : (t : Bool) → (firstFailed cs ≡ some r → Early r)
+        → _≡_ {A = Option Refusal} (elim t [ true ↦ firstFailed cs | false ↦ some (c .otherwise) ]) (some r) → Early r
+    one true ih e = ih e
+    one false ih e = let z : c .otherwise ≡ r = cc in rw z at (h .0)
+
+abbrev Refuses : Refusal → Reply → Type 0
+Refuses r x = x .response ≡ Refused r
+
+module _ (r : Refusal) (late : Early r → ⊥) (cache work : List ℕ) (goal depth : ℕ) where
+  of-outcome : (o : Outcome) → Refuses r (replyOf cache work o) → o ≡ Stopped r
+  of-outcome (Done g a) z = clash (cc)
+  of-outcome (Stopped q) z = cc
+
+  of-checks : (b : Book) (o : Option Refusal) → firstFailed (checks b cache work goal depth) ≡ o
+      → Refuses r
+      (elim o [ some q ↦ untouched q cache work | none ↦ replyOf cache work (evaluateRoot b cache goal depth) ])
+      → Passes b cache work goal depth × (evaluateRoot b cache goal depth ≡ Stopped r)
+  of-checks b none e z = (e, of-outcome (evaluateRoot b cache goal depth) z)
+  of-checks b (some q) e z =
+      let w : q ≡ r = cc in
+      absurd (late (failed-early (checks b cache work goal depth) (tt, (tt, (tt, (tt, (tt, tt))))) r (e ∙ ap some w)))
+
+  of-book : (bytes : List ℕ) (o : BookRead) → readBook bytes ≡ o
+      → Refuses r (elim o [ Rejected q ↦ untouched q cache work | Accepted b ↦ queryBook b cache work goal depth ])
+      → (b : Book) × (readBook bytes ≡ Accepted b) × Passes b cache work goal depth
+      × (evaluateRoot b cache goal depth ≡ Stopped r)
+  of-book bytes (Accepted b) e z =
+      let (p, s) = of-checks b (firstFailed (checks b cache work goal depth)) refl z in (b, e, p, s)
+  of-book bytes (Rejected q) e z =
+      let w : q ≡ r = cc in
+      absurd (late
+      (rw w at (book-rejected anyKind (λ l. Unit {0}) (λ n l p c i. (i, tt)) bytes q e (λ ls f. any-line ls))))
+
 not-expected : (r : Refusal) → Expected r → r ≢ Unreachable
 not-expected r (inl e) z = clash (cc)
 not-expected r (inr e) z = clash (cc)
 
-ended : (cache work : List ℕ) (o : Outcome) → Ends o → replyOf cache work o .response ≢ Refused Unreachable
-ended cache work (Done g a) v z = clash (cc)
-ended cache work (Stopped r) v z = not-expected r v (cc)
-
-abbrev Reachable : List Check → Type 0
-Reachable [] = Unit {0}
-Reachable (c ∷ cs) = (c .otherwise ≢ Unreachable) × Reachable cs
-
-checked : (cs : List Check) → Reachable cs → firstFailed cs ≢ some Unreachable
-checked [] h e = clash (cc)
-checked (c ∷ cs) h e = one (c .passed) (checked cs (h .1)) e
-  where
-    one : (t : Bool) → firstFailed cs ≢ some Unreachable → elim t [ true ↦ firstFailed cs | false ↦ some (c .otherwise) ] ≢ some Unreachable
-    one true ih e = ih e
-    one false ih e = h .0 (cc)
-
--- the five refusals before the evaluation
-checks-reachable : (b : Book) (cache work : List ℕ) (goal depth : ℕ) → Reachable (checks b cache work goal depth)
-checks-reachable b cache work goal depth = (
-  λ e. clash (cc),
-  (
-    λ e. clash (cc),
-    (
-      λ e. clash (cc),
-      (
-        λ e. clash (cc),
-        (λ e. clash (cc), tt),
-      ),
-    ),
-  ),
-)
-
-abbrev Reaches : Reply → Type 0
-Reaches r = r .response ≢ Refused Unreachable
-
-query-reaches : (b : Book) → Always b → (cache work : List ℕ) (goal depth : ℕ) (o : Option Refusal) → firstFailed (checks b cache work goal depth) ≡ o
-    → Reaches (elim o [ some r ↦ untouched r cache work | none ↦ replyOf cache work (evaluateRoot b cache goal depth) ])
-query-reaches b v cache work goal depth none e z = ended cache work (evaluateRoot b cache goal depth) (v .ends cache work goal depth e) z
-query-reaches b v cache work goal depth (some r) e z =
-    let w : r ≡ Unreachable = cc in
-    checked (checks b cache work goal depth) (checks-reachable b cache work goal depth) (e ∙ ap some w)
-
-read-reaches : (bytes cache work : List ℕ) (goal depth : ℕ) (o : BookRead) → readBook bytes ≡ o
-    → Reaches (elim o [ Rejected r ↦ untouched r cache work | Accepted b ↦ queryBook b cache work goal depth ])
-read-reaches bytes cache work goal depth (Accepted b) e z =
-    query-reaches b (always-in-order b (any-read bytes b e)) cache work goal depth (firstFailed (checks b cache work goal depth)) refl z
-read-reaches bytes cache work goal depth (Rejected r) e z =
-    never-rejected anyKind (λ l. Unit {0}) (λ n l p c i. (i, tt)) bytes r e (λ ls f. any-line ls) (cc)
-
 pub query-never-unreachable : NeverUnreachable
-query-never-unreachable bytes cache work goal depth = read-reaches bytes cache work goal depth (readBook bytes) refl
+query-never-unreachable bytes cache work goal depth z =
+    let (b, e, p, s) = of-book Unreachable (λ t. t) cache work goal depth bytes (readBook bytes) refl z in
+    not-expected Unreachable (rw s at (always-in-order b (any-read bytes b e) .ends cache work goal depth p)) refl
+
+pub only-when-full : OnlyUnder ProvisionalCacheFull Full
+only-when-full bytes cache work goal depth z =
+    let (b, e, p, s) = of-book ProvisionalCacheFull (λ t. t) cache work goal depth bytes (readBook bytes) refl z in
+    (b, e, p, always-in-order b (any-read bytes b e) .runs cache work goal depth p .full s)
+
+pub only-on-conflict : OnlyUnder CacheConflict Conflict
+only-on-conflict bytes cache work goal depth z =
+    let (b, e, p, s) = of-book CacheConflict (λ t. t) cache work goal depth bytes (readBook bytes) refl z in
+    (b, e, p, always-in-order b (any-read bytes b e) .runs cache work goal depth p .conflict s)

@@ -2,8 +2,8 @@
 use mathlib.Core.List.{List, [], _∷_}
 use mathlib.Core.Logic.{_≢_, inl, inr}
 use mathlib.Core.Option.{Option, none, some}
-use mathlib.Core.Path.{_∙_, _≡_, ap, refl, sym}
-use Prim.Native.Nat.{_+_, _<_, _≤_, min, ℕ}
+use mathlib.Core.Path.{_∙_, _≡_, ap, refl, subst, sym}
+use Prim.Native.Nat.{_*_, _+_, _<_, _≤_, min, ℕ}
 use native.Mathlib.Omega.{arith}
 use lib.Dec.{T}
 use lib.ListN.{getD, length}
@@ -16,7 +16,7 @@ use Rattle.definition.specs.Usages.{counterLimit, noUsages}
 use Rattle.definition.specs.declared.answers.Answer.{Answer}
 use Rattle.definition.specs.declared.paths.PathKind.{PathKind}
 use Rattle.definition.specs.declared.usages.HeadUsages.{HeadUsages}
-use Rattle.soundness.specs.Always.{Apart, CacheInOrder, EntryInOrder, Every, Expected, FramesInOrder, HasHead, IsHead, Known, goalsOf}
+use Rattle.soundness.specs.Always.{Apart, CacheInOrder, Distinct, EntryInOrder, Every, Expected, FramesInOrder, HasHead, InOrder, IsHead, Known, goalsOf}
 use Rattle.soundness.proofs.Logic.{nobody}
 use Rattle.soundness.proofs.World.{World}
 use Rattle.soundness.proofs.Counters.{Reads, counter}
@@ -70,11 +70,33 @@ pub record Inv (W : World) (xs : List Base) (L : ℕ → Type 0) (g : Graph) : T
   pub root : g .rootDepth ≤ W .book .header .top
   pub frames : FramesInOrder (W .book .header) (g .stack)
   pub entries : Every (EntryOk W xs L) (g .provisionalCache)
+  pub live : length (g .provisionalCache) ≤ 2 * W .book .header .goals
   pub cache : CacheOk W (g .globalCache)
 
 -- an entry may name what the stack says is a head
 abbrev pub State : World → List Base → Graph → Type 0
 State W xs g = Inv W xs (Known (g .stack)) g
+
+-- a state of the invariant is in order
+pub distinct-goals : (W : World) (xs : List Base) → BasesOk W xs → Distinct (goalsIn xs)
+distinct-goals W [] v = tt
+distinct-goals W (x ∷ xs) v = (v .0 .apart, distinct-goals W xs (v .1))
+
+entries-in-order : (W : World) (xs : List Base) (L : ℕ → Type 0) (es : List Entry) → Every (EntryOk W xs L) es
+    → Every (EntryInOrder (W .book .header) L) es
+entries-in-order W xs L [] v = tt
+entries-in-order W xs L (e ∷ es) v = (v .0 .order, entries-in-order W xs L es (v .1))
+
+pub in-order : (W : World) (xs : List Base) → BasesOk W xs → (g : Graph) → State W xs g → InOrder (W .book .header) g
+in-order W xs bases g v =
+    record {
+      root = v .root;
+      frames = v .frames;
+      distinct = subst (λ (l : List ℕ). Distinct l) (goals-here (g .stack) xs (v .here)) (distinct-goals W xs bases);
+      entries = entries-in-order W xs (Known (g .stack)) (g .provisionalCache) (v .entries);
+      live = v .live;
+      cache = v .cache .order;
+    }
 
 -- ---- what a step promises
 abbrev pub trackedIn : Option (List HeadUsages) → Reads

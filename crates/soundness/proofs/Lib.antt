@@ -13,6 +13,7 @@ pub mod HeadLaws
 pub mod Inv
 pub mod Logic
 pub mod Lookups
+pub mod Meets
 pub mod Parts
 pub mod Pigeons
 pub mod Queries
@@ -21,10 +22,12 @@ pub mod Rebase
 pub mod Refusals
 pub mod Runs
 pub mod Sample
+pub mod SampleTrace
 pub mod Settle
 pub mod Slots
 pub mod Steps
 pub mod Support
 pub mod Theorems
+pub mod Traces
 pub mod Update
 pub mod World

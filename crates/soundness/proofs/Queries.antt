@@ -53,15 +53,22 @@ pub record Passed (h : Header) (cache : List ℕ) (goal depth : ℕ) : Type 0 wh
   pub shallow : depth ≤ h .top
   pub order : CacheInOrder h cache
 
--- the form of a slot says its depth
+vacant : (s : List ℕ) → T (allAtMost 0 s) → T (slotHeld s) → ⊥
+vacant [] v u = u
+vacant (x ∷ xs) v u = omega (arith, leb→le x 0 (and-left (leb x 0) (allAtMost 0 xs) v), eqb→eq x 1 u)
+
+-- the form of a slot says that its result is an answer
+answer-fits : (h : Header) (k : ℕ) (s : List ℕ) → T (slotFits h k s) → T (slotHeld s) → getD s 1 0 ≤ 3
+answer-fits h k s t u =
+    or-cases (allAtMost 0 s)
+    (eqb (getD s 0 0) 1 && leb (getD s 1 0) 3 && depthFits h k (slotDepth s) && allAtMost 31 (slotNested s))
+    (λ v. absurd (vacant s v u)) (λ v. leb→le (getD s 1 0) 3 (search (and-left, and-right))) t
+
+-- and its depth
 pub depth-fits : (h : Header) (k : ℕ) (s : List ℕ) → T (slotFits h (suc k) s) → T (slotHeld s) → slotDepth s ≡ k
 depth-fits h k s t u =
     or-cases (allAtMost 0 s) (eqb (getD s 0 0) 1 && leb (getD s 1 0) 3 && depthFits h (suc k) (slotDepth s) && allAtMost 31 (slotNested s))
     (λ v. absurd (vacant s v u)) (λ v. eqb→eq (slotDepth s) k (search (and-left, and-right))) t
-  where
-    vacant : (s : List ℕ) → T (allAtMost 0 s) → T (slotHeld s) → ⊥
-    vacant [] v u = u
-    vacant (x ∷ xs) v u = omega (arith, leb→le x 0 (and-left (leb x 0) (allAtMost 0 xs) v), eqb→eq x 1 u)
 
 slots-fit : (h : Header) (cache : List ℕ) (goal m k : ℕ) → T (slotsFit h cache goal m) → k < m → T (slotFits h k (slotAt h cache goal k))
 slots-fit h cache goal zero k t l = absurd (omega arith)
@@ -86,6 +93,9 @@ cache-order : (h : Header) (cache : List ℕ) → length cache ≡ cacheLength h
 cache-order h cache e t =
     record {
       size = e;
+      answers = λ goal slot l m u.
+          answer-fits h slot (slotAt h cache goal slot)
+          (slots-fit h cache goal (slotsPerGoal h) slot (goals-slots h cache (h .goals) goal t l) m) u;
       depths = λ goal k l m u.
           subst (λ (s : ℕ). T (slotHeld (slotAt h cache goal s)) → slotDepth (slotAt h cache goal s) ≡ k) (sym (add-one k))
           (depth-fits h k (slotAt h cache goal (suc k))
@@ -120,7 +130,14 @@ module _ (W : World) where
       → After W [] (newGraph depth cache) (Claims W [] goal) (evaluateRoot (W .book) cache goal depth)
   root-ok cache goal depth p v =
       evaluate-ok W (W .book .header .goals) [] tt (omega arith) (newGraph depth cache) goal Inductive true
-      (record { here = refl; root = p .shallow; frames = tt; entries = tt; cache = record { order = p .order; claims = v .fits (p .order .size) } })
+      (record {
+        here = refl;
+        root = p .shallow;
+        frames = tt;
+        entries = tt;
+        live = omega arith;
+        cache = record { order = p .order; claims = v .fits (p .order .size) };
+      })
       (p .inside) (λ l. absurd (omega arith))
 
   module _ (set : Bool → Goals) (judged : Judges W set) where

@@ -1,7 +1,6 @@
 -- A book that was read: what holds of its lines gives what holds of its calls.
 use mathlib.Core.Bool.{Bool, _&&_, false, true}
 use mathlib.Core.List.{List, [], _∷_}
-use mathlib.Core.Logic.{_≢_}
 use mathlib.Core.Option.{Option, none, some}
 use mathlib.Core.Path.{_≡_, ap, refl}
 use Prim.Native.Nat.{_/_, _<_, suc, zero, ℕ}
@@ -9,6 +8,7 @@ use native.Mathlib.Nat.{div-add-mod', mod-lt}
 use native.Mathlib.Omega.{arith}
 use lib.Dec.{T, eqb, leb, leb→le, ltb, ltb→lt}
 use lib.ListN.{drop, length, take}
+use Rattle.definition.specs.Answers.{refusalNumber}
 use Rattle.definition.specs.Line.{readLine, readLines}
 use Rattle.definition.specs.Part.{All, Any, Book, Call, Op, Part, Pick, Then, UndecidedLine}
 use Rattle.definition.specs.Paths.{kindOf}
@@ -17,7 +17,7 @@ use Rattle.definition.specs.declared.format.Header.{Header}
 use Rattle.definition.specs.declared.format.Line.{Line}
 use Rattle.definition.specs.declared.paths.PathKind.{PathKind}
 use Rattle.definition.specs.declared.replies.Refusal.{Refusal}
-use Rattle.definition.specs.declared.replies.Refusal.the-variants.{BookBody, BookHeader, BookLength, BookLine, Unreachable}
+use Rattle.definition.specs.declared.replies.Refusal.the-variants.{BookBody, BookHeader, BookLength, BookLine}
 use Rattle.soundness.specs.Statement.{EveryLine}
 use Rattle.definition.proofs.Tests.{and-left, and-right}
 use Rattle.soundness.proofs.Logic.{clash, of-true}
@@ -157,20 +157,25 @@ enough n t = omega (arith, leb→le 48 n long, div-add-mod' n 16, mod-lt n {m = 
     long = search (and-left, and-right)
 
 -- ---- the book
+
+-- a refusal that comes before the evaluation
+abbrev pub Early : Refusal → Type 0
+Early r = T (leb (refusalNumber r) 9)
+
 module _ (allowed : PathKind → Bool) (P : Line → Type 0)
     (one : (n : ℕ) (l : Line) → P l → l .code ≡ 2 → l .first < n → CallOk allowed n (l .first) (kindOf (l .second))) where
   abbrev ReadOk : BookRead → Type 0
   ReadOk (Accepted b) = BookOk allowed b
-  ReadOk (Rejected r) = r ≢ Unreachable
+  ReadOk (Rejected r) = Early r
 
   end-ok : (h : Header) (ps : TakenGoals) → length (ps .parts) ≡ h .goals → EveryPart (Calls (CallOk allowed (h .goals))) (ps .parts)
       → (ls : List Line) → ReadOk (endOfBody h ps ls)
   end-ok h ps e v [] = record { whole = e; calls = v }
-  end-ok h ps e v (l ∷ ls) = λ z. clash (cc)
+  end-ok h ps e v (l ∷ ls) = tt
 
   body-one : (h : Header) (o : Option TakenGoals) → SomeGoals (h .goals) P (CallOk allowed (h .goals)) (one (h .goals)) (h .goals) o
       → ReadOk (elim o [ none ↦ Rejected BookBody | some ps ↦ endOfBody h ps (ps .rest) ])
-  body-one h none v = λ z. clash (cc)
+  body-one h none v = tt
   body-one h (some ps) v = end-ok h ps (v .0) (v .1) (ps .rest)
 
   header-one : (l : Line) (ls : List Line) → EveryLine P ls → (t : Bool)
@@ -178,18 +183,18 @@ module _ (allowed : PathKind → Bool) (P : Line → Type 0)
   header-one l ls v true =
       body-one (headerOf l) (readGoals (l .first) 0 (l .first) ls)
       (goals-ok (l .first) P (CallOk allowed (l .first)) (one (l .first)) (l .first) 0 ls v)
-  header-one l ls v false = λ z. clash (cc)
+  header-one l ls v false = tt
 
   lines-ok : (bytes : List ℕ) → T (lengthInRange (length bytes)) → (o : Option (List Line)) → linesOf bytes ≡ o
       → ((ls : List Line) → o ≡ some ls → EveryLine P ls)
       → ReadOk (elim o [ none ↦ Rejected BookLine | some ls ↦ readHeader ls ])
-  lines-ok bytes t none e v = λ z. clash (cc)
+  lines-ok bytes t none e v = tt
   lines-ok bytes t (some []) e v = absurd (has-lines (length bytes / 16) bytes (enough (length bytes) t) e)
   lines-ok bytes t (some (l ∷ ls)) e v = header-one l ls (v (l ∷ ls) refl .1) (headerInRange l)
 
   length-ok : (bytes : List ℕ) → ((ls : List Line) → linesOf bytes ≡ some ls → EveryLine P ls) → (t : Bool) → lengthInRange (length bytes) ≡ t
       → ReadOk (elim t [ false ↦ Rejected BookLength | true ↦ elim (linesOf bytes) [ none ↦ Rejected BookLine | some ls ↦ readHeader ls ] ])
-  length-ok bytes v false e = λ z. clash (cc)
+  length-ok bytes v false e = tt
   length-ok bytes v true e = lines-ok bytes (of-true _ e) (linesOf bytes) refl v
 
   read-ok : (bytes : List ℕ) → ((ls : List Line) → linesOf bytes ≡ some ls → EveryLine P ls) → ReadOk (readBook bytes)
@@ -200,6 +205,6 @@ module _ (allowed : PathKind → Bool) (P : Line → Type 0)
       → BookOk allowed b
   book-read bytes b e v = rw e at (read-ok bytes v)
 
-  pub never-rejected : (bytes : List ℕ) (r : Refusal) → readBook bytes ≡ Rejected r → ((ls : List Line) → linesOf bytes ≡ some ls → EveryLine P ls)
-      → r ≢ Unreachable
-  never-rejected bytes r e v = rw e at (read-ok bytes v)
+  pub book-rejected : (bytes : List ℕ) (r : Refusal) → readBook bytes ≡ Rejected r
+      → ((ls : List Line) → linesOf bytes ≡ some ls → EveryLine P ls) → Early r
+  book-rejected bytes r e v = rw e at (read-ok bytes v)

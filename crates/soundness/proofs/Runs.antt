@@ -1,17 +1,17 @@
 -- A pushed frame: its runs, until it is popped for good.
 use mathlib.Core.Bool.{Bool}
-use mathlib.Core.List.{List, _∷_}
+use mathlib.Core.List.{List, [], _∷_}
 use mathlib.Core.Logic.{_⊎_, inl, inr}
 use mathlib.Core.Option.{Option, none, some}
 use mathlib.Core.Path.{_∙_, _≡_, ap, refl, sym}
-use Prim.Native.Nat.{_<_, _≤_, suc, zero, ℕ}
+use Prim.Native.Nat.{_*_, _<_, _≤_, suc, zero, ℕ}
 use native.Mathlib.Omega.{arith}
 use lib.Dec.{T}
 use lib.ListN.{length}
 use Rattle.definition.specs.Graph.{Done, Entry, EvaluationResult, Graph, Outcome, Stopped, finalize, withStack}
 use Rattle.definition.specs.Parent.{orNoUsages}
 use Rattle.definition.specs.Stack.{Frame, Stack}
-use Rattle.definition.specs.Task.{Evaluated, Finish, Next, Rebase, Rerun, TaskOutcome, TaskStopped, endIteration, evaluateGoalInTask, iteration, nextOf, nextOfHead, popped, pushRerun, rebased, rerunFrame, stepLimitReached}
+use Rattle.definition.specs.Task.{Evaluated, Finish, Next, Rebase, Rerun, TaskOutcome, TaskStopped, endIteration, evaluateGoalInTask, iteration, nextOf, nextOfHead, pushRerun, rebased, rerunFrame, stepLimitReached}
 use Rattle.definition.specs.Usages.{noUsages}
 use Rattle.definition.specs.declared.answers.Answer.{Answer}
 use Rattle.definition.specs.declared.answers.Answer.the-variants.{Overflow}
@@ -19,16 +19,18 @@ use Rattle.definition.specs.declared.answers.RebaseReason.{RebaseReason}
 use Rattle.definition.specs.declared.answers.RebaseReason.the-variants.{Ambiguity}
 use Rattle.definition.specs.declared.paths.PathKind.{PathKind}
 use Rattle.definition.specs.declared.usages.HeadUsages.{HeadUsages}
-use Rattle.soundness.specs.Always.{Every, Expected, FrameInOrder, FramesInOrder, HasHead, Known}
+use Rattle.soundness.specs.Always.{EventInOrder, Every, Expected, FrameInOrder, FramesInOrder, HasHead, Known}
+use Rattle.soundness.specs.Trace.{MeetsOnly, Trace, after, traceNext, traceTask}
 use Rattle.soundness.proofs.Logic.{nobody}
+use Rattle.soundness.proofs.Traces.{only-append}
 use Rattle.soundness.proofs.World.{World}
 use Rattle.soundness.proofs.Counters.{Reads, counter, counter-none, limit-positive}
 use Rattle.soundness.proofs.Assumed.{A, Base, Within, assumes-none, baseOf, basesOf, length-bases}
-use Rattle.soundness.proofs.Inv.{After, BasesOk, CacheOk, EntryOk, Gain, Inv, State, readsOf, top-gains}
+use Rattle.soundness.proofs.Inv.{After, BasesOk, CacheOk, EntryOk, Gain, Inv, State, Step, readsOf, top-gains}
 use Rattle.soundness.proofs.Steps.{every-map}
 use Rattle.soundness.proofs.Parts.{RightGoal}
 use Rattle.soundness.proofs.Settle.{Turn, Why, again, ends, mixed, settled, turn, without}
-use Rattle.soundness.proofs.Rebase.{Rest, finished, rebased-ok, survivors-ok}
+use Rattle.soundness.proofs.Rebase.{Rest, finished, rebased-fewer, rebased-ok, survivors-fewer, survivors-ok}
 
 -- what is known when the frame on fs is popped for good
 pub record Finished (W : World) (xs : List Base) (fs : Stack) (goal available : ℕ) (g : Graph) (r : EvaluationResult) : Type 0 where
@@ -50,6 +52,15 @@ ComputesGoal W xs compute =
     (x : Base) → BasesOk W (x ∷ xs) → (g : Graph) → State W (x ∷ xs) g
     → After W (x ∷ xs) g (RightGoal W (x ∷ xs) (x .goal)) (compute (x .goal) g)
 
+-- every event of a trace is in order
+abbrev pub Ordered : World → Trace → Type 0
+Ordered W = MeetsOnly (EventInOrder (W .book .header))
+
+-- what `traceCompute` promises
+abbrev pub TracesGoal : World → List Base → (ℕ → Graph → Trace) → Type 0
+TracesGoal W xs trace =
+    (x : Base) → BasesOk W (x ∷ xs) → (g : Graph) → State W (x ∷ xs) g → Ordered W (trace (x .goal) g)
+
 module _ (W : World) (xs : List Base) (fs : Stack) (goal available : ℕ) (here : basesOf fs ≡ xs) (small : length xs ≤ W .book .header .goals)
     (framesOk : FramesInOrder (W .book .header) fs) where
   len : length fs ≡ length xs
@@ -67,6 +78,7 @@ module _ (W : World) (xs : List Base) (fs : Stack) (goal available : ℕ) (here 
     frame : FrameInOrder (W .book .header) (length fs) f
     root : g .rootDepth ≤ W .book .header .top
     entries : Every (EntryOk W (x ∷ xs) (Known (f ∷ fs))) (g .provisionalCache)
+    live : length (g .provisionalCache) ≤ 2 * W .book .header .goals
     cache : CacheOk W (g .globalCache)
     reads : Reads
     under : Within (length xs) reads (readsOf (f .heads))
@@ -75,9 +87,10 @@ module _ (W : World) (xs : List Base) (fs : Stack) (goal available : ℕ) (here 
 
   finish : (x : Base) (f : Frame) (g : Graph) (a : Answer) → Ran x f g a → (o : Bool) (r : Answer) (es : List Entry)
       → T (W .claim r (A W xs (readsOf (f .heads))) (x .goal)) → Every (EntryOk W xs (Rest W x xs f fs len)) es
+      → length es ≤ length (g .provisionalCache)
       → Finished W xs fs goal available (record { rootDepth = g .rootDepth; stack = fs; provisionalCache = es; globalCache = g .globalCache })
       (finalize f o r)
-  finish x f g a v o r es c w =
+  finish x f g a v o r es c w l =
       record {
         stack = refl;
         claims = rw (v .isGoal) at c;
@@ -85,7 +98,15 @@ module _ (W : World) (xs : List Base) (fs : Stack) (goal available : ℕ) (here 
         below = v .frame .below;
         nested = v .frame .nested;
         required = omega (arith, v .isDepth, ap (λ (y : Base). y .depth) (v .same));
-        inv = record { here = here; root = v .root; frames = framesOk; entries = w; cache = v .cache };
+        inv =
+            record {
+              here = here;
+              root = v .root;
+              frames = framesOk;
+              entries = w;
+              live = omega (arith, v .live);
+              cache = v .cache;
+            };
       }
 
   not-a-head : (x : Base) (f : Frame) (g : Graph) (a : Answer) (o : Bool) → Ran x f g a → f .usages ≡ none
@@ -94,13 +115,48 @@ module _ (W : World) (xs : List Base) (fs : Stack) (goal available : ℕ) (here 
       finish x f g a v o a (g .provisionalCache)
       (without W x xs (v .reads) (readsOf (f .heads)) noUsages a (v .under) (rw e at (v .top)) (v .right)
       (assumes-none (W .start (x .goal)) (x .provisional) (counter noUsages) counter-none))
-      (every-map _ _ (λ y w. finished W x xs f fs len y w e) (g .provisionalCache) (v .entries))
+      (every-map _ _ (λ y w. finished W x xs f fs len y w e) (g .provisionalCache) (v .entries)) (omega arith)
 
   rebase : (x : Base) (f : Frame) (g : Graph) (a : Answer) (o : Bool) → Ran x f g a → (u : HeadUsages) (reason : RebaseReason) (r : Answer)
       → Why (x .provisional) u r reason
       → T (W .claim r (A W xs (readsOf (f .heads))) (x .goal)) → Task (rebased (withStack g fs) f reason o r)
   rebase x f g a o v u reason r w c =
       finish x f g a v o r _ c (rebased-ok W x xs f fs len reason u r w small c (g .provisionalCache) (v .entries))
+      (rebased-fewer fs f reason (g .provisionalCache))
+
+  -- a run from g₀, whose stack has f₀ on fs, ends in g
+  abbrev Popped : Base → Graph → Stack → Answer → Type 0
+  Popped x g s a = (f : Frame) × (s ≡ f ∷ fs) × Ran x f g a
+
+  popped-ran : (x : Base) (f₀ : Frame) {s : Stack} {d : Reads} (g : Graph) (a : Answer)
+      → x .goal ≡ goal → x .depth ≡ available → BasesOk W (x ∷ xs) → Gain (f₀ ∷ fs) s d
+      → Inv W (x ∷ xs) (Known s) g → basesOf s ≡ x ∷ xs → FramesInOrder (W .book .header) s
+      → RightGoal W (x ∷ xs) (x .goal) d a → Popped x g s a
+  popped-ran x f₀ g a i j v (top-gains {f′ = f} {d = d} t) inv h fr r = (
+    f,
+    refl,
+    record {
+      isGoal = i;
+      isDepth = j;
+      bases = v;
+      same = (cc);
+      frame = fr .0;
+      root = inv .root;
+      entries = inv .entries;
+      live = inv .live;
+      cache = inv .cache;
+      reads = d;
+      under = λ m k l z. omega (arith, limit-positive, t .heads m k (omega (arith, len)));
+      top = λ k z. omega (arith, limit-positive, t .usages k, ap (λ (n : ℕ). d n k) len);
+      right = r;
+    },
+  )
+
+  ran : (x : Base) (f₀ : Frame) (g₀ g : Graph) (a : Answer) (d : Reads)
+      → x .goal ≡ goal → x .depth ≡ available → BasesOk W (x ∷ xs)
+      → g₀ .stack ≡ f₀ ∷ fs → Step W (x ∷ xs) g₀ g d → RightGoal W (x ∷ xs) (x .goal) d a → Popped x g (g .stack) a
+  ran x f₀ g₀ g a d i j v st s r =
+      popped-ran x f₀ g a i j v (rw st at (s .gain)) (s .inv) (s .inv .here) (s .inv .frames) r
 
   RerunOk : (Bool → Graph → Frame → Answer → TaskOutcome) → Type 0
   RerunOk more = (o : Bool) (x : Base) (f : Frame) (g : Graph) (a : Answer) → Ran x f g a → Task (more o (withStack g fs) f a)
@@ -126,34 +182,11 @@ module _ (W : World) (xs : List Base) (fs : Stack) (goal available : ℕ) (here 
         turn-ok x f g a o v u e _ (turn (f .provisionalResult) u a)
         (ap (λ (w : Option HeadUsages). elim w [ none ↦ Finish | some u ↦ nextOfHead (f .provisionalResult) u a ]) e)
 
-    popped-ok : (x : Base) (f₀ : Frame) {s : Stack} {d : Reads} (g : Graph) (a : Answer) (o : Bool) → x .goal ≡ goal → x .depth ≡ available
-        → BasesOk W (x ∷ xs) → Gain (f₀ ∷ fs) s d
-        → basesOf s ≡ x ∷ xs → FramesInOrder (W .book .header) s → g .rootDepth ≤ W .book .header .top
-        → Every (EntryOk W (x ∷ xs) (Known s)) (g .provisionalCache) → CacheOk W (g .globalCache)
-        → RightGoal W (x ∷ xs) (x .goal) d a → Task (popped more o g s a)
-    popped-ok x f₀ g a o i j v (top-gains {f′ = f} {d = d} t) h fr rt es ca r =
-        next-ok x f g a _
-        (record {
-          isGoal = i;
-          isDepth = j;
-          bases = v;
-          same = (cc);
-          frame = fr .0;
-          root = rt;
-          entries = es;
-          cache = ca;
-          reads = d;
-          under = λ m k l z. omega (arith, limit-positive, t .heads m k (omega (arith, len)));
-          top = λ k z. omega (arith, limit-positive, t .usages k, ap (λ (n : ℕ). d n k) len);
-          right = r;
-        })
-        (f .usages) refl
-
     run-ok : (x : Base) (f₀ : Frame) (g₀ : Graph) (o : Bool) → x .goal ≡ goal → x .depth ≡ available → BasesOk W (x ∷ xs) → g₀ .stack ≡ f₀ ∷ fs
         → (out : Outcome)
         → After W (x ∷ xs) g₀ (RightGoal W (x ∷ xs) (x .goal)) out → Task (iteration more o out)
     run-ok x f₀ g₀ o i j v st (Done g a) (d, s, r) =
-        popped-ok x f₀ g a o i j v (rw st at (s .gain)) (s .inv .here) (s .inv .frames) (s .inv .root) (s .inv .entries) (s .inv .cache) r
+        let (f, e, w) = ran x f₀ g₀ g a d i j v st s r in rw e (next-ok x f g a _ w (f .usages) refl)
     run-ok x f₀ g₀ o i j v st (Stopped r) t = t
 
   limit-ok : RerunOk stepLimitReached
@@ -193,6 +226,7 @@ module _ (W : World) (xs : List Base) (fs : Stack) (goal available : ℕ) (here 
         root = v .root;
         frames = (rerun-frame (v .frame), framesOk);
         entries = survivors-ok W x xs f fs len (rerun-base x a) (rerunFrame f a) (rerun-known f a) (g .provisionalCache) (v .entries);
+        live = omega (arith, survivors-fewer (length fs) (g .provisionalCache), v .live);
         cache = v .cache;
       }
 
@@ -206,3 +240,38 @@ module _ (W : World) (xs : List Base) (fs : Stack) (goal available : ℕ) (here 
       (λ o′ x′ f′ g′ a w. task-ok compute ok left o′ (rerun-base x′ a) (rerunFrame f′ a) (pushRerun (withStack g′ fs) f′ a) (w .isGoal) (w .isDepth)
       (rerun-bases x′ f′ g′ a w) refl (rerun-inv x′ f′ g′ a w))
       x f g o i j v st (compute goal g) (rw (← i) (ok x v g inv))
+
+  -- ---- what the runs meet
+  abbrev MeetsFrom : (Graph → Trace) → Type 0
+  MeetsFrom trace =
+      (x : Base) (f : Frame) (g : Graph) → x .goal ≡ goal → x .depth ≡ available
+      → BasesOk W (x ∷ xs) → g .stack ≡ f ∷ fs → State W (x ∷ xs) g
+      → Ordered W (trace g)
+
+  next-meets : (n : Next) (t : Trace) → Ordered W t
+      → Ordered W (elim n [ Finish ↦ [] | Rebase reason ↦ [] | Rerun ↦ t ])
+  next-meets Finish t v = tt
+  next-meets (Rebase reason) t v = tt
+  next-meets Rerun t v = v
+
+  run-meets : (more : Graph → Trace) → MeetsFrom more
+      → (x : Base) (f₀ : Frame) (g₀ : Graph) → x .goal ≡ goal → x .depth ≡ available
+      → BasesOk W (x ∷ xs) → g₀ .stack ≡ f₀ ∷ fs
+      → (out : Outcome) → After W (x ∷ xs) g₀ (RightGoal W (x ∷ xs) (x .goal)) out
+      → Ordered W (after out λ g a. traceNext more g (g .stack) a)
+  run-meets more k x f₀ g₀ i j v st (Done g a) (d, s, r) =
+      let (f, e, w) = ran x f₀ g₀ g a d i j v st s r in
+      rw e
+      (next-meets (nextOf f a) (more (pushRerun (withStack g fs) f a))
+      (k (rerun-base x a) (rerunFrame f a) (pushRerun (withStack g fs) f a) (w .isGoal) (w .isDepth)
+      (rerun-bases x f g a w) refl (rerun-inv x f g a w)))
+  run-meets more k x f₀ g₀ i j v st (Stopped r) t = tt
+
+  pub task-meets : (compute : ℕ → Graph → Outcome) → ComputesGoal W xs compute
+      → (trace : ℕ → Graph → Trace) → TracesGoal W xs trace → (left : ℕ)
+      → MeetsFrom (traceTask (compute goal) (trace goal) left)
+  task-meets compute ok trace meets zero x f g i j v st inv = rw (← i) (meets x v g inv)
+  task-meets compute ok trace meets (suc left) x f g i j v st inv =
+      only-append (EventInOrder (W .book .header)) (trace goal g) _ (rw (← i) (meets x v g inv))
+      (run-meets (traceTask (compute goal) (trace goal) left) (task-meets compute ok trace meets left)
+      x f g i j v st (compute goal g) (rw (← i) (ok x v g inv)))

@@ -1,21 +1,20 @@
--- The theorems. What they say stands in specs/: Sets, Statement and Always.
+-- The theorems. What they say stands in specs/: Sets, Statement, Trace and Always.
 use mathlib.Core.Bool.{Bool}
 use mathlib.Core.List.{List}
 use mathlib.Core.Path.{_≡_}
 use Prim.Native.Nat.{ℕ}
-use Rattle.definition.specs.Graph.{EvaluationResult, Graph}
+use Rattle.definition.specs.Graph.{Graph}
 use Rattle.definition.specs.Part.{Book}
 use Rattle.definition.specs.Reader.{Accepted, readBook}
 use Rattle.definition.specs.declared.format.Header.{Header}
-use Rattle.definition.specs.declared.paths.PathKind.{PathKind}
 use Rattle.definition.specs.declared.paths.PathKind.the-variants.{Coinductive, Inductive}
-use Rattle.soundness.specs.Always.{Always, Follows, InOrder, NeverUnreachable, OnlyUnder}
+use Rattle.definition.specs.declared.replies.Refusal.the-variants.{CacheConflict, ProvisionalCacheFull}
+use Rattle.soundness.specs.Always.{Always, Conflict, Follows, Full, InOrder, NeverUnreachable, OnlyUnder}
 use Rattle.soundness.specs.Sets.{GreatestSelfSupporting, LeastClosed, greatest, least}
 use Rattle.soundness.specs.Statement.{Demand3, RightWithout}
 use Rattle.soundness.proofs.Fixpoints.{greatest-is, least-is}
 use Rattle.soundness.proofs.Demand3.{right-of-greatest, right-of-least}
-use Rattle.soundness.proofs.Refusals.{only-under}
-use Rattle.soundness.proofs.EveryBook.{always-in-order, any-read, in-order-follows, query-never-unreachable}
+use Rattle.soundness.proofs.EveryBook.{always-in-order, any-read, in-order-follows, only-on-conflict, only-when-full, query-never-unreachable}
 
 -- ---- demand 3
 pub no-coinductive-step : RightWithout Coinductive least
@@ -45,5 +44,8 @@ pub never-unreachable : NeverUnreachable
 never-unreachable = query-never-unreachable
 
 -- ---- refusals 10 and 11 come only under their conditions
-pub refusals : (h : Header) (g : Graph) (goal : ℕ) (step : PathKind) (x : EvaluationResult) → OnlyUnder h g goal step x
-refusals = only-under
+pub refused-when-full : OnlyUnder ProvisionalCacheFull Full
+refused-when-full = only-when-full
+
+pub refused-on-conflict : OnlyUnder CacheConflict Conflict
+refused-on-conflict = only-on-conflict

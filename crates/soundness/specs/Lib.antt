@@ -1,3 +1,4 @@
 pub mod Sets
 pub mod Statement
+pub mod Trace
 pub mod Always
