@@ -1,5 +1,5 @@
 -- What a query comes to is in document 01's table.
-use mathlib.Core.Path.{_≡_, refl, sym, ap, subst}
+use mathlib.Core.Path.{_≡_, refl, sym, subst}
 use mathlib.Core.Logic.{_≢_, inl, inr}
 use mathlib.Core.List.{List}
 use Prim.Native.Nat.{ℕ, _≤_}
@@ -55,9 +55,11 @@ of-table (Answered a) ne = is-answer a
 of-table (Refused r) ne = (some-refusal r, in-table r ne)
 
 -- `query`
-pub query-table : (bytes cache work : List ℕ) (goal depth : ℕ) (r : Reply) → r ≡ query bytes cache work goal depth → OfTable (r .response)
+pub query-table : (bytes cache work : List ℕ) (goal depth : ℕ) (r : Reply)
+    → r ≡ query bytes cache work goal depth → OfTable (r .response)
 query-table bytes cache work goal depth r e =
-    of-table (r .response) (subst (λ (x : Reply). x .response ≢ Refused Unreachable) (sym e) (never-unreachable bytes cache work goal depth))
+    let never = never-unreachable bytes cache work goal depth in
+    of-table (r .response) (subst (λ (x : Reply). x .response ≢ Refused Unreachable) (sym e) never)
 
 -- its code
 pub code-table : (r : Response) → OfTable r → CodeOfTable (responseCode r)

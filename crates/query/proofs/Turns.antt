@@ -97,8 +97,10 @@ right-code set goal reply r =
 -- where C holds of the cache, P holds of the goal and the code, and C of the cache afterwards
 module _ (bytes : List ℕ) (C : List ℕ → Type 0) (P : ℕ → ℕ → Type 0)
     (stays : (cache work : List ℕ) (goal depth : ℕ) → C cache → C (query bytes cache work goal depth .cache))
-    (holds : (cache work : List ℕ) (goal depth : ℕ) → C cache → P goal (responseCode (query bytes cache work goal depth .response))) where
-  each-asked : (cache work questions codes : List ℕ) → C cache → EachAsked questions (askEach bytes cache work questions codes .codes) P
+    (holds : (cache work : List ℕ) (goal depth : ℕ) → C cache
+    → P goal (responseCode (query bytes cache work goal depth .response))) where
+  each-asked : (cache work questions codes : List ℕ) → C cache
+      → EachAsked questions (askEach bytes cache work questions codes .codes) P
   each-asked cache work questions [] c i h l = absurd (omega arith)
   each-asked cache work [] (x ∷ xs) c i h l = absurd (omega arith)
   each-asked cache work (g ∷ []) (x ∷ xs) c i h l = absurd (omega arith)
@@ -109,37 +111,47 @@ module _ (bytes : List ℕ) (C : List ℕ → Type 0) (P : ℕ → ℕ → Type 
       subst (λ (n : ℕ). P (getD (g ∷ d ∷ qs) n 0) (getD (askEach bytes (r .cache) (r .work) qs xs .codes) i 0)) (sym t)
       (each-asked (r .cache) (r .work) qs xs (stays cache work g d c) i (omega arith) (omega arith))
 
--- where every query with a cache that was carried is right
-module _ (bytes : List ℕ) (set : Bool → Goals)
-    (right : (cache work : List ℕ) (goal depth : ℕ) → Carried bytes cache → RightReply set goal (query bytes cache work goal depth)) where
-  all-right : (cache work questions codes : List ℕ) → EachAsked questions (askAll bytes cache work questions codes .codes) (RightCode set)
-  all-right cache work questions codes =
-      each-asked bytes (Carried bytes) (RightCode set) (λ cache work goal depth c. right-query bytes cache work goal depth _ refl c .carried)
+-- from a new cache
+module _ (bytes cache work questions codes : List ℕ) where
+  abbrev written : List ℕ
+  written = askAll bytes cache work questions codes .codes
+
+  -- where every query with a cache that was carried is right
+  all-right : (set : Bool → Goals)
+      → ((cache work : List ℕ) (goal depth : ℕ) → Carried bytes cache → RightReply set goal (query bytes cache work goal depth))
+      → EachAsked questions written (RightCode set)
+  all-right set right =
+      each-asked bytes (Carried bytes) (RightCode set)
+      (λ cache work goal depth c. right-query bytes cache work goal depth _ refl c .carried)
       (λ cache work goal depth c. right-code set goal (query bytes cache work goal depth) (right cache work goal depth c))
       (zeros cache) work questions codes (new-cache bytes cache)
 
-every-code : (bytes cache work questions codes : List ℕ) → EveryCodeRight bytes questions (askAll bytes cache work questions codes .codes)
-every-code bytes cache work questions codes =
-    record {
-      no-coinductive-step = λ b ls e f g.
-          all-right bytes (least b) (λ cache work goal depth c. right-query bytes cache work goal depth _ refl c .right .no-coinductive-step b ls e f g)
-          cache work questions codes;
-      no-inductive-step = λ b ls e f g.
-          all-right bytes (greatest b) (λ cache work goal depth c. right-query bytes cache work goal depth _ refl c .right .no-inductive-step b ls e f g)
-          cache work questions codes;
-    }
+  every-code : EveryCodeRight bytes questions written
+  every-code =
+      record {
+        no-coinductive-step = λ b ls e f g.
+            all-right (least b)
+            (λ cache work goal depth c. right-query bytes cache work goal depth _ refl c .right .no-coinductive-step b ls e f g);
+        no-inductive-step = λ b ls e f g.
+            all-right (greatest b)
+            (λ cache work goal depth c. right-query bytes cache work goal depth _ refl c .right .no-inductive-step b ls e f g);
+      }
 
-codes-table : (bytes cache work questions codes : List ℕ) → CodesOfTable questions (askAll bytes cache work questions codes .codes)
-codes-table bytes cache work questions codes =
-    each-asked bytes (λ cache. Unit {0}) (λ goal code. CodeOfTable code) (λ cache work goal depth c. tt)
-    (λ cache work goal depth c. code-table (query bytes cache work goal depth .response) (query-table bytes cache work goal depth _ refl))
-    (zeros cache) work questions codes tt
+  codes-table : CodesOfTable questions written
+  codes-table =
+      each-asked bytes (λ cache. Unit {0}) (λ goal code. CodeOfTable code) (λ cache work goal depth c. tt)
+      (λ cache work goal depth c.
+      let r = query bytes cache work goal depth in code-table (r .response) (query-table bytes cache work goal depth r refl))
+      (zeros cache) work questions codes tt
 
 -- `query_list`, whose cache was filled with zeros
 pub list-ends : (bytes cache work questions codes codes′ cache′ work′ new : List ℕ) → new ≡ zeros cache
     → repliedAll codes′ cache′ work′ ≡ askEach bytes new work questions codes
-    → (repliedAll codes′ cache′ work′ ≡ askAll bytes cache work questions codes) × (EveryCodeRight bytes questions codes′ × CodesOfTable questions codes′)
+    → (repliedAll codes′ cache′ work′ ≡ askAll bytes cache work questions codes)
+    × (EveryCodeRight bytes questions codes′ × CodesOfTable questions codes′)
 list-ends bytes cache work questions codes codes′ cache′ work′ new z e =
-    let f : repliedAll codes′ cache′ work′ ≡ askAll bytes cache work questions codes = e ∙ ap (λ (x : List ℕ). askEach bytes x work questions codes) z in
-    let right = subst (λ (r : Replies). EveryCodeRight bytes questions (r .codes)) (sym f) (every-code bytes cache work questions codes) in
-    (f, (right, subst (λ (r : Replies). CodesOfTable questions (r .codes)) (sym f) (codes-table bytes cache work questions codes)))
+    let f : repliedAll codes′ cache′ work′ ≡ askAll bytes cache work questions codes
+    = e ∙ ap (λ (x : List ℕ). askEach bytes x work questions codes) z in
+    let same : askAll bytes cache work questions codes .codes ≡ codes′ = ap (λ (r : Replies). r .codes) (sym f) in
+    let right = subst (EveryCodeRight bytes questions) same (every-code bytes cache work questions codes) in
+    (f, (right, subst (CodesOfTable questions) same (codes-table bytes cache work questions codes)))
