@@ -13,8 +13,8 @@ use Rattle.definition.specs.declared.replies.Response.the-variants.{Answered, R
 use Rattle.definition.specs.Answers.{answerNumber, refusalNumber}
 use Rattle.definition.specs.Query.{Reply, query}
 use Rattle.soundness.proofs.Theorems.{never-unreachable}
-use Rattle.query.specs.Replies.{replied, responseCode}
-use Rattle.query.specs.Table.{IsAnswer, IsRefusal, OfTable, CodeOfTable}
+use Rattle.query.specs.Replies.{responseCode}
+use Rattle.query.specs.Table.{IsAnswer, OfTable, CodeOfTable}
 
 is-answer : (a : Answer) → IsAnswer (answerNumber a)
 is-answer No = omega arith
