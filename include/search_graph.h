@@ -27,7 +27,9 @@ size_t search_graph_work_len(size_t goals);
    where one is out of range. It is goals * (top_depth + 2) * (goals + 3). */
 size_t search_graph_cache_len(size_t goals, size_t top_depth);
 
-/* Evaluates a goal of the book at a depth, and returns answer + 256 * refusal.
+/* Evaluates a goal of the book at a depth, and returns answer + 256 * refusal: one of the answers
+   below, 0 to 3, or 256 times one of the refusals 1 to 11, whatever the bytes. No other code is
+   returned.
 
    book   is only read.
    cache  is read and written. A new one is all zeros; it is then carried from query to query on

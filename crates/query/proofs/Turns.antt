@@ -7,19 +7,18 @@ use native.Mathlib.Numerals.{add-one}
 use native.Mathlib.Omega.{arith}
 use lib.ListN.{length, getD, set, take, drop, take-append-drop, drop-of-length-le}
 use Rattle.definition.specs.declared.answers.Answer.the-variants.{No, Yes, Undecided, Overflow}
-use Rattle.definition.specs.declared.replies.Refusal.{Refusal}
-use Rattle.definition.specs.declared.replies.Refusal.the-variants.{BookLength, BookLine, BookHeader, BookBody, UnknownGoal, DepthAboveTop, CacheLength, CacheForm, WorkLength, ProvisionalCacheFull, CacheConflict, Unreachable}
 use Rattle.definition.specs.declared.replies.Response.{Response}
 use Rattle.definition.specs.declared.replies.Response.the-variants.{Answered, Refused}
-use Rattle.definition.specs.Answers.{refusalNumber}
 use Rattle.definition.specs.Query.{Reply, query, zeros}
 use Rattle.soundness.specs.Sets.{Goals, least, greatest}
 use Rattle.soundness.specs.Statement.{RightReply}
 use Rattle.definition.proofs.Lists.{part-from}
 use Rattle.query.specs.Replies.{replied, responseCode}
 use Rattle.query.specs.Carried.{Carried}
-use Rattle.query.specs.Lists.{Replies, repliedAll, withCode, askEach, askAll, RightCode, RightCodes, EveryCodeRight}
+use Rattle.query.specs.Lists.{Replies, repliedAll, withCode, askEach, askAll, EachAsked, CodesOfTable, RightCode, EveryCodeRight}
+use Rattle.query.specs.Table.{CodeOfTable}
 use Rattle.query.proofs.Carries.{right-query, new-cache}
+use Rattle.query.proofs.Table.{some-refusal, query-table, code-table}
 
 -- codes that were written before
 abbrev pub withCodes : List ℕ → Replies → Replies
@@ -76,20 +75,6 @@ module _ (bytes : List ℕ) where
       (two cache work left codes i l h (replied r cache′ work′) e ∙ all)))
 
 -- ---- the codes are right
-some-refusal : (r : Refusal) → 1 ≤ refusalNumber r
-some-refusal BookLength = omega arith
-some-refusal BookLine = omega arith
-some-refusal BookHeader = omega arith
-some-refusal BookBody = omega arith
-some-refusal UnknownGoal = omega arith
-some-refusal DepthAboveTop = omega arith
-some-refusal CacheLength = omega arith
-some-refusal CacheForm = omega arith
-some-refusal WorkLength = omega arith
-some-refusal ProvisionalCacheFull = omega arith
-some-refusal CacheConflict = omega arith
-some-refusal Unreachable = omega arith
-
 says-yes : (r : Response) → responseCode r ≡ 1 → r ≡ Answered Yes
 says-yes (Answered No) e = absurd (omega arith)
 says-yes (Answered Yes) e = refl
@@ -108,37 +93,65 @@ pub right-code : (set : Bool → Goals) (goal : ℕ) (reply : Reply) → RightRe
 right-code set goal reply r =
     record { whenYes = λ e. r .whenYes (says-yes (reply .response) e); whenNo = λ e. r .whenNo (says-no (reply .response) e) }
 
--- where every query with a cache that was carried is right
-module _ (bytes : List ℕ) (set : Bool → Goals) (right : (cache work : List ℕ) (goal depth : ℕ) → Carried bytes cache → RightReply set goal (query bytes cache work goal depth)) where
-  carried-on : (cache work : List ℕ) (goal depth : ℕ) → Carried bytes cache → Carried bytes (query bytes cache work goal depth .cache)
-  carried-on cache work goal depth c = right-query bytes cache work goal depth (query bytes cache work goal depth) refl c .carried
-
-  all-right : (cache work questions codes : List ℕ) → Carried bytes cache → RightCodes questions (askEach bytes cache work questions codes .codes) set
-  all-right cache work questions [] c i h l = absurd (omega arith)
-  all-right cache work [] (x ∷ xs) c i h l = absurd (omega arith)
-  all-right cache work (g ∷ []) (x ∷ xs) c i h l = absurd (omega arith)
-  all-right cache work (g ∷ d ∷ qs) (x ∷ xs) c zero h l = right-code set g (query bytes cache work g d) (right cache work g d c)
-  all-right cache work (g ∷ d ∷ qs) (x ∷ xs) c (suc i) h l =
+-- ---- every question that is asked
+-- where C holds of the cache, P holds of the goal and the code, and C of the cache afterwards
+module _ (bytes : List ℕ) (C : List ℕ → Type 0) (P : ℕ → ℕ → Type 0)
+    (stays : (cache work : List ℕ) (goal depth : ℕ) → C cache → C (query bytes cache work goal depth .cache))
+    (holds : (cache work : List ℕ) (goal depth : ℕ) → C cache
+    → P goal (responseCode (query bytes cache work goal depth .response))) where
+  each-asked : (cache work questions codes : List ℕ) → C cache
+      → EachAsked questions (askEach bytes cache work questions codes .codes) P
+  each-asked cache work questions [] c i h l = absurd (omega arith)
+  each-asked cache work [] (x ∷ xs) c i h l = absurd (omega arith)
+  each-asked cache work (g ∷ []) (x ∷ xs) c i h l = absurd (omega arith)
+  each-asked cache work (g ∷ d ∷ qs) (x ∷ xs) c zero h l = holds cache work g d c
+  each-asked cache work (g ∷ d ∷ qs) (x ∷ xs) c (suc i) h l =
       let t : 2 * suc i ≡ suc (suc (2 * i)) = omega arith in
       let r = query bytes cache work g d in
-      subst (λ (n : ℕ). RightCode set (getD (g ∷ d ∷ qs) n 0) (getD (askEach bytes (r .cache) (r .work) qs xs .codes) i 0)) (sym t)
-      (all-right (r .cache) (r .work) qs xs (carried-on cache work g d c) i (omega arith) (omega arith))
+      subst (λ (n : ℕ). P (getD (g ∷ d ∷ qs) n 0) (getD (askEach bytes (r .cache) (r .work) qs xs .codes) i 0)) (sym t)
+      (each-asked (r .cache) (r .work) qs xs (stays cache work g d c) i (omega arith) (omega arith))
 
-pub every-code : (bytes cache work questions codes : List ℕ) → EveryCodeRight bytes questions (askAll bytes cache work questions codes .codes)
-every-code bytes cache work questions codes =
-    record {
-      no-coinductive-step = λ b ls e f g.
-          all-right bytes (least b) (λ cache work goal depth c. right-query bytes cache work goal depth _ refl c .right .no-coinductive-step b ls e f g)
-          (zeros cache) work questions codes (new-cache bytes cache);
-      no-inductive-step = λ b ls e f g.
-          all-right bytes (greatest b) (λ cache work goal depth c. right-query bytes cache work goal depth _ refl c .right .no-inductive-step b ls e f g)
-          (zeros cache) work questions codes (new-cache bytes cache);
-    }
+-- from a new cache
+module _ (bytes cache work questions codes : List ℕ) where
+  abbrev written : List ℕ
+  written = askAll bytes cache work questions codes .codes
+
+  -- where every query with a cache that was carried is right
+  all-right : (set : Bool → Goals)
+      → ((cache work : List ℕ) (goal depth : ℕ) → Carried bytes cache → RightReply set goal (query bytes cache work goal depth))
+      → EachAsked questions written (RightCode set)
+  all-right set right =
+      each-asked bytes (Carried bytes) (RightCode set)
+      (λ cache work goal depth c. right-query bytes cache work goal depth _ refl c .carried)
+      (λ cache work goal depth c. right-code set goal (query bytes cache work goal depth) (right cache work goal depth c))
+      (zeros cache) work questions codes (new-cache bytes cache)
+
+  every-code : EveryCodeRight bytes questions written
+  every-code =
+      record {
+        no-coinductive-step = λ b ls e f g.
+            all-right (least b)
+            (λ cache work goal depth c. right-query bytes cache work goal depth _ refl c .right .no-coinductive-step b ls e f g);
+        no-inductive-step = λ b ls e f g.
+            all-right (greatest b)
+            (λ cache work goal depth c. right-query bytes cache work goal depth _ refl c .right .no-inductive-step b ls e f g);
+      }
+
+  codes-table : CodesOfTable questions written
+  codes-table =
+      each-asked bytes (λ cache. Unit {0}) (λ goal code. CodeOfTable code) (λ cache work goal depth c. tt)
+      (λ cache work goal depth c.
+      let r = query bytes cache work goal depth in code-table (r .response) (query-table bytes cache work goal depth r refl))
+      (zeros cache) work questions codes tt
 
 -- `query_list`, whose cache was filled with zeros
 pub list-ends : (bytes cache work questions codes codes′ cache′ work′ new : List ℕ) → new ≡ zeros cache
     → repliedAll codes′ cache′ work′ ≡ askEach bytes new work questions codes
-    → (repliedAll codes′ cache′ work′ ≡ askAll bytes cache work questions codes) × EveryCodeRight bytes questions codes′
+    → (repliedAll codes′ cache′ work′ ≡ askAll bytes cache work questions codes)
+    × (EveryCodeRight bytes questions codes′ × CodesOfTable questions codes′)
 list-ends bytes cache work questions codes codes′ cache′ work′ new z e =
-    let f : repliedAll codes′ cache′ work′ ≡ askAll bytes cache work questions codes = e ∙ ap (λ (x : List ℕ). askEach bytes x work questions codes) z in
-    (f, subst (λ (r : Replies). EveryCodeRight bytes questions (r .codes)) (sym f) (every-code bytes cache work questions codes))
+    let f : repliedAll codes′ cache′ work′ ≡ askAll bytes cache work questions codes
+    = e ∙ ap (λ (x : List ℕ). askEach bytes x work questions codes) z in
+    let same : askAll bytes cache work questions codes .codes ≡ codes′ = ap (λ (r : Replies). r .codes) (sym f) in
+    let right = subst (EveryCodeRight bytes questions) same (every-code bytes cache work questions codes) in
+    (f, (right, subst (CodesOfTable questions) same (codes-table bytes cache work questions codes)))

@@ -22,6 +22,10 @@ pub mod Rebase
 pub mod Refusals
 pub mod Runs
 pub mod Sample
+pub mod SampleAlways
+pub mod SampleBooks
+pub mod SampleSets
+pub mod SampleStatement
 pub mod SampleTrace
 pub mod Settle
 pub mod Slots

@@ -17,8 +17,13 @@ same-length-2 : tie.Need-same-length-2
 same-length-2 c = search needs
 
 returns : tie.Need-returns
-returns c = let a = c .before .before .before .before .before .before .before .before .before .before .before .args in
-    (answered (a .goal) (a .depth) (c .reply-line .result) (c .before .before .before .before .before .query .result) (c .before .before .before .before .before .query .last .1 .0) (c .before .before .before .before .before .query .last .1 .1 .0) (query (a .book .now) (a .cache .now) (a .work .now) (a .goal) (a .depth)) (c .reply-line .ensures) (c .before .before .before .before .before .query .ensures .0), λ k. c .before .before .before .before .before .query .ensures .1 k .carried)
+returns c =
+    let q = c .before .before .before .before .before in
+    let a = q .before .before .before .before .before .before .args in (
+      answered (a .goal) (a .depth) (c .reply-line .result) (q .query .result) (q .query .last .1 .0) (q .query .last .1 .1 .0)
+          (query (a .book .now) (a .cache .now) (a .work .now) (a .goal) (a .depth)) (c .reply-line .ensures) (q .query .ensures .0),
+      λ k. q .query .ensures .1 .0 k .carried,
+    )
 
 pub reply-spec : {M : Type 1} → statement M
 reply-spec =
