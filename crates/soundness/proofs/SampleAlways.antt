@@ -7,11 +7,11 @@ use mathlib.Core.Path.{_≡_, ap, refl, subst, sym}
 use Prim.Native.Nat.{_+_, _<_, _≤_, suc, zero, ℕ}
 use native.Mathlib.Omega.{arith}
 use lib.Dec.{T}
-use lib.ListN.{length, replicate}
+use lib.ListN.{getD, length, replicate}
 use Rattle.definition.specs.Answers.{refusalNumber}
 use Rattle.definition.specs.CacheForm.{cacheLength}
 use Rattle.definition.specs.Evaluate.{computeGoal, evaluateGoal, newFrame}
-use Rattle.definition.specs.GlobalCache.{overflowSlot, slotAt, slotDepth, slotHeld}
+use Rattle.definition.specs.GlobalCache.{overflowSlot, slotAt, slotDepth, slotHeld, slotsPerGoal}
 use Rattle.definition.specs.Graph.{Done, Entry, EvaluationResult, Graph, Stopped, withStack}
 use Rattle.definition.specs.Heads.{CycleHeads}
 use Rattle.definition.specs.Part.{Book}
@@ -190,6 +190,13 @@ wrongDepth = replicate 12 0 ++ (1 ∷ 3 ∷ 4 ∷ 0 ∷ replicate 12 0)
 wrong-depth : CacheInOrder (header 1 5) wrongDepth → ⊥
 wrong-depth c = omega (arith, c .depths 0 2 (omega arith) (omega arith) tt)
 
+-- its success slot says 4, which is no answer
+abbrev noAnswer : List ℕ
+noAnswer = 1 ∷ 4 ∷ 0 ∷ 0 ∷ replicate 24 0
+
+no-answer : CacheInOrder (header 1 5) noAnswer → ⊥
+no-answer c = omega (arith, c .answers 0 0 (omega arith) (omega arith) tt)
+
 vacant-slots : (goal k : ℕ) → goal < 2 → k ≤ 0
     → T (slotHeld (slotAt (header 2 0) vacant goal (overflowSlot k)))
     → slotDepth (slotAt (header 2 0) vacant goal (overflowSlot k)) ≡ k
@@ -199,8 +206,19 @@ vacant-slots (suc zero) zero l m t = absurd t
 vacant-slots (suc zero) (suc k) l m t = absurd (omega (arith, m))
 vacant-slots (suc (suc goal)) k l m t = absurd (omega (arith, l))
 
+vacant-answers : (goal slot : ℕ) → goal < 2 → slot < slotsPerGoal (header 2 0)
+    → T (slotHeld (slotAt (header 2 0) vacant goal slot))
+    → getD (slotAt (header 2 0) vacant goal slot) 1 0 ≤ 3
+vacant-answers zero zero l m t = absurd t
+vacant-answers zero (suc zero) l m t = absurd t
+vacant-answers zero (suc (suc slot)) l m t = absurd (omega (arith, m))
+vacant-answers (suc zero) zero l m t = absurd t
+vacant-answers (suc zero) (suc zero) l m t = absurd t
+vacant-answers (suc zero) (suc (suc slot)) l m t = absurd (omega (arith, m))
+vacant-answers (suc (suc goal)) slot l m t = absurd (omega (arith, l))
+
 vacant-in-order : CacheInOrder (header 2 0) vacant
-vacant-in-order = record { size = refl; depths = vacant-slots }
+vacant-in-order = record { size = refl; answers = vacant-answers; depths = vacant-slots }
 
 -- ---- a state in order
 root-too-deep : InOrder (header 2 0) (graph 1 [] [] vacant) → ⊥
@@ -217,6 +235,9 @@ entry-of-no-head o = not-known (o .entries .0 .known 1 (someHead, refl))
 
 cache-out-of-order : InOrder (header 2 0) (graph 0 [] [] []) → ⊥
 cache-out-of-order o = short-cache (o .cache)
+
+too-many-entries : (e : Entry) → InOrder (header 2 0) (graph 0 [] (e ∷ e ∷ e ∷ e ∷ e ∷ []) vacant) → ⊥
+too-many-entries e o = omega (arith, o .live)
 
 state-in-order : InOrder (header 2 0) state
 state-in-order =
@@ -238,6 +259,7 @@ state-in-order =
       );
       distinct = ((λ e. omega arith, tt), (tt, tt));
       entries = (entry-in-order, tt);
+      live = omega arith;
       cache = vacant-in-order;
     }
 
