@@ -4,15 +4,16 @@ use mathlib.Core.List.{List, [], _∷_}
 use mathlib.Core.Path.{_≡_, ap, refl}
 use Prim.Native.Nat.{ℕ}
 use native.Mathlib.Omega.{arith}
-use lib.ListN.{replicate}
+use lib.ListN.{length, replicate}
 use Rattle.definition.specs.Answers.{answerNumber}
-use Rattle.definition.specs.Graph.{EvaluationResult}
+use Rattle.definition.specs.Graph.{Done, EvaluationResult, Stopped}
 use Rattle.definition.specs.Part.{All, Any, Book, Call, End, Node, Part, Parts, Pick, Then, UndecidedLine}
 use Rattle.definition.specs.Usages.{counterLimit}
 use Rattle.definition.specs.declared.answers.Answer.the-variants.{Yes}
 use Rattle.definition.specs.declared.format.Header.{Header}
+use Rattle.definition.specs.declared.replies.Refusal.the-variants.{CacheConflict, ProvisionalCacheFull}
 use Rattle.definition.specs.declared.paths.PathKind.the-variants.{Coinductive, ForcedAmbiguity, Inductive, Unknown}
-use Rattle.soundness.specs.Always.{Conflict, EventInOrder, Full, HoldsOther}
+use Rattle.soundness.specs.Always.{Conflict, EventInOrder, Full, HoldsOther, Run}
 use Rattle.soundness.specs.Trace.{Act, Answers, Computes, EndsWith, Evaluates, Event, InsertsEntry, InsertsInSlot, MeetsOnly, Trace, goalOf, traceRoot}
 
 -- ---- a trace in short: what happens, and the goal
@@ -141,3 +142,16 @@ last-event m = omega (arith, m)
 
 no-event : EndsWith (λ e. Unit {0}) [] → ⊥
 no-event m = m
+
+-- ---- a run: a refusal has its insertion, an answer its state
+full-without-events : Run (header 1 0 1) [] (Stopped ProvisionalCacheFull) → ⊥
+full-without-events r = r .full refl
+
+conflict-without-events : Run (header 1 0 1) [] (Stopped CacheConflict) → ⊥
+conflict-without-events r = r .conflict refl
+
+leaves-another : Run (header 1 0 1) (event [] (Answers 0) ∷ []) (Done (event (0 ∷ []) (Answers 0) .state) Yes) → ⊥
+leaves-another r = omega (arith, ap (λ g. length (g .globalCache)) (r .leaves (event (0 ∷ []) (Answers 0) .state) Yes refl))
+
+out-of-order : Run (header 1 0 1) (event [] (Answers 0) ∷ []) (Done (event [] (Answers 0) .state) Yes) → ⊥
+out-of-order r = omega (arith, r .inOrder .0 .0 .cache .size)
