@@ -2,7 +2,7 @@
 use mathlib.Core.Path.{_≡_, refl, sym, ap, _∙_, subst}
 use mathlib.Core.Bool.{Bool, true, false}
 use mathlib.Core.Option.{Option, none, some}
-use mathlib.Core.List.{List, [], _∷_, _++_, append-assoc, append-nil}
+use mathlib.Core.List.{List, [], _∷_, _++_, append-assoc}
 use Prim.Native.Nat.{ℕ, zero, suc, _+_, _-_, _≤_, _<_}
 use native.Mathlib.Omega.{arith}
 use native.Mathlib.Numerals.{add-one}
@@ -18,7 +18,7 @@ use Rattle.definition.proofs.Lists.{part-from}
 use Rattle.book.specs.Lines.{lineIn, linesIn}
 use Rattle.book.specs.Grammar.{afterPart, afterBytes}
 use Rattle.book.specs.Parts.{partRead, partIn, Reads}
-use Rattle.book.specs.Read.{GoalStarts, Started, noLine, wholeBody, StartedBy}
+use Rattle.book.specs.Read.{Started, noLine, wholeBody, StartedBy}
 use Rattle.book.proofs.Lines.{lines-cons, lines-none}
 use Rattle.book.proofs.Sizes.{after-some}
 use Rattle.book.proofs.Views.{never, of-some}

@@ -49,10 +49,12 @@ goal-number (suc (suc (suc zero))) = refl
 goal-number (suc (suc (suc (suc zero)))) = refl
 goal-number (suc (suc (suc (suc (suc zero))))) = refl
 goal-number (suc (suc (suc (suc (suc (suc zero)))))) = refl
-goal-number (suc (suc (suc (suc (suc (suc (suc n))))))) = ne-eqb (suc (suc (suc (suc (suc (suc (suc n))))))) 1 (λ e. omega arith)
+goal-number (suc (suc (suc (suc (suc (suc (suc n))))))) =
+    ne-eqb (suc (suc (suc (suc (suc (suc (suc n))))))) 1 (λ e. omega arith)
 
 -- any other number, which is none of these
-pub no-code : (n : ℕ) → (n ≡ 1 → ⊥) → (n ≡ 2 → ⊥) → (n ≡ 3 → ⊥) → (n ≡ 4 → ⊥) → (n ≡ 5 → ⊥) → (n ≡ 6 → ⊥) → codes.Unknown ≡ codeOf n
+pub no-code : (n : ℕ) → (n ≡ 1 → ⊥) → (n ≡ 2 → ⊥) → (n ≡ 3 → ⊥) → (n ≡ 4 → ⊥) → (n ≡ 5 → ⊥) → (n ≡ 6 → ⊥)
+    → codes.Unknown ≡ codeOf n
 no-code zero a b c d e f = refl
 no-code (suc zero) a b c d e f = absurd (a refl)
 no-code (suc (suc zero)) a b c d e f = absurd (b refl)

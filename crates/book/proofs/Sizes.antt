@@ -2,13 +2,13 @@
 use mathlib.Core.Path.{_≡_, refl, sym, ap, _∙_, subst}
 use mathlib.Core.Bool.{Bool, true, false, not, _&&_}
 use mathlib.Core.Option.{Option, none, some}
-use mathlib.Core.List.{List, [], _∷_}
+use mathlib.Core.List.{List}
 use Prim.Native.Nat.{ℕ, zero, suc, _+_, _-_, _≤_, _<_}
 use native.Mathlib.Omega.{arith}
 use native.Mathlib.Numerals.{sub-one}
-use lib.ListN.{length, getD, take, drop, length-drop}
+use lib.ListN.{length, take, drop, length-drop}
 use lib.Seq.{drop-drop}
-use lib.Dec.{eqb, leb, ltb}
+use lib.Dec.{eqb}
 use borrow.Author.Tests.{lt-ltb, le-ltb, le-leb, lt-leb, eq-eqb, ne-eqb}
 use Rattle.definition.specs.declared.format.Line.{Line}
 use Rattle.definition.specs.Part.{Op, Pick, Then}
@@ -108,7 +108,9 @@ module _ (goals : ℕ) (p : Bool) (inner : Bool → List Line → Option TakenPa
     Right = afterOpened r inner ls ≡ afterPart (readByCode goals (l .code) p inner l ls)
 
     at-code : (k : Code) → code ≡ k → afterOpened r inner ls ≡ afterPart (readAs goals p inner l ls k) → Right
-    at-code k e h = h ∙ ap (λ (c : Code). afterPart (readAs goals p inner l ls c)) (sym e ∙ is) ∙ ap afterPart (sym (read-as goals p inner l ls (l .code)))
+    at-code k e h =
+        h ∙ ap (λ (c : Code). afterPart (readAs goals p inner l ls c)) (sym e ∙ is)
+        ∙ ap afterPart (sym (read-as goals p inner l ls (l .code)))
 
     pub goal-opens : r ≡ Nothing → code ≡ codes.Goal → Right
     goal-opens e k = at-code codes.Goal k (rw e)

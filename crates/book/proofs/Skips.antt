@@ -2,14 +2,13 @@
 use mathlib.Core.Path.{_≡_, refl, sym, ap, _∙_}
 use mathlib.Core.Bool.{Bool, true, false}
 use mathlib.Core.Option.{Option, none, some}
-use mathlib.Core.List.{List, [], _∷_}
-use Prim.Native.Nat.{ℕ, zero, suc, _+_, _*_, _-_, _/_, _≤_, _<_}
+use mathlib.Core.List.{List}
+use Prim.Native.Nat.{ℕ, suc, _+_, _*_, _-_, _/_, _≤_, _<_}
 use native.Mathlib.Omega.{arith}
-use native.Mathlib.Decide.{ℕ-discrete}
 use lib.ListN.{length, take, drop}
 use lib.Seq.{drop-drop}
 use Rattle.definition.specs.declared.format.Line.{Line}
-use Rattle.definition.specs.Part.{End, Then}
+use Rattle.definition.specs.Part.{End}
 use Rattle.definition.specs.Reader.{TakenPart, TakenParts, readParts, readPart}
 use Rattle.definition.proofs.Lists.{part-from}
 use Rattle.book.specs.Lines.{lineIn, linesIn}
@@ -99,10 +98,16 @@ stands-first part =
     let z : 16 * (length (linesIn part) - length (linesIn part)) ≡ 0 = omega arith in
     sym (ap (λ (n : ℕ). drop n part) z)
 
-pub stands-next : (part bytes : List ℕ) → Stands part bytes → length bytes ≤ length part → 16 ≤ length bytes → Stands part (take (length bytes - 16) (drop 16 bytes))
-stands-next part bytes at le room = rw part-from (ap (drop 16) at ∙ drop-drop 16 (16 * (length (linesIn part) - length (linesIn bytes))) part ∙ ap (λ (n : ℕ). drop n part) further)
+pub stands-next : (part bytes : List ℕ) → Stands part bytes → length bytes ≤ length part → 16 ≤ length bytes
+    → Stands part (take (length bytes - 16) (drop 16 bytes))
+stands-next part bytes at le room =
+    rw part-from
+    (ap (drop 16) at ∙ drop-drop 16 (passed bytes) part ∙ ap (λ (n : ℕ). drop n part) further)
   where
-    further : 16 * (length (linesIn part) - length (linesIn bytes)) + 16 ≡ 16 * (length (linesIn part) - length (linesIn (drop 16 bytes)))
+    passed : List ℕ → ℕ
+    passed t = 16 * (length (linesIn part) - length (linesIn t))
+
+    further : passed bytes + 16 ≡ passed (drop 16 bytes)
     further =
         let a = lines-length part in
         let b = lines-length bytes in
@@ -117,12 +122,16 @@ pub next-starts : (part : List ℕ) → PendingAfter part 1 part
 unfolding PendingAfter
 next-starts part goals p h = one-pending goals p part h
 
-pub next-ends : (part : List ℕ) (n : ℕ) (bytes : List ℕ) → PendingAfter part n bytes → n ≤ 0 → Stands part bytes → length bytes < length part
-    → (goals : ℕ) (p : Bool) → Reads goals p part → PassedOver goals p part bytes
+pub next-ends : (part : List ℕ) (n : ℕ) (bytes : List ℕ) → PendingAfter part n bytes → n ≤ 0 → Stands part bytes
+    → length bytes < length part → (goals : ℕ) (p : Bool) → Reads goals p part → PassedOver goals p part bytes
 unfolding PendingAfter
 next-ends part n bytes h z at lt goals p r =
     let e = none-pending goals n bytes (restIn goals p part) (h goals p r) z in
-    record { place = at ∙ ap (λ (ls : List Line). drop (16 * (length (linesIn part) - length ls)) part) e; lines = e; shorter = lt }
+    record {
+      place = at ∙ ap (λ (ls : List Line). drop (16 * (length (linesIn part) - length ls)) part) e;
+      lines = e;
+      shorter = lt;
+    }
 
 module _ (part : List ℕ) (n : ℕ) (bytes : List ℕ) (h : PendingAfter part n bytes) (s : StartsPart part) where
   here : Pending (s .goals) n bytes (restIn (s .goals) (s .inPick) part)
@@ -139,6 +148,7 @@ module _ (part : List ℕ) (n : ℕ) (bytes : List ℕ) (h : PendingAfter part n
     pub next-part : StartsPart bytes
     next-part = pending-part (s .goals) n bytes _ here pos
 
-    pub next-turn : (count : ℕ) → count ≡ partsBelow (lineIn bytes) → PendingAfter part (n - 1 + count) (take (length bytes - 16) (drop 16 bytes))
+    pub next-turn : (count : ℕ) → count ≡ partsBelow (lineIn bytes)
+        → PendingAfter part (n - 1 + count) (take (length bytes - 16) (drop 16 bytes))
     unfolding PendingAfter
     next-turn count e goals p r = rw (e, part-from) (next-pending goals n bytes (restIn goals p part) (h goals p r) pos)

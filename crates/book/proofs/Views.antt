@@ -1,9 +1,9 @@
 -- What a part's first line says of the part that was read, and a part read under other limits.
 use mathlib.Core.Path.{_≡_, refl, sym, ap, _∙_}
-use mathlib.Core.Bool.{Bool, true, false, not, _&&_}
+use mathlib.Core.Bool.{Bool, true, false}
 use mathlib.Core.Option.{Option, none, some}
 use mathlib.Core.List.{List, [], _∷_}
-use Prim.Native.Nat.{ℕ, zero, suc, _+_, _-_, _≤_, _<_}
+use Prim.Native.Nat.{ℕ, zero, suc, _+_, _≤_, _<_}
 use native.Mathlib.Nat.{suc-add}
 use native.Mathlib.Omega.{arith}
 use lib.ListN.{length}
@@ -61,10 +61,13 @@ undecidedTaken ls = record { part = UndecidedLine; rest = ls }
 pub data View (goals : ℕ) (p : Bool) (inner : Bool → List Line → Option TakenPart) (l : Line) (ls : List Line) (t : TakenPart) : Type 0 where
   call : codeOf (l .code) ≡ codes.Call → callFits goals l ≡ true → callTaken l ls ≡ t → View goals p inner l ls t
   group : (op : kinds.Op) → codeOf (l .code) ≡ codes.Group op → usesFirst l ≡ true → (ps : TakenParts)
-      → readParts (inner p) (l .first) ls ≡ some ps → record { part = Node (opOf op) (ps .parts); rest = ps .rest } ≡ t → View goals p inner l ls t
+      → readParts (inner p) (l .first) ls ≡ some ps → record { part = Node (opOf op) (ps .parts); rest = ps .rest } ≡ t
+      → View goals p inner l ls t
   pick : codeOf (l .code) ≡ codes.Pick → usesFirst l ≡ true → p ≡ false → (ps : TakenParts)
-      → readParts (inner true) (l .first) ls ≡ some ps → record { part = Node Pick (ps .parts); rest = ps .rest } ≡ t → View goals p inner l ls t
-  undecided : codeOf (l .code) ≡ codes.Undecided → undecidedFits l ≡ true → undecidedTaken ls ≡ t → View goals p inner l ls t
+      → readParts (inner true) (l .first) ls ≡ some ps → record { part = Node Pick (ps .parts); rest = ps .rest } ≡ t
+      → View goals p inner l ls t
+  undecided : codeOf (l .code) ≡ codes.Undecided → undecidedFits l ≡ true → undecidedTaken ls ≡ t
+      → View goals p inner l ls t
 
 abbrev takenIf : Bool → TakenPart → Option TakenPart
 takenIf b t = elim b [ true ↦ some t | false ↦ none ]
@@ -101,8 +104,12 @@ module _ (goals : ℕ) (p : Bool) (inner : Bool → List Line → Option TakenPa
       go : (k : Code) → codeOf (l .code) ≡ k → readAs goals p inner l ls k ≡ some t → View goals p inner l ls t
       go codes.Goal k e = never e
       go codes.Call k e = let v = leaf (callFits goals l) (callTaken l ls) e in call k (v .0) (v .1)
-      go (codes.Group op) k e = let v = node (opOf op) (usesFirst l) (readParts (inner p) (l .first) ls) e in group op k (v .fits) (v .parts) (v .read) (v .is)
-      go codes.Pick k e = let v = outside (usesFirst l) (readParts (inner true) (l .first) ls) p e in pick k (v .1 .fits) (v .0) (v .1 .parts) (v .1 .read) (v .1 .is)
+      go (codes.Group op) k e =
+          let v = node (opOf op) (usesFirst l) (readParts (inner p) (l .first) ls) e in
+          group op k (v .fits) (v .parts) (v .read) (v .is)
+      go codes.Pick k e =
+          let v = outside (usesFirst l) (readParts (inner true) (l .first) ls) p e in
+          pick k (v .1 .fits) (v .0) (v .1 .parts) (v .1 .read) (v .1 .is)
       go codes.Undecided k e = let v = leaf (undecidedFits l) (undecidedTaken ls) e in undecided k (v .0) (v .1)
       go codes.Unknown k e = never e
 
@@ -112,7 +119,8 @@ module _ (goals : ℕ) (p : Bool) (inner : Bool → List Line → Option TakenPa
   pub unview : View goals p inner l ls t → readByCode goals (l .code) p inner l ls ≡ some t
   unview (call k f e) = at-code k ∙ ap (λ (b : Bool). takenIf b (callTaken l ls)) f ∙ ap some e
   unview (group op k f ps r e) =
-      at-code k ∙ ap (λ (b : Bool). nodeIf (opOf op) b (readParts (inner p) (l .first) ls)) f ∙ ap (nodeOf (opOf op)) r ∙ ap some e
+      at-code k ∙ ap (λ (b : Bool). nodeIf (opOf op) b (readParts (inner p) (l .first) ls)) f
+      ∙ ap (nodeOf (opOf op)) r ∙ ap some e
   unview (pick k f o ps r e) =
       at-code k ∙ ap (λ (q : Bool). pickIf q (usesFirst l) (readParts (inner true) (l .first) ls)) o
       ∙ ap (λ (b : Bool). nodeIf Pick b (readParts (inner true) (l .first) ls)) f ∙ ap (nodeOf Pick) r ∙ ap some e
@@ -214,21 +222,28 @@ pub record Noded (op : Op) (f : List Line → Option TakenPart) (n : ℕ) (ls : 
   pub is : record { part = Node op (taken .parts); rest = taken .rest } ≡ t
 
 module _ {goals : ℕ} {p : Bool} {inner : Bool → List Line → Option TakenPart} {l : Line} {ls : List Line} {t : TakenPart} where
-  pub as-call : View goals p inner l ls t → codeOf (l .code) ≡ codes.Call → (callFits goals l ≡ true) × (callTaken l ls ≡ t)
+  pub as-call : View goals p inner l ls t → codeOf (l .code) ≡ codes.Call
+      → (callFits goals l ≡ true) × (callTaken l ls ≡ t)
   as-call (call k f e) c = (f, e)
   as-call (group op k f ps r e) c = let z : _≡_ {A = ℕ} 0 1 = cc in absurd (omega arith)
   as-call (pick k f o ps r e) c = let z : _≡_ {A = ℕ} 0 1 = cc in absurd (omega arith)
   as-call (undecided k f e) c = let z : _≡_ {A = ℕ} 0 1 = cc in absurd (omega arith)
 
-  pub as-group : View goals p inner l ls t → (op : kinds.Op) → codeOf (l .code) ≡ codes.Group op → Noded (opOf op) (inner p) (l .first) ls t
+  pub as-group : View goals p inner l ls t → (op : kinds.Op) → codeOf (l .code) ≡ codes.Group op
+      → Noded (opOf op) (inner p) (l .first) ls t
   as-group (call k f e) op c = let z : _≡_ {A = ℕ} 0 1 = cc in absurd (omega arith)
   as-group (group o k f ps r e) op c =
       let same : op ≡ o = cc in
-      record { taken = ps; read = r; is = ap (λ (x : kinds.Op). record { part = Node (opOf x) (ps .parts); rest = ps .rest }) same ∙ e }
+      record {
+        taken = ps;
+        read = r;
+        is = ap (λ (x : kinds.Op). record { part = Node (opOf x) (ps .parts); rest = ps .rest }) same ∙ e;
+      }
   as-group (pick k f o ps r e) op c = let z : _≡_ {A = ℕ} 0 1 = cc in absurd (omega arith)
   as-group (undecided k f e) op c = let z : _≡_ {A = ℕ} 0 1 = cc in absurd (omega arith)
 
-  pub as-pick : View goals p inner l ls t → codeOf (l .code) ≡ codes.Pick → (p ≡ false) × Noded Pick (inner true) (l .first) ls t
+  pub as-pick : View goals p inner l ls t → codeOf (l .code) ≡ codes.Pick
+      → (p ≡ false) × Noded Pick (inner true) (l .first) ls t
   as-pick (call k f e) c = let z : _≡_ {A = ℕ} 0 1 = cc in absurd (omega arith)
   as-pick (group op k f ps r e) c = let z : _≡_ {A = ℕ} 0 1 = cc in absurd (omega arith)
   as-pick (pick k f o ps r e) c = (o, record { taken = ps; read = r; is = e })
@@ -263,7 +278,8 @@ pub record Below (inner : Bool → List Line → Option TakenPart) (l : Line) (l
 below-as : (l : Line) {k : Code} → codeOf (l .code) ≡ k → partsBelow l ≡ countBelow k (l .first)
 below-as l e = ap (λ (c : Code). countBelow c (l .first)) e
 
-pub below-is : (l : Line) (code : Code) → code ≡ codeOf (l .code) → (k : Code) → code ≡ k → countBelow k (l .first) ≡ partsBelow l
+pub below-is : (l : Line) (code : Code) → code ≡ codeOf (l .code) → (k : Code) → code ≡ k
+    → countBelow k (l .first) ≡ partsBelow l
 below-is l code is k e = sym (below-as l (sym is ∙ e))
 
 module _ (inner : Bool → List Line → Option TakenPart) (l : Line) (ls : List Line) (t : TakenPart) where

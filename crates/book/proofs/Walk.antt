@@ -1,29 +1,26 @@
 -- A part of a book is walked by its first line, and the parts below it one by one.
 use mathlib.Core.Path.{_≡_, refl, sym, ap, _∙_}
 use mathlib.Core.Bool.{Bool, true, false, _&&_}
-use mathlib.Core.Option.{Option, none, some}
-use mathlib.Core.List.{List, [], _∷_}
-use mathlib.Core.Logic.{_⊎_, inl, inr}
-use Prim.Native.Nat.{ℕ, zero, suc, _+_, _-_, _/_, _≤_, _<_}
+use mathlib.Core.Option.{Option, some}
+use mathlib.Core.List.{List}
+use Prim.Native.Nat.{ℕ, suc, _-_, _≤_, _<_}
 use native.Mathlib.Omega.{arith}
-use native.Mathlib.Numerals.{sub-one}
 use native.Mathlib.Decide.{decLt}
-use lib.ListN.{length, getD, take, drop}
+use lib.ListN.{length, drop}
 use lib.Dec.{eqb, leb, ltb}
 use borrow.Author.Tests.{leb-true, ltb-true}
 use Rattle.definition.specs.declared.format.Line.{Line}
 use Rattle.definition.specs.Paths.{kindOf}
-use Rattle.definition.specs.Part.{Op, All, Any, Pick, Part, Parts, Call, Node, UndecidedLine, Then, End}
-use Rattle.definition.specs.Reader.{TakenPart, TakenParts, readParts, readByCode, readFirst, readPart}
+use Rattle.definition.specs.Part.{Op, Pick, Part, Parts, Call, Node, UndecidedLine, Then, End}
+use Rattle.definition.specs.Reader.{TakenPart, TakenParts, readParts, readByCode, readPart}
 use Rattle.book.specs.declared.code.Op as kinds
 use Rattle.book.specs.declared.code.Code.the-variants as codes
 use Rattle.book.specs.Lines.{lineIn, linesIn}
 use Rattle.book.specs.Codes.{opOf, codeOf}
-use Rattle.book.specs.Grammar.{callFits}
 use Rattle.book.specs.Parts.{partRead, takenOr, partIn, restIn, Reads, StartsPart, partsRead, takenPartsOr, partsIn, restAfter, ReadsParts}
 use Rattle.book.proofs.Lines.{lines-cons, lines-none}
 use Rattle.book.proofs.Codes.{known-digit}
-use Rattle.book.proofs.Views.{never, of-some, First, uncons, View, view, Noded, as-call, as-group, as-pick, as-undecided, not-goal, not-unknown, Looser, looser-refl, Within, part-within, parts-within}
+use Rattle.book.proofs.Views.{never, of-some, First, uncons, View, view, Noded, as-call, as-group, as-pick, as-undecided, not-goal, not-unknown, looser-refl, part-within}
 
 -- ---- what was read
 module _ (goals : ℕ) (p : Bool) (bytes : List ℕ) (t : TakenPart) (e : partRead goals p bytes ≡ some t) where
@@ -102,7 +99,8 @@ module _ (goals : ℕ) (p : Bool) (bytes : List ℕ) (l : Line) (is : l ≡ line
       tests true false c d e = off e
       tests false b c d e = off e
 
-  pub is-call : codeOf (l .code) ≡ codes.Call → (partIn goals p bytes ≡ Call (l .first) (kindOf (l .second)) (eqb (l .third) 1)) × (l .first < goals)
+  pub is-call : codeOf (l .code) ≡ codes.Call
+      → (partIn goals p bytes ≡ Call (l .first) (kindOf (l .second)) (eqb (l .third) 1)) × (l .first < goals)
   unfolding whole
   is-call k = let v = as-call seen k in (ap (λ (t : TakenPart). t .part) (sym (v .1)), fits k .0)
 
@@ -111,10 +109,14 @@ module _ (goals : ℕ) (p : Bool) (bytes : List ℕ) (l : Line) (is : l ≡ line
   has-digits k = fits k .1
 
   pub is-group : (op : kinds.Op) → codeOf (l .code) ≡ codes.Group op
-      → (partIn goals p bytes ≡ Node (opOf op) (partsIn goals p (l .first) (drop 16 bytes))) × ReadsParts goals p (l .first) (drop 16 bytes)
+      → (partIn goals p bytes ≡ Node (opOf op) (partsIn goals p (l .first) (drop 16 bytes)))
+      × ReadsParts goals p (l .first) (drop 16 bytes)
   is-group op k = node (opOf op) p (as-group seen op k)
 
-  pub is-pick : codeOf (l .code) ≡ codes.Pick → (p ≡ false) × ((partIn goals p bytes ≡ Node Pick (partsIn goals true (l .first) (drop 16 bytes))) × ReadsParts goals true (l .first) (drop 16 bytes))
+  pub is-pick : codeOf (l .code) ≡ codes.Pick
+      → (p ≡ false)
+      × ((partIn goals p bytes ≡ Node Pick (partsIn goals true (l .first) (drop 16 bytes)))
+      × ReadsParts goals true (l .first) (drop 16 bytes))
   is-pick k = let v = as-pick seen k in (v .0, node Pick true (v .1))
 
   pub is-undecided : codeOf (l .code) ≡ codes.Undecided → partIn goals p bytes ≡ UndecidedLine

@@ -1,5 +1,4 @@
 -- A call line.
-use Prim.Native.Nat.{ℕ}
 use lib.Dec.{eqb}
 use Rattle.definition.specs.declared.format.Line.{Line}
 use Rattle.definition.specs.Paths.{kindOf}

@@ -36,6 +36,10 @@ pub record PassedOver (goals : ℕ) (inPick : Bool) (bytes rest : List ℕ) : Ty
   pub lines : linesIn rest ≡ restIn goals inPick bytes
   pub shorter : length rest < length bytes
 
+-- of whatever book it is a part
+abbrev pub Passed : List ℕ → List ℕ → Type 0
+Passed bytes rest = (goals : ℕ) (inPick : Bool) → Reads goals inPick bytes → PassedOver goals inPick bytes rest
+
 -- for some book
 pub record StartsPart (bytes : List ℕ) : Type 0 where
   pub goals : ℕ

@@ -3,13 +3,12 @@ use crate::code::Code;
 use crate::line;
 use definition::paths::PathKind;
 ghost use mathlib.Core.Path.{_≡_};
-ghost use mathlib.Core.Bool.{Bool};
-ghost use Prim.Native.Nat.{ℕ, _≤_, _<_};
+ghost use Prim.Native.Nat.{_≤_, _<_};
 ghost use lib.ListN.{length, getD, drop};
 ghost use Rattle.definition.specs.Paths.{kindOf};
 ghost use Rattle.book.specs.Lines.{lineIn};
 ghost use Rattle.book.specs.Codes.{codeOf, partsBelow};
-ghost use Rattle.book.specs.Parts.{Reads, StartsPart, PassedOver};
+ghost use Rattle.book.specs.Parts.{StartsPart, Passed};
 ghost use Rattle.book.specs.Calls.{callOf};
 
 // A call line.
@@ -63,7 +62,7 @@ fn below(part: &[u8]) -> usize
 // Passes over the part that the bytes start with, and hands back the rest.
 pub fn next(part: &[u8]) -> &[u8]
     requires { ⌜ StartsPart (now part) ⌝ }
-    ensures { λ r. ⌜ ((goals : ℕ) (inPick : Bool) → Reads goals inPick (now (part .entry)) → PassedOver goals inPick (now (part .entry)) (now r)) ⌝ }
+    ensures { λ r. ⌜ Passed (now (part .entry)) (now r) ⌝ }
 {
     let mut t = part;
     let mut pending: usize = 1;

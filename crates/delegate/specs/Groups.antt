@@ -37,7 +37,10 @@ module _ (evaluate : Evaluator) (goals : ℕ) where
   -- a part came to the answer a, and these parts are left
   abbrev pub nextOf : Op → Answer → Parts → Graph → Answer → graph.Outcome
   nextOf op combined ps g a =
-      elim (sameAnswer a (deciding op)) [ true ↦ graph.Done g (deciding op) | false ↦ restOf op (combine combined a) ps g ]
+      elim (sameAnswer a (deciding op)) [
+        | true ↦ graph.Done g (deciding op)
+        | false ↦ restOf op (combine combined a) ps g
+      ]
 
   abbrev pub rest : Group → Parts → Graph → graph.Outcome
   rest group ps g = restOf (group .op) (group .combined) ps g

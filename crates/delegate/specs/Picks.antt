@@ -1,4 +1,5 @@
--- A pick among candidates: what the functions of `pick` say, with `height` frames on the stack. The merged usages are those of the top frame.
+-- A pick among candidates: what the functions of `pick` say, with `height` frames on the stack. The merged usages are
+-- those of the top frame.
 use mathlib.Core.Path.{_≡_}
 use mathlib.Core.Bool.{Bool, not, _&&_, _||_}
 use mathlib.Core.Option.{Option}
@@ -12,7 +13,8 @@ use Rattle.definition.specs.Part.{Parts, Node}
 use Rattle.definition.specs.Part as part
 use Rattle.definition.specs.Graph.{Graph, andThen}
 use Rattle.definition.specs.Graph as graph
-use Rattle.definition.specs.Candidates.{setCandidateUsages, enterSingleCandidate, candidateUsagesOf, finishedUsages, finishSingleCandidate}
+use Rattle.definition.specs.Candidates.{setCandidateUsages, candidateUsagesOf, finishedUsages}
+use Rattle.definition.specs.Candidates.{enterSingleCandidate, finishSingleCandidate}
 use Rattle.definition.specs.Evaluate.{Evaluator, mergeUnless, endPick, evalPart, evalPick}
 use Rattle.layout.specs.Work.{stackOf, entriesOf, mergedOf, graphOf}
 use Rattle.evaluation.specs.declared.Outcome.{Outcome}
@@ -22,6 +24,10 @@ use Rattle.candidates.specs.Written.{MergedWritten}
 use Rattle.delegate.specs.declared.pick.Pick.{Pick}
 use Rattle.delegate.specs.declared.pick.Tried.{Tried}
 use Rattle.delegate.specs.declared.pick.Tried.the-variants.{Ended, More}
+
+-- the graph that a workspace holds
+abbrev pub graphAt : ℕ → ℕ → ℕ → ℕ → List ℕ → List ℕ → Graph
+graphAt goals root height n work cache = graphOf goals root height n (graphIn goals work) cache
 
 -- ---- what a pick comes to; `others`: the merged usages
 module _ (evaluate : Evaluator) (goals : ℕ) where
@@ -45,16 +51,15 @@ MergedKept goals old new = KeptBelow goals goals old new
 -- ---- `begin`
 pub record PickBegun (goals height entries : ℕ) (old new : List ℕ) (pick : Pick) : Type 0 where
   pub whole : (evaluate : Evaluator) (ps : Parts) (root n : ℕ) (cache : List ℕ)
-      → rest evaluate goals pick ps (mergedOf goals (height - 1) new) (graphOf goals root height n (graphIn goals new) cache)
-      ≡ evalPart evaluate goals (Node part.Pick ps) (graphOf goals root height n (graphIn goals old) cache)
+      → rest evaluate goals pick ps (mergedOf goals (height - 1) new) (graphAt goals root height n new cache)
+      ≡ evalPart evaluate goals (Node part.Pick ps) (graphAt goals root height n old cache)
   pub count : pick .entries ≡ entries
   pub kept : KeptBelow goals (height - 1) old new
 
 -- ---- `enter_candidate`
 pub record CandidateEntered (goals height : ℕ) (old new : List ℕ) : Type 0 where
   pub whole : (root n : ℕ) (cache : List ℕ)
-      → graphOf goals root height n (graphIn goals new) cache
-      ≡ enterSingleCandidate goals (graphOf goals root height n (graphIn goals old) cache)
+      → graphAt goals root height n new cache ≡ enterSingleCandidate goals (graphAt goals root height n old cache)
   pub kept : MergedKept goals old new
 
 -- ---- `finish_candidate`
@@ -64,7 +69,7 @@ unfoldable pub leftOf : Evaluator → ℕ → ℕ → ℕ → Parts → List ℕ
 leftOf evaluate goals root height ps work cache (Ended o) = outcomeOf goals root height (graphIn goals work) cache o
 leftOf evaluate goals root height ps work cache (More pick) =
     rest evaluate goals pick ps (mergedOf goals (height - 1) work)
-    (graphOf goals root height (pick .entries) (graphIn goals work) cache)
+    (graphAt goals root height (pick .entries) work cache)
 
 -- no more provisional entries than the graph has room for
 abbrev pub FewLeft : ℕ → Tried → Type 0
@@ -84,7 +89,7 @@ pub record PickEnded (goals height : ℕ) (pick : Pick) (old new : List ℕ) (o 
   pub whole : (root : ℕ) (cache : List ℕ)
       → outcomeOf goals root height (graphIn goals new) cache o
       ≡ endPick (pick .met) (pick .combined) (mergedOf goals (height - 1) old)
-      (graphOf goals root height (pick .entries) (graphIn goals old) cache)
+      (graphAt goals root height (pick .entries) old cache)
   pub few : FewEntries goals o
   pub kept : MergedKept goals old new
 
@@ -92,19 +97,23 @@ pub record PickEnded (goals height : ℕ) (pick : Pick) (old new : List ℕ) (o 
 
 -- the frame's candidate usages are c
 pub record Tracked (goals own : ℕ) (c : Option (List HeadUsages)) (old new : List ℕ) : Type 0 where
-  pub stack : stackOf goals (own + 1) (graphIn goals new) ≡ setCandidateUsages c (stackOf goals (own + 1) (graphIn goals old))
+  pub stack : stackOf goals (own + 1) (graphIn goals new)
+      ≡ setCandidateUsages c (stackOf goals (own + 1) (graphIn goals old))
   pub entries : (n : ℕ) → entriesOf goals n (graphIn goals new) ≡ entriesOf goals n (graphIn goals old)
   pub merged : MergedKept goals old new
+
+abbrev pub trackedIn : ℕ → ℕ → List ℕ → List HeadUsages
+trackedIn goals own work = candidateUsagesOf goals (stackOf goals (own + 1) (graphIn goals work))
 
 -- the frame's candidate usages are merged, unless its candidate is the first Yes
 abbrev pub MergedUnless : Bool → ℕ → ℕ → List ℕ → List ℕ → Type 0
 MergedUnless first goals own old new =
-    MergedWritten goals own
-    (mergeUnless first (mergedOf goals own old) (candidateUsagesOf goals (stackOf goals (own + 1) (graphIn goals old)))) old new
+    MergedWritten goals own (mergeUnless first (mergedOf goals own old) (trackedIn goals own old)) old new
 
+-- `r` is the pick after a candidate's answer
 pub record Counted (goals own : ℕ) (answer : Answer) (entries : ℕ) (pick : Pick) (old new : List ℕ) (r : Pick) : Type 0 where
   pub whole : (evaluate : Evaluator) (ps : Parts) (root n : ℕ) (cache : List ℕ)
-      → rest evaluate goals r ps (mergedOf goals own new) (graphOf goals root (own + 1) n (graphIn goals new) cache)
-      ≡ next evaluate goals pick ps (mergedOf goals own old) (graphOf goals root (own + 1) n (graphIn goals old) cache) answer
+      → rest evaluate goals r ps (mergedOf goals own new) (graphAt goals root (own + 1) n new cache)
+      ≡ next evaluate goals pick ps (mergedOf goals own old) (graphAt goals root (own + 1) n old cache) answer
   pub count : r .entries ≡ entries
   pub kept : KeptBelow goals own old new

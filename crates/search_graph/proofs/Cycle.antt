@@ -25,6 +25,7 @@ use Rattle.evaluation.specs.declared.Outcome.the-variants.{Done, Stopped}
 use Rattle.evaluation.specs.declared.TaskOutcome.{TaskOutcome}
 use Rattle.evaluation.specs.Workspace.{WorkBytes, graphIn}
 use Rattle.evaluation.specs.Outcomes.{outcomeOf, taskOutcomeOf}
+use Rattle.delegate.specs.Picks.{graphAt}
 use Rattle.lookup.specs.declared.Found.{Found}
 use Rattle.lookup.specs.declared.Found.the-variants.{Known, Push}
 use Rattle.lookup.specs.Lookups.{found}
@@ -32,7 +33,7 @@ use Rattle.task.specs.declared.Iteration.{Iteration}
 use Rattle.task.specs.declared.Iteration.the-variants.{End, Again}
 use Rattle.task.specs.Turns.{turn, turned, FewTurned}
 use Rattle.task.proofs.Turns.{turn-is}
-use Rattle.search_graph.specs.Calls.{Running, graphHeld, evaluator, goalFrom, taskFrom, Comes, TaskComes}
+use Rattle.search_graph.specs.Calls.{Running, evaluator, goalFrom, taskFrom, Comes, TaskComes}
 use Rattle.search_graph.specs.Between.{LookedUp, Pushed, IterationEnded, Finished}
 
 -- ---- the measure: goals off the stack, then iterations left, then bytes left
@@ -88,11 +89,11 @@ module _ {book starts cache work : List ℕ} {h : Header} {root height n goal : 
     (run : Running book starts cache work h root height n) {work1 : List ℕ} {r : Found}
     (looked : LookedUp h root height n goal step lower work work1 cache r) where
   finds : goalFrom book h root height n work cache goal step lower
-      ≡ found h (computer book h height) goal step r (graphHeld (h .goals) root height n work1 cache)
+      ≡ found h (computer book h height) goal step r (graphAt (h .goals) root height n work1 cache)
   finds =
-      evaluates (bookIn book) (h .goals - height) (graphHeld (h .goals) root height n work cache) goal step lower
+      evaluates (bookIn book) (h .goals - height) (graphAt (h .goals) root height n work cache) goal step lower
       ∙ ap (λ (x : Header). evaluateGoalWith x (computer book h height)
-      (graphHeld (h .goals) root height n work cache) goal step lower)
+      (graphAt (h .goals) root height n work cache) goal step lower)
       (run .read .header)
       ∙ looked .is (computer book h height)
 
@@ -103,17 +104,17 @@ module _ {book starts cache work : List ℕ} {h : Header} {root height n goal : 
   known a e =
       record {
         is = sym (finds ∙ ap (λ (x : Found). found h (computer book h height) goal step x
-            (graphHeld (h .goals) root height n work1 cache)) e);
+            (graphAt (h .goals) root height n work1 cache)) e);
         few = run .entries;
         merged = λ i lt. looked .merged i;
       }
 
   module _ {d : ℕ} (e : r ≡ Push d) where
     pushes : goalFrom book h root height n work cache goal step lower
-        ≡ evaluateNewFrame h (computer book h height) (graphHeld (h .goals) root height n work1 cache) goal step d
+        ≡ evaluateNewFrame h (computer book h height) (graphAt (h .goals) root height n work1 cache) goal step d
     unfolding found
     pushes = finds ∙ ap (λ (x : Found). found h (computer book h height) goal step x
-        (graphHeld (h .goals) root height n work1 cache)) e
+        (graphAt (h .goals) root height n work1 cache)) e
 
     -- every goal is on the stack
     pub full : h .goals ≤ height
@@ -126,7 +127,7 @@ module _ {book starts cache work : List ℕ} {h : Header} {root height n goal : 
           is = sym
               (pushes
               ∙ ap (λ (off : ℕ). evaluateNewFrame h (computeBy (bookIn book) off)
-              (graphHeld (h .goals) root height n work1 cache) goal step d)
+              (graphAt (h .goals) root height n work1 cache) goal step d)
               none-off
               ∙ stops (pred (h .limit)) _);
           few = tt;
@@ -173,8 +174,8 @@ module _ {book starts cache work : List ℕ} {h : Header} {root height n goal : 
 
         tasks : taskOutcomeOf (h .goals) root height (graphIn (h .goals) work3) cache3 o
             ≡ evaluateGoalInTask (computer book h height goal) (pred (h .limit)) false
-            (withStack (graphHeld (h .goals) root height n work1 cache)
-            (newFrame (h .goals) goal step d ∷ graphHeld (h .goals) root height n work1 cache .stack))
+            (withStack (graphAt (h .goals) root height n work1 cache)
+            (newFrame (h .goals) goal step d ∷ graphAt (h .goals) root height n work1 cache .stack))
         tasks =
             ap (λ (m : ℕ). taskOutcomeOf (h .goals) root m (graphIn (h .goals) work3) cache3 o) (sym popped)
             ∙ ran .is
@@ -195,12 +196,12 @@ pub record Turn (f : Graph → graph.Outcome) (goals root height most : ℕ) (wh
     (left : ℕ) (overflow : Bool) (n : ℕ) : Type 0 where
   pub low : left ≤ most
   pub few : n ≤ 2 * goals
-  pub value : evaluateGoalInTask f left overflow (graphHeld goals root height n work cache) ≡ whole
+  pub value : evaluateGoalInTask f left overflow (graphAt goals root height n work cache) ≡ whole
   pub merged : (i : ℕ) → i < height - 1 → mergedOf goals i work ≡ mergedOf goals i first
 
 pub turn-starts : {f : Graph → graph.Outcome} {goals root height : ℕ} {work cache : List ℕ} {left : ℕ}
     {overflow : Bool} {n : ℕ} → n ≤ 2 * goals
-    → Turn f goals root height left (evaluateGoalInTask f left overflow (graphHeld goals root height n work cache))
+    → Turn f goals root height left (evaluateGoalInTask f left overflow (graphAt goals root height n work cache))
     work work cache left overflow n
 turn-starts few =
     record { low = omega arith; few = few; value = refl; merged = λ i lt. refl }
@@ -209,13 +210,13 @@ module _ {f : Graph → graph.Outcome} {goals root height most : ℕ} {whole : t
     {first work cache : List ℕ}
     {left : ℕ} {overflow : Bool} {n : ℕ} (here : Turn f goals root height most whole first work cache left overflow n)
     {work1 cache1 : List ℕ} {o : Outcome}
-    (read : Comes goals root height (height - 1) (f (graphHeld goals root height n work cache)) work work1 cache1 o)
+    (read : Comes goals root height (height - 1) (f (graphAt goals root height n work cache)) work work1 cache1 o)
     {work2 : List ℕ} {r : Iteration} (ended : IterationEnded goals height left overflow o work1 work2 r) where
   goes-on : turned goals root height (evaluateGoalInTask f (left - 1)) (graphIn goals work2) cache1 r ≡ whole
   goes-on =
       sym (ended .is root cache1 (evaluateGoalInTask f (left - 1)))
       ∙ ap (turn left (evaluateGoalInTask f (left - 1)) overflow) (read .is)
-      ∙ sym (turn-is f left overflow (graphHeld goals root height n work cache))
+      ∙ sym (turn-is f left overflow (graphAt goals root height n work cache))
       ∙ here .value
 
   merged-on : (i : ℕ) → i < height - 1 → mergedOf goals i work2 ≡ mergedOf goals i first

@@ -12,7 +12,7 @@ use Rattle.definition.specs.declared.format.Header.{Header}
 use Rattle.definition.specs.declared.answers.Answer.the-variants as answers
 use Rattle.definition.specs.Part.{Part, Parts, Node, UndecidedLine, Then}
 use Rattle.definition.specs.Part as part
-use Rattle.definition.specs.Graph.{Graph, andThen}
+use Rattle.definition.specs.Graph.{andThen}
 use Rattle.definition.specs.Graph as graph
 use Rattle.definition.specs.Candidates.{enterSingleCandidate}
 use Rattle.definition.specs.Evaluate.{evalPart}
@@ -41,10 +41,10 @@ use Rattle.delegate.specs.Groups as groups
 use Rattle.delegate.specs.declared.pick.Pick.{Pick}
 use Rattle.delegate.specs.declared.pick.Tried.{Tried}
 use Rattle.delegate.specs.declared.pick.Tried.the-variants as tried
-use Rattle.delegate.specs.Picks.{PickBegun, CandidateEntered, CandidateFinished, PickEnded}
+use Rattle.delegate.specs.Picks.{graphAt, PickBegun, CandidateEntered, CandidateFinished, PickEnded}
 use Rattle.delegate.specs.Picks as picks
 use Rattle.delegate.proofs.Groups.{rest-then}
-use Rattle.search_graph.specs.Calls.{Running, graphHeld, evaluator, goalFrom, partFrom, Comes, keptBelow}
+use Rattle.search_graph.specs.Calls.{Running, evaluator, goalFrom, partFrom, Comes, keptBelow}
 
 -- ---- by the first line
 module _ (goals : ℕ) (inPick : Bool) (p : List ℕ) (reads : Reads goals inPick p) where
@@ -81,7 +81,7 @@ module _ {book starts cache work : List ℕ} {h : Header} {root height n : ℕ}
         is = c .is
             ∙ ap (λ (x : Call). goalFrom book h root height n work cache (x .goal) (x .step) (x .lower)) made
             ∙ ap (λ (x : Part). evalPart (evaluator book h height) (h .goals) x
-            (graphHeld (h .goals) root height n work cache))
+            (graphAt (h .goals) root height n work cache))
             (sym (is-call (h .goals) inPick p (lineIn p) refl reads k .0));
         few = c .few;
         merged = λ i lt. c .merged i (below-height inPick height i lt);
@@ -95,7 +95,7 @@ module _ {book starts cache work : List ℕ} {h : Header} {root height n : ℕ}
   undecided-comes code e k =
       record {
         is = ap (λ (x : Part). evalPart (evaluator book h height) (h .goals) x
-            (graphHeld (h .goals) root height n work cache))
+            (graphAt (h .goals) root height n work cache))
             (sym (undecided (h .goals) inPick p reads code e k));
         few = run .entries;
         merged = λ i lt. refl;
@@ -150,7 +150,7 @@ pub record GroupWalk (book : List ℕ) (h : Header) (root height : ℕ) (inPick 
   pub parts : ReadsParts (h .goals) inPick k t
   pub shorter : length t < room
   pub value : groups.rest (evaluator book h height) (h .goals) group (partsIn (h .goals) inPick k t)
-      (graphHeld (h .goals) root height (group .entries) work cache)
+      (graphAt (h .goals) root height (group .entries) work cache)
       ≡ whole
   pub merged : (i : ℕ) → i < keptBelow inPick height → mergedOf (h .goals) i work ≡ mergedOf (h .goals) i first
 
@@ -174,7 +174,7 @@ group-starts {book} {starts} {cache} {work} {h} {root} {height} run inPick p rea
       shorter = part-shorter 16 p (omega arith) (a-line (h .goals) inPick p (lineIn p) refl reads);
       value = started .whole (evaluator book h height) (h .goals) (partsIn (h .goals) inPick k t) _
           ∙ (λ i. evalPart (evaluator book h height) (h .goals) (sym (below .0) i)
-          (graphHeld (h .goals) root height (started .count i) work cache));
+          (graphAt (h .goals) root height (started .count i) work cache));
       merged = λ i lt. refl;
     }
 
@@ -190,7 +190,7 @@ module _ {book : List ℕ} {h : Header} {root height : ℕ} {inPick : Bool} {who
         is = closed .whole (evaluator book h height) (h .goals) root height (graphIn (h .goals) work) cache
             ∙ ap (λ (ps : Parts).
             groups.rest (evaluator book h height) (h .goals) group ps
-            (graphHeld (h .goals) root height (group .entries) work cache))
+            (graphAt (h .goals) root height (group .entries) work cache))
             (sym (no-parts (h .goals) inPick k t (walk .parts) z))
             ∙ walk .value;
         few = closed .few (h .goals) (walk .few);
@@ -211,7 +211,7 @@ module _ {book : List ℕ} {h : Header} {root height : ℕ} {inPick : Bool} {who
         ∙ sym (rest-then (evaluator book h height) (h .goals) group (partIn (h .goals) inPick t) ps _)
         ∙ ap (λ (qs : Parts).
         groups.rest (evaluator book h height) (h .goals) group qs
-        (graphHeld (h .goals) root height (group .entries) work cache))
+        (graphAt (h .goals) root height (group .entries) work cache))
         (sym e)
         ∙ walk .value
 
@@ -253,7 +253,7 @@ abbrev pub pickFrom : List ℕ → Header → ℕ → ℕ → List ℕ → List 
 pickFrom book h root height work cache pick t k =
     picks.rest (evaluator book h height) (h .goals) pick (partsIn (h .goals) true k t)
     (mergedOf (h .goals) (height - 1) work)
-    (graphHeld (h .goals) root height (pick .entries) work cache)
+    (graphAt (h .goals) root height (pick .entries) work cache)
 
 pub record PickWalk (book : List ℕ) (h : Header) (root height : ℕ) (whole : graph.Outcome) (room : ℕ)
     (first work cache : List ℕ) (pick : Pick) (t : List ℕ) (k : ℕ) : Type 0 where
@@ -298,7 +298,7 @@ module _ {book starts cache work : List ℕ} {h : Header} {root height n : ℕ}
             ∙ begun .whole (evaluator book h height) (partsIn (h .goals) true k (take (length p - 16) (drop 16 p)))
             root (pick .entries) cache
             ∙ (λ i. evalPart (evaluator book h height) (h .goals) (sym (candidates .0) i)
-            (graphHeld (h .goals) root height (begun .count i) work cache));
+            (graphAt (h .goals) root height (begun .count i) work cache));
         few = came .few;
         merged = λ i lt. let low = alone i lt in came .merged i low ∙ begun .kept i low;
       }
@@ -319,7 +319,7 @@ module _ {book : List ℕ} {h : Header} {root height : ℕ} {whole : graph.Outco
         is = ended .whole root cache
             ∙ ap (λ (ps : Parts).
             picks.rest (evaluator book h height) (h .goals) pick ps (mergedOf (h .goals) (height - 1) work)
-            (graphHeld (h .goals) root height (pick .entries) work cache))
+            (graphAt (h .goals) root height (pick .entries) work cache))
             (sym (no-parts (h .goals) true k t (walk .parts) z))
             ∙ walk .value;
         few = ended .few;
@@ -336,9 +336,9 @@ module _ {book : List ℕ} {h : Header} {root height : ℕ} {whole : graph.Outco
     own-kept = read .merged (height - 1) (omega arith) ∙ enter .kept (height - 1) (omega arith)
 
     entered : evalPart (evaluator book h height) (h .goals) (partIn (h .goals) true t)
-        (graphHeld (h .goals) root height (pick .entries) work1 cache)
+        (graphAt (h .goals) root height (pick .entries) work1 cache)
         ≡ evalPart (evaluator book h height) (h .goals) (partIn (h .goals) true t)
-        (enterSingleCandidate (h .goals) (graphHeld (h .goals) root height (pick .entries) work cache))
+        (enterSingleCandidate (h .goals) (graphAt (h .goals) root height (pick .entries) work cache))
     entered = ap (evalPart (evaluator book h height) (h .goals) (partIn (h .goals) true t))
         (enter .whole root (pick .entries) cache)
 
@@ -350,7 +350,7 @@ module _ {book : List ℕ} {h : Header} {root height : ℕ} {whole : graph.Outco
         (picks.next (evaluator book h height) (h .goals) pick ps (own-kept i)))
         ∙ ap (λ (qs : Parts).
         picks.rest (evaluator book h height) (h .goals) pick qs (mergedOf (h .goals) (height - 1) work)
-        (graphHeld (h .goals) root height (pick .entries) work cache))
+        (graphAt (h .goals) root height (pick .entries) work cache))
         (sym e)
         ∙ walk .value
 

@@ -24,7 +24,8 @@ returns-2 : tie.Need-returns-2
 unfolding lineIn
 returns-2 c =
     let a = c .before .before .before .before .args in
-    c .uses-first .ensures ∙ this-goal (lineIn (a .s .now)) (a .goal) _ (c .before .before .field-at .ensures) (c .before .if1 .left)
+    c .uses-first .ensures
+    ∙ this-goal (lineIn (a .s .now)) (a .goal) _ (c .before .before .field-at .ensures) (c .before .if1 .left)
 
 pub goal-fits-spec : {M : Type 1} → statement M
 goal-fits-spec =

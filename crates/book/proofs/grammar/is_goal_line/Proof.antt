@@ -38,42 +38,48 @@ returns : tie.Need-returns
 unfolding lineIn
 returns c =
     let a = c .before .before .before .before .before .before .args in
-    let is = c .before .before .before .of-number .ensures ∙ ap codeOf (c .before .before .before .before .field-at .ensures) in
+    let number = c .before .before .before .before .field-at in
+    let is = c .before .before .before .of-number .ensures ∙ ap codeOf (number .ensures) in
     c .goal-fits .ensures ∙ by-goal (lineIn (a .s .now)) (a .goal) _ is (c .before .enum-told .given .1)
 
 returns-2 : tie.Need-returns-2
 unfolding lineIn
 returns-2 c =
     let a = c .before .before .before .before .before .args in
-    let is = c .before .before .of-number .ensures ∙ ap codeOf (c .before .before .before .field-at .ensures) in
+    let number = c .before .before .before .field-at in
+    let is = c .before .before .of-number .ensures ∙ ap codeOf (number .ensures) in
     no-goal-line (lineIn (a .s .now)) (a .goal) _ is (ap isGoal (c .enum-told2 .given .1))
 
 returns-3 : tie.Need-returns-3
 unfolding lineIn
 returns-3 c =
     let a = c .before .before .before .before .before .args in
-    let is = c .before .before .of-number .ensures ∙ ap codeOf (c .before .before .before .field-at .ensures) in
+    let number = c .before .before .before .field-at in
+    let is = c .before .before .of-number .ensures ∙ ap codeOf (number .ensures) in
     no-goal-line (lineIn (a .s .now)) (a .goal) _ is (ap isGoal (c .enum-told3 .given .1))
 
 returns-4 : tie.Need-returns-4
 unfolding lineIn
 returns-4 c =
     let a = c .before .before .before .before .before .args in
-    let is = c .before .before .of-number .ensures ∙ ap codeOf (c .before .before .before .field-at .ensures) in
+    let number = c .before .before .before .field-at in
+    let is = c .before .before .of-number .ensures ∙ ap codeOf (number .ensures) in
     no-goal-line (lineIn (a .s .now)) (a .goal) _ is (ap isGoal (c .enum-told4 .given .1))
 
 returns-5 : tie.Need-returns-5
 unfolding lineIn
 returns-5 c =
     let a = c .before .before .before .before .before .args in
-    let is = c .before .before .of-number .ensures ∙ ap codeOf (c .before .before .before .field-at .ensures) in
+    let number = c .before .before .before .field-at in
+    let is = c .before .before .of-number .ensures ∙ ap codeOf (number .ensures) in
     no-goal-line (lineIn (a .s .now)) (a .goal) _ is (ap isGoal (c .enum-told5 .given .1))
 
 returns-6 : tie.Need-returns-6
 unfolding lineIn
 returns-6 c =
     let a = c .before .before .before .before .before .args in
-    let is = c .before .before .of-number .ensures ∙ ap codeOf (c .before .before .before .field-at .ensures) in
+    let number = c .before .before .before .field-at in
+    let is = c .before .before .of-number .ensures ∙ ap codeOf (number .ensures) in
     no-goal-line (lineIn (a .s .now)) (a .goal) _ is (ap isGoal (c .enum-told6 .given .1))
 
 pub is-goal-line-spec : {M : Type 1} → statement M

@@ -65,7 +65,8 @@ unfolding lineIn
 returns c =
     λ inner ls.
     let a = c .before .before .before .before .before .args in
-    let is = c .before .before .of-number .ensures ∙ ap codeOf (c .before .before .before .field-at .ensures) in
+    let number = c .before .before .before .field-at in
+    let is = c .before .before .of-number .ensures ∙ ap codeOf (number .ensures) in
     goal-opens (a .goals) (a .in-pick) inner (lineIn (a .s .now)) ls _ is _ refl (c .enum-told .given .1)
 
 returns-2 : tie.Need-returns-2
@@ -73,43 +74,52 @@ unfolding lineIn
 returns-2 c =
     λ inner ls.
     let a = c .before .before .before .before .before .before .before .args in
-    let is = c .before .before .before .before .of-number .ensures ∙ ap codeOf (c .before .before .before .before .before .field-at .ensures) in
-    call-line (a .goals) (a .in-pick) inner (lineIn (a .s .now)) ls _ is (c .opened-if .result) (c .before .call-fits .result) (c .opened-if .ensures) (c .before .call-fits .ensures)
-    (c .before .before .enum-told2 .given .1)
+    let number = c .before .before .before .before .before .field-at in
+    let is = c .before .before .before .before .of-number .ensures ∙ ap codeOf (number .ensures) in
+    let fits = c .before .call-fits in
+    call-line (a .goals) (a .in-pick) inner (lineIn (a .s .now)) ls _ is (c .opened-if .result) (fits .result) (c .opened-if .ensures)
+    (fits .ensures) (c .before .before .enum-told2 .given .1)
 
 returns-3 : tie.Need-returns-3
 unfolding lineIn
 returns-3 c =
     λ inner ls.
     let a = c .before .before .before .before .before .before .before .before .args in
-    let is = c .before .before .before .before .before .of-number .ensures ∙ ap codeOf (c .before .before .before .before .before .before .field-at .ensures) in
-    group-line (a .goals) (a .in-pick) inner (lineIn (a .s .now)) ls _ is (c .opened-if2 .result) (c .before .before .uses-first .result) _ (c .before .field-at2 .ensures) _ (c .opened-if2 .ensures)
-    (c .before .before .uses-first .ensures) (c .before .before .before .enum-told3 .given .1)
+    let number = c .before .before .before .before .before .before .field-at in
+    let is = c .before .before .before .before .before .of-number .ensures ∙ ap codeOf (number .ensures) in
+    let fits = c .before .before .uses-first in
+    group-line (a .goals) (a .in-pick) inner (lineIn (a .s .now)) ls _ is (c .opened-if2 .result) (fits .result) _
+    (c .before .field-at2 .ensures) _ (c .opened-if2 .ensures) (fits .ensures) (c .before .before .before .enum-told3 .given .1)
 
 returns-4 : tie.Need-returns-4
 unfolding lineIn
 returns-4 c =
     λ inner ls.
     let a = c .before .before .before .before .before .before .before .before .args in
-    let is = c .before .before .before .before .before .of-number .ensures ∙ ap codeOf (c .before .before .before .before .before .before .field-at .ensures) in
-    pick-line (a .goals) (a .in-pick) inner (lineIn (a .s .now)) ls _ is (c .opened-if3 .result) (c .before .before .pick-fits .result) _ (c .before .field-at3 .ensures) (c .opened-if3 .ensures)
-    (c .before .before .pick-fits .ensures) (c .before .before .before .enum-told4 .given .1)
+    let number = c .before .before .before .before .before .before .field-at in
+    let is = c .before .before .before .before .before .of-number .ensures ∙ ap codeOf (number .ensures) in
+    let fits = c .before .before .pick-fits in
+    pick-line (a .goals) (a .in-pick) inner (lineIn (a .s .now)) ls _ is (c .opened-if3 .result) (fits .result) _
+    (c .before .field-at3 .ensures) (c .opened-if3 .ensures) (fits .ensures) (c .before .before .before .enum-told4 .given .1)
 
 returns-5 : tie.Need-returns-5
 unfolding lineIn
 returns-5 c =
     λ inner ls.
     let a = c .before .before .before .before .before .before .before .args in
-    let is = c .before .before .before .before .of-number .ensures ∙ ap codeOf (c .before .before .before .before .before .field-at .ensures) in
-    undecided-line (a .goals) (a .in-pick) inner (lineIn (a .s .now)) ls _ is (c .opened-if4 .result) (c .before .undecided-fits .result) (c .opened-if4 .ensures)
-    (c .before .undecided-fits .ensures) (c .before .before .enum-told5 .given .1)
+    let number = c .before .before .before .before .before .field-at in
+    let is = c .before .before .before .before .of-number .ensures ∙ ap codeOf (number .ensures) in
+    let fits = c .before .undecided-fits in
+    undecided-line (a .goals) (a .in-pick) inner (lineIn (a .s .now)) ls _ is (c .opened-if4 .result) (fits .result)
+    (c .opened-if4 .ensures) (fits .ensures) (c .before .before .enum-told5 .given .1)
 
 returns-6 : tie.Need-returns-6
 unfolding lineIn
 returns-6 c =
     λ inner ls.
     let a = c .before .before .before .before .before .args in
-    let is = c .before .before .of-number .ensures ∙ ap codeOf (c .before .before .before .field-at .ensures) in
+    let number = c .before .before .before .field-at in
+    let is = c .before .before .of-number .ensures ∙ ap codeOf (number .ensures) in
     unknown-line (a .goals) (a .in-pick) inner (lineIn (a .s .now)) ls _ is _ refl (c .enum-told6 .given .1)
 
 pub opened-by-spec : {M : Type 1} → statement M

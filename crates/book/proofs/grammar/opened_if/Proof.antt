@@ -1,4 +1,3 @@
-use borrow.Author.Needs.{needs}
 use Rattle.book.proofs.Sizes.{opens, opens-not}
 use Rattle.book.proofs.grammar.opened_if.Statement.{statement}
 use Rattle.book.proofs.grammar.opened_if.Tie as tie

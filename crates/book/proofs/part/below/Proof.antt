@@ -46,14 +46,16 @@ returns-2 c =
 returns-3 : tie.Need-returns-3
 returns-3 c =
     let a = c .before .before .before .before .before .args in (
-      c .count .ensures .0 ∙ below-is (lineIn (a .part .now)) _ (c .before .before .before .code .ensures) _ (c .before .enum-told3 .given .1),
+      c .count .ensures .0
+          ∙ below-is (lineIn (a .part .now)) _ (c .before .before .before .code .ensures) _ (c .before .enum-told3 .given .1),
       c .count .ensures .1,
     )
 
 returns-4 : tie.Need-returns-4
 returns-4 c =
     let a = c .before .before .before .before .before .args in (
-      c .count2 .ensures .0 ∙ below-is (lineIn (a .part .now)) _ (c .before .before .before .code .ensures) _ (c .before .enum-told4 .given .1),
+      c .count2 .ensures .0
+          ∙ below-is (lineIn (a .part .now)) _ (c .before .before .before .code .ensures) _ (c .before .enum-told4 .given .1),
       c .count2 .ensures .1,
     )
 

@@ -15,21 +15,30 @@ abbrev μ-loop : tie.MeasureT-loop
 μ-loop part t₀ pending₀ t pending = length t
 
 loop-holds : tie.Need-loop-holds Inv-loop μ-loop
-loop-holds c = (omega arith, (omega arith, (stands-first (c .before .args .part .now), next-starts (c .before .args .part .now))))
+loop-holds c =
+    let part = c .before .args .part .now in (omega arith, (omega arith, (stands-first part, next-starts part)))
 
 sub-pending : tie.Need-sub-pending Inv-loop μ-loop
 sub-pending c = search needs
 
 below-requires : tie.Need-below-requires Inv-loop μ-loop
-below-requires c κs = let l = c .before .loop in next-part (c .before .before .before .args .part .now) (l .pending) (l .t .now) (l .inv .1 .1 .1) (c .before .before .before .pre) (c .loop-test .taken)
+below-requires c κs =
+    let l = c .before .loop in
+    let f = c .before .before .before in
+    next-part (f .args .part .now) (l .pending) (l .t .now) (l .inv .1 .1 .1) (f .pre) (c .loop-test .taken)
 
 add-pending : tie.Need-add-pending Inv-loop μ-loop
-add-pending c = let l = c .before .before .loop in
-    let r = next-room (c .before .before .before .before .args .part .now) (l .pending) (l .t .now) (l .inv .1 .1 .1) (c .before .before .before .before .pre) in
-    omega (arith, r, l .inv .0, c .below .ensures .1, c .before .before .before .before .good .0 .0)
+add-pending c =
+    let l = c .before .before .loop in
+    let f = c .before .before .before .before in
+    let r = next-room (f .args .part .now) (l .pending) (l .t .now) (l .inv .1 .1 .1) (f .pre) in
+    omega (arith, r, l .inv .0, c .below .ensures .1, f .good .0 .0)
 
 sub-t : tie.Need-sub-t Inv-loop μ-loop
-sub-t c = let l = c .before .before .loop in next-line (c .before .before .before .before .args .part .now) (l .pending) (l .t .now) (l .inv .1 .1 .1) (c .before .before .before .before .pre) (c .before .loop-test .taken)
+sub-t c =
+    let l = c .before .before .loop in
+    let f = c .before .before .before .before in
+    next-line (f .args .part .now) (l .pending) (l .t .now) (l .inv .1 .1 .1) (f .pre) (c .before .loop-test .taken)
 
 part-t-start : tie.Need-part-t-start Inv-loop μ-loop
 part-t-start c = sub-t c
@@ -38,7 +47,11 @@ part-t-end : tie.Need-part-t-end Inv-loop μ-loop
 part-t-end c = search needs
 
 loop-less : tie.Need-loop-less Inv-loop μ-loop
-loop-less c = let l = c .before .before .before .loop in shorter (l .t .now) (next-line (c .before .before .before .before .before .args .part .now) (l .pending) (l .t .now) (l .inv .1 .1 .1) (c .before .before .before .before .before .pre) (c .before .before .loop-test .taken))
+loop-less c =
+    let l = c .before .before .before .loop in
+    let f = c .before .before .before .before .before in
+    let test = c .before .before .loop-test .taken in
+    shorter (l .t .now) (next-line (f .args .part .now) (l .pending) (l .t .now) (l .inv .1 .1 .1) (f .pre) test)
 
 loop-again : tie.Need-loop-again Inv-loop μ-loop
 loop-again c =
@@ -53,7 +66,8 @@ loop-again c =
         omega (arith, s, l .inv .0),
         (
           stands-next part (l .t .now) (l .inv .1 .1 .0) (l .inv .0) room,
-          next-turn part (l .pending) (l .t .now) (l .inv .1 .1 .1) (f .pre) test (c .before .below .result) (c .before .below .ensures .0),
+          next-turn part (l .pending) (l .t .now) (l .inv .1 .1 .1) (f .pre) test (c .before .below .result)
+              (c .before .below .ensures .0),
         ),
       ),
     )
@@ -61,8 +75,9 @@ loop-again c =
 returns : tie.Need-returns Inv-loop μ-loop
 returns c =
     let l = c .before .loop in
-    let lt : length (l .t .now) < length (c .before .before .before .args .part .now) = omega (arith, l .inv .1 .0, c .loop-test .left) in
-    next-ends (c .before .before .before .args .part .now) (l .pending) (l .t .now) (l .inv .1 .1 .1) (c .loop-test .left) (l .inv .1 .1 .0) lt
+    let part = c .before .before .before .args .part .now in
+    let lt : length (l .t .now) < length part = omega (arith, l .inv .1 .0, c .loop-test .left) in
+    next-ends part (l .pending) (l .t .now) (l .inv .1 .1 .1) (c .loop-test .left) (l .inv .1 .1 .0) lt
 
 pub next-spec : {M : Type 1} → statement M
 next-spec =
