@@ -10,7 +10,7 @@ use Rattle.definition.specs.Graph.{Graph}
 use Rattle.definition.specs.Graph as graph
 use Rattle.definition.specs.Task as task
 use Rattle.definition.specs.Evaluate.{Evaluator, evalPart, evaluateGoal}
-use Rattle.layout.specs.Work.{graphOf, mergedOf}
+use Rattle.layout.specs.Work.{mergedOf}
 use Rattle.book.specs.Parts.{partIn}
 use Rattle.book.specs.Read.{IsBook, bookIn}
 use Rattle.global_cache.specs.Cache.{CacheBytes}
@@ -18,6 +18,7 @@ use Rattle.evaluation.specs.declared.Outcome.{Outcome}
 use Rattle.evaluation.specs.declared.TaskOutcome.{TaskOutcome}
 use Rattle.evaluation.specs.Workspace.{WorkBytes, graphIn}
 use Rattle.evaluation.specs.Outcomes.{outcomeOf, taskOutcomeOf, FewEntries, FewTaskEntries}
+use Rattle.delegate.specs.Picks.{graphAt}
 
 -- a book that was read, cache and workspace of the right lengths, `height` frames and n entries
 pub record Running (book starts cache work : List ℕ) (h : Header) (root height n : ℕ) : Type 0 where
@@ -33,35 +34,35 @@ pub record Running (book starts cache work : List ℕ) (h : Header) (root height
 abbrev pub evaluator : List ℕ → Header → ℕ → Evaluator
 evaluator book h height = evaluateGoal (bookIn book) (h .goals - height)
 
--- the graph that the workspace and the cache hold
-abbrev pub graphHeld : ℕ → ℕ → ℕ → ℕ → List ℕ → List ℕ → Graph
-graphHeld goals root height n work cache = graphOf goals root height n (graphIn goals work) cache
-
--- the definition's evaluate_goal of a goal, from these bytes
+-- its evaluation of a goal, from these bytes
 abbrev pub goalFrom : List ℕ → Header → ℕ → ℕ → ℕ → List ℕ → List ℕ → ℕ → PathKind → Bool → graph.Outcome
 goalFrom book h root height n work cache goal step lower =
-    evaluator book h height (graphHeld (h .goals) root height n work cache) goal step lower
+    evaluator book h height (graphAt (h .goals) root height n work cache) goal step lower
 
 -- its compute_goal of the part that the bytes p start with
 abbrev pub computed : List ℕ → List ℕ → Bool → Header → ℕ → Graph → graph.Outcome
 computed book p inPick h height = evalPart (evaluator book h height) (h .goals) (partIn (h .goals) inPick p)
 
 abbrev pub partFrom : List ℕ → List ℕ → Bool → Header → ℕ → ℕ → ℕ → List ℕ → List ℕ → graph.Outcome
-partFrom book p inPick h root height n work cache = computed book p inPick h height (graphHeld (h .goals) root height n work cache)
+partFrom book p inPick h root height n work cache =
+    computed book p inPick h height (graphAt (h .goals) root height n work cache)
 
 -- its evaluate_goal_in_task of the goal whose part that is, with `left` iterations after the first
 abbrev pub taskFrom : List ℕ → List ℕ → Header → ℕ → ℕ → ℕ → ℕ → List ℕ → List ℕ → task.TaskOutcome
 taskFrom book p h root height n left work cache =
-    task.evaluateGoalInTask (computed book p false h height) left false (graphHeld (h .goals) root height n work cache)
+    task.evaluateGoalInTask (computed book p false h height) left false
+    (graphAt (h .goals) root height n work cache)
 
 -- an outcome is the definition's, and the merged usages below an index are as they were
-pub record Comes (goals root height low : ℕ) (whole : graph.Outcome) (old new cache : List ℕ) (r : Outcome) : Type 0 where
+pub record Comes (goals root height low : ℕ) (whole : graph.Outcome) (old new cache : List ℕ) (r : Outcome)
+    : Type 0 where
   pub is : outcomeOf goals root height (graphIn goals new) cache r ≡ whole
   pub few : FewEntries goals r
   pub merged : (i : ℕ) → i < low → mergedOf goals i new ≡ mergedOf goals i old
 
 -- likewise of a task, whose frame was popped
-pub record TaskComes (goals root height : ℕ) (whole : task.TaskOutcome) (old new cache : List ℕ) (r : TaskOutcome) : Type 0 where
+pub record TaskComes (goals root height : ℕ) (whole : task.TaskOutcome) (old new cache : List ℕ) (r : TaskOutcome)
+    : Type 0 where
   pub is : taskOutcomeOf goals root height (graphIn goals new) cache r ≡ whole
   pub few : FewTaskEntries goals r
   pub merged : (i : ℕ) → i < height → mergedOf goals i new ≡ mergedOf goals i old
