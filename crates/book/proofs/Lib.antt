@@ -1,5 +1,6 @@
 pub mod Tests
 pub mod Lines
+pub mod Codes
 pub mod Sizes
 pub mod Views
 pub mod Walk

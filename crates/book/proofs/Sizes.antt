@@ -6,21 +6,25 @@ use mathlib.Core.List.{List, [], _∷_}
 use Prim.Native.Nat.{ℕ, zero, suc, _+_, _-_, _≤_, _<_}
 use native.Mathlib.Omega.{arith}
 use native.Mathlib.Numerals.{sub-one}
-use native.Mathlib.Decide.{ℕ-discrete}
 use lib.ListN.{length, getD, take, drop, length-drop}
 use lib.Seq.{drop-drop}
 use lib.Dec.{eqb, leb, ltb}
 use borrow.Author.Tests.{lt-ltb, le-ltb, le-leb, lt-leb, eq-eqb, ne-eqb}
 use Rattle.definition.specs.declared.format.Line.{Line}
-use Rattle.definition.specs.Part.{Op, All, Any, Pick, Then}
+use Rattle.definition.specs.Part.{Op, Pick, Then}
 use Rattle.definition.specs.Reader.{TakenPart, TakenParts, usesFirst, readParts, nodeOf, readByCode, readFirst, readPart, isGoalLine, readGoal}
 use Rattle.definition.proofs.Lists.{part-from}
+use Rattle.book.specs.declared.code.Op as kinds
+use Rattle.book.specs.declared.code.Code.{Code}
+use Rattle.book.specs.declared.code.Code.the-variants as codes
 use Rattle.book.specs.declared.grammar.Opened.{Opened}
 use Rattle.book.specs.declared.grammar.Opened.the-variants.{Parts, Nothing}
 use Rattle.book.specs.Lines.{lineIn, linesIn}
-use Rattle.book.specs.Grammar.{afterPart, afterParts, afterBytes, afterOpened, openedIf, callFits, undecidedFits, pickFits}
+use Rattle.book.specs.Grammar.{afterPart, afterParts, afterBytes, afterOpened, openedIf, goalFits, callFits, undecidedFits, pickFits}
 use Rattle.book.proofs.Tests.{refused, held}
+use Rattle.book.specs.Codes.{codeOf, opOf}
 use Rattle.book.proofs.Lines.{lines-cons, lines-none}
+use Rattle.book.proofs.Codes.{isGoal, readAs, read-as, goal-number}
 
 -- bytes that say something
 pub after-some : (r : ℕ) (s : List ℕ) → (r ≡ 0 → ⊥) → afterBytes r s ≡ some (linesIn (drop r s))
@@ -44,16 +48,22 @@ module _ (l : Line) where
   pub others-left : eqb (l .first) 0 ≡ true → usesFirst l ≡ undecidedFits l
   others-left a = rw a
 
-  module _ (g code : ℕ) (is-code : code ≡ l .code) where
-    pub no-goal-code : (code ≡ 1 → ⊥) → false ≡ isGoalLine g l
-    no-goal-code h = rw (← is-code, ne-eqb code 1 h)
+  module _ (g : ℕ) (code : Code) (is-code : code ≡ codeOf (l .code)) where
+    goal-code : eqb (l .code) 1 ≡ isGoal code
+    goal-code = goal-number (l .code) ∙ ap isGoal (sym is-code)
 
-    module _ (a : code ≡ 1) (first : ℕ) (is-first : first ≡ l .first) where
-      pub other-goal : (first ≡ g → ⊥) → false ≡ isGoalLine g l
-      other-goal h = rw (← is-code, ← is-first, eq-eqb code 1 a, ne-eqb first g h)
+    pub no-goal-line : isGoal code ≡ false → false ≡ isGoalLine g l
+    no-goal-line h = rw (goal-code, h)
 
-      pub this-goal : first ≡ g → usesFirst l ≡ isGoalLine g l
-      this-goal h = rw (← is-code, ← is-first, eq-eqb code 1 a, eq-eqb first g h)
+    pub by-goal : code ≡ codes.Goal → goalFits g l ≡ isGoalLine g l
+    by-goal e = rw (goal-code, e)
+
+  module _ (g first : ℕ) (is-first : first ≡ l .first) where
+    pub other-goal : (first ≡ g → ⊥) → false ≡ goalFits g l
+    other-goal h = rw (← is-first, ne-eqb first g h)
+
+    pub this-goal : first ≡ g → usesFirst l ≡ goalFits g l
+    this-goal h = rw (← is-first, eq-eqb first g h)
 
   module _ (goals first : ℕ) (is-first : first ≡ l .first) where
     pub no-goal : goals ≤ first → false ≡ callFits goals l
@@ -81,9 +91,6 @@ outside p b r e h = rw e h
 
 -- ---- what a line opens, by its code
 module _ (goals : ℕ) (p : Bool) (inner : Bool → List Line → Option TakenPart) (l : Line) (ls : List Line) where
-  abbrev by : ℕ → Option (List Line)
-  by k = afterPart (readByCode goals k p inner l ls)
-
   leaf : (b : Bool) (t : TakenPart) → afterOpened (openedIf b 0 p) inner (t .rest) ≡ afterPart (elim b [ true ↦ some t | false ↦ none ])
   leaf true t = refl
   leaf false t = refl
@@ -96,57 +103,36 @@ module _ (goals : ℕ) (p : Bool) (inner : Bool → List Line → Option TakenPa
   node op q true n = after-node op (readParts (inner q) n ls)
   node op q false n = refl
 
-  low-code : (k : ℕ) → k < 2 → none ≡ by k
-  low-code zero h = refl
-  low-code (suc zero) h = refl
-  low-code (suc (suc k)) h = absurd (omega arith)
+  module _ (code : Code) (is : code ≡ codeOf (l .code)) (r : Opened) where
+    abbrev Right : Type 0
+    Right = afterOpened r inner ls ≡ afterPart (readByCode goals (l .code) p inner l ls)
 
-  high-code : (k : ℕ) → 5 ≤ k → (k ≡ 5 → ⊥) → (k ≡ 6 → ⊥) → none ≡ by k
-  high-code zero h a b = absurd (omega arith)
-  high-code (suc zero) h a b = absurd (omega arith)
-  high-code (suc (suc zero)) h a b = absurd (omega arith)
-  high-code (suc (suc (suc zero))) h a b = absurd (omega arith)
-  high-code (suc (suc (suc (suc zero)))) h a b = absurd (omega arith)
-  high-code (suc (suc (suc (suc (suc zero))))) h a b = absurd (a refl)
-  high-code (suc (suc (suc (suc (suc (suc zero)))))) h a b = absurd (b refl)
-  high-code (suc (suc (suc (suc (suc (suc (suc k))))))) h a b = refl
+    at-code : (k : Code) → code ≡ k → afterOpened r inner ls ≡ afterPart (readAs goals p inner l ls k) → Right
+    at-code k e h = h ∙ ap (λ (c : Code). afterPart (readAs goals p inner l ls c)) (sym e ∙ is) ∙ ap afterPart (sym (read-as goals p inner l ls (l .code)))
 
-  module _ (code : ℕ) (is : code ≡ l .code) where
-    at-code : (r : Opened) (k : ℕ) → code ≡ k → afterOpened r inner ls ≡ by k → afterOpened r inner ls ≡ by (l .code)
-    at-code r k e h = h ∙ ap by (sym e ∙ is)
+    pub goal-opens : r ≡ Nothing → code ≡ codes.Goal → Right
+    goal-opens e k = at-code codes.Goal k (rw e)
 
-    module _ (r : Opened) (b : Bool) where
-      pub call-line : r ≡ openedIf b 0 p → b ≡ callFits goals l → code ≡ 2 → afterOpened r inner ls ≡ by (l .code)
-      call-line e f k = at-code r 2 k (rw (e, f) (leaf (callFits goals l) _))
+    pub unknown-line : r ≡ Nothing → code ≡ codes.Unknown → Right
+    unknown-line e k = at-code codes.Unknown k (rw e)
 
-      pub undecided-line : r ≡ openedIf b 0 p → b ≡ undecidedFits l → code ≡ 6 → afterOpened r inner ls ≡ by (l .code)
-      undecided-line e f k = at-code r 6 k (rw (e, f) (leaf (undecidedFits l) _))
+    module _ (b : Bool) where
+      pub call-line : r ≡ openedIf b 0 p → b ≡ callFits goals l → code ≡ codes.Call → Right
+      call-line e f k = at-code codes.Call k (rw (e, f) (leaf (callFits goals l) _))
+
+      pub undecided-line : r ≡ openedIf b 0 p → b ≡ undecidedFits l → code ≡ codes.Undecided → Right
+      undecided-line e f k = at-code codes.Undecided k (rw (e, f) (leaf (undecidedFits l) _))
 
       module _ (n : ℕ) (first : n ≡ l .first) where
-        all-line : r ≡ openedIf b n p → b ≡ usesFirst l → code ≡ 3 → afterOpened r inner ls ≡ by (l .code)
-        all-line e f k = at-code r 3 k (rw (e, f, first) (node All p (usesFirst l) (l .first)))
+        pub group-line : (op : kinds.Op) → r ≡ openedIf b n p → b ≡ usesFirst l → code ≡ codes.Group op → Right
+        group-line op e f k = at-code (codes.Group op) k (rw (e, f, first) (node (opOf op) p (usesFirst l) (l .first)))
 
-        any-line : r ≡ openedIf b n p → b ≡ usesFirst l → code ≡ 4 → afterOpened r inner ls ≡ by (l .code)
-        any-line e f k = at-code r 4 k (rw (e, f, first) (node Any p (usesFirst l) (l .first)))
-
-        pub group-line : r ≡ openedIf b n p → b ≡ usesFirst l → (code ≡ 2 → ⊥) → 2 ≤ code → code < 5 → afterOpened r inner ls ≡ by (l .code)
-        group-line e f ne lo hi = elim (ℕ-discrete code 3) [ yes k ↦ all-line e f k | no k ↦ any-line e f (four code ne lo hi k) ]
-          where
-            four : (k : ℕ) → (k ≡ 2 → ⊥) → 2 ≤ k → k < 5 → (k ≡ 3 → ⊥) → k ≡ 4
-            four k a lo hi b = omega arith
-
-        pub pick-line : r ≡ openedIf b n true → b ≡ pickFits p l → code ≡ 5 → afterOpened r inner ls ≡ by (l .code)
-        pick-line e f k = at-code r 5 k (rw (e, f, first) (inside p (usesFirst l)))
+        pub pick-line : r ≡ openedIf b n true → b ≡ pickFits p l → code ≡ codes.Pick → Right
+        pick-line e f k = at-code codes.Pick k (rw (e, f, first) (inside p (usesFirst l)))
           where
             inside : (p b : Bool) → afterOpened (openedIf (not p && b) (l .first) true) inner ls ≡ afterPart (elim p [ true ↦ none | false ↦ elim b [ true ↦ nodeOf Pick (readParts (inner true) (l .first) ls) | false ↦ none ] ])
             inside true b = refl
             inside false b = node Pick true b (l .first)
-
-    pub low-line : code < 2 → none ≡ by (l .code)
-    low-line h = low-code code h ∙ ap by is
-
-    pub high-line : 5 ≤ code → (code ≡ 5 → ⊥) → (code ≡ 6 → ⊥) → none ≡ by (l .code)
-    high-line h a b = high-code code h a b ∙ ap by is
 
 -- ---- a part, nested at most n deep
 module _ (goals n : ℕ) (p : Bool) where

@@ -3,19 +3,21 @@ use mathlib.Core.Path.{_≡_, refl, sym, ap, _∙_}
 use mathlib.Core.Bool.{Bool, true, false}
 use mathlib.Core.Option.{Option, none, some}
 use mathlib.Core.List.{List, [], _∷_}
-use Prim.Native.Nat.{ℕ, zero, suc, _+_, _-_, _/_, _≤_, _<_}
+use Prim.Native.Nat.{ℕ, zero, suc, _+_, _*_, _-_, _/_, _≤_, _<_}
 use native.Mathlib.Omega.{arith}
 use native.Mathlib.Decide.{ℕ-discrete}
 use lib.ListN.{length, take, drop}
+use lib.Seq.{drop-drop}
 use Rattle.definition.specs.declared.format.Line.{Line}
 use Rattle.definition.specs.Part.{End, Then}
 use Rattle.definition.specs.Reader.{TakenPart, TakenParts, readParts, readPart}
 use Rattle.definition.proofs.Lists.{part-from}
 use Rattle.book.specs.Lines.{lineIn, linesIn}
 use Rattle.book.specs.Grammar.{afterParts}
-use Rattle.book.specs.Parts.{partsBelow, partRead, partIn, restIn, Reads, StartsPart}
-use Rattle.book.proofs.Lines.{lines-length}
-use Rattle.book.proofs.Views.{never, of-some, First, uncons, cons, Looser, part-within, parts-within, part-shrinks, parts-room, parts-add, below-of, count-is, none-low, none-high}
+use Rattle.book.specs.Codes.{partsBelow}
+use Rattle.book.specs.Parts.{partRead, partIn, restIn, Reads, PassedOver, StartsPart}
+use Rattle.book.proofs.Lines.{lines-cons, lines-length}
+use Rattle.book.proofs.Views.{never, of-some, First, uncons, cons, Looser, part-within, parts-within, part-shrinks, parts-room, parts-add, below-of}
 use Rattle.book.proofs.Walk.{reads, has-line, viewed}
 
 -- n parts are pending, and after them come the lines r
@@ -88,44 +90,55 @@ module _ (goals n : ℕ) (bytes : List ℕ) (r : List Line) (h : Pending goals n
         ∙ ap afterParts (split .others-are)
         ∙ ap some (ap (λ (t : TakenParts). t .rest) (split .all-are) ∙ all-taken .rest)
 
--- ---- the number of parts below a line
-module _ (bytes : List ℕ) (code : ℕ) (e : code ≡ lineIn bytes .code) where
-  pub below-node : (count : ℕ) → count ≡ lineIn bytes .first → 3 ≤ code → code < 6 → count ≡ partsBelow (lineIn bytes)
-  below-node count f a b = f ∙ sym (count-is (lineIn bytes) (omega arith) (omega arith))
+-- ---- where the bytes stand in those that were handed in
+abbrev pub Stands : List ℕ → List ℕ → Type 0
+Stands part bytes = bytes ≡ drop (16 * (length (linesIn part) - length (linesIn bytes))) part
 
-  pub below-low : code < 3 → 0 ≡ partsBelow (lineIn bytes)
-  below-low a = sym (none-low (lineIn bytes) (omega arith))
+pub stands-first : (part : List ℕ) → Stands part part
+stands-first part =
+    let z : 16 * (length (linesIn part) - length (linesIn part)) ≡ 0 = omega arith in
+    sym (ap (λ (n : ℕ). drop n part) z)
 
-  pub below-high : 3 ≤ code → 6 ≤ code → 0 ≡ partsBelow (lineIn bytes)
-  below-high a b = sym (none-high (lineIn bytes) (omega arith) (omega arith))
+pub stands-next : (part bytes : List ℕ) → Stands part bytes → length bytes ≤ length part → 16 ≤ length bytes → Stands part (take (length bytes - 16) (drop 16 bytes))
+stands-next part bytes at le room = rw part-from (ap (drop 16) at ∙ drop-drop 16 (16 * (length (linesIn part) - length (linesIn bytes))) part ∙ ap (λ (n : ℕ). drop n part) further)
+  where
+    further : 16 * (length (linesIn part) - length (linesIn bytes)) + 16 ≡ 16 * (length (linesIn part) - length (linesIn (drop 16 bytes)))
+    further =
+        let a = lines-length part in
+        let b = lines-length bytes in
+        let c : length (linesIn bytes) ≡ suc (length (linesIn (drop 16 bytes))) = ap length (lines-cons bytes room) in
+        omega arith
 
--- ---- the turns of `skip`
+-- ---- the turns of `next`
 pub PendingAfter : List ℕ → ℕ → List ℕ → Type 0
 PendingAfter part n bytes = (goals : ℕ) (p : Bool) → Reads goals p part → Pending goals n bytes (restIn goals p part)
 
-pub skip-starts : (part : List ℕ) → PendingAfter part 1 part
+pub next-starts : (part : List ℕ) → PendingAfter part 1 part
 unfolding PendingAfter
-skip-starts part goals p h = one-pending goals p part h
+next-starts part goals p h = one-pending goals p part h
 
-pub skip-ends : (part : List ℕ) (n : ℕ) (bytes : List ℕ) → PendingAfter part n bytes → n ≤ 0 → (goals : ℕ) (p : Bool) → Reads goals p part → linesIn bytes ≡ restIn goals p part
+pub next-ends : (part : List ℕ) (n : ℕ) (bytes : List ℕ) → PendingAfter part n bytes → n ≤ 0 → Stands part bytes → length bytes < length part
+    → (goals : ℕ) (p : Bool) → Reads goals p part → PassedOver goals p part bytes
 unfolding PendingAfter
-skip-ends part n bytes h z goals p r = none-pending goals n bytes (restIn goals p part) (h goals p r) z
+next-ends part n bytes h z at lt goals p r =
+    let e = none-pending goals n bytes (restIn goals p part) (h goals p r) z in
+    record { place = at ∙ ap (λ (ls : List Line). drop (16 * (length (linesIn part) - length ls)) part) e; lines = e; shorter = lt }
 
 module _ (part : List ℕ) (n : ℕ) (bytes : List ℕ) (h : PendingAfter part n bytes) (s : StartsPart part) where
   here : Pending (s .goals) n bytes (restIn (s .goals) (s .inPick) part)
   unfolding PendingAfter
   here = h (s .goals) (s .inPick) (s .reads)
 
-  pub skip-room : n ≤ length bytes
-  skip-room = let a = pending-room (s .goals) n bytes _ here in omega arith
+  pub next-room : n ≤ length bytes
+  next-room = let a = pending-room (s .goals) n bytes _ here in omega arith
 
   module _ (pos : 0 < n) where
-    pub skip-line : 16 ≤ length bytes
-    skip-line = pending-line (s .goals) n bytes _ here pos
+    pub next-line : 16 ≤ length bytes
+    next-line = pending-line (s .goals) n bytes _ here pos
 
-    pub skip-part : StartsPart bytes
-    skip-part = pending-part (s .goals) n bytes _ here pos
+    pub next-part : StartsPart bytes
+    next-part = pending-part (s .goals) n bytes _ here pos
 
-    pub skip-turn : (count : ℕ) → count ≡ partsBelow (lineIn bytes) → PendingAfter part (n - 1 + count) (take (length bytes - 16) (drop 16 bytes))
+    pub next-turn : (count : ℕ) → count ≡ partsBelow (lineIn bytes) → PendingAfter part (n - 1 + count) (take (length bytes - 16) (drop 16 bytes))
     unfolding PendingAfter
-    skip-turn count e goals p r = rw (e, part-from) (next-pending goals n bytes (restIn goals p part) (h goals p r) pos)
+    next-turn count e goals p r = rw (e, part-from) (next-pending goals n bytes (restIn goals p part) (h goals p r) pos)

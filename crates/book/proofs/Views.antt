@@ -7,14 +7,17 @@ use Prim.Native.Nat.{ℕ, zero, suc, _+_, _-_, _≤_, _<_}
 use native.Mathlib.Nat.{suc-add}
 use native.Mathlib.Omega.{arith}
 use lib.ListN.{length}
-use lib.Dec.{eqb, leb}
-use borrow.Author.Tests.{le-leb, lt-leb}
+use lib.Dec.{eqb}
 use Rattle.definition.specs.declared.format.Line.{Line}
 use Rattle.definition.specs.Paths.{kindOf}
-use Rattle.definition.specs.Part.{Op, All, Any, Pick, Part, Call, Node, UndecidedLine, Then, End}
+use Rattle.definition.specs.Part.{Op, Pick, Part, Call, Node, UndecidedLine, Then, End}
 use Rattle.definition.specs.Reader.{TakenPart, TakenParts, usesFirst, readParts, nodeOf, readByCode, readFirst, readPart}
 use Rattle.book.specs.Grammar.{afterParts, callFits, undecidedFits}
-use Rattle.book.specs.Parts.{partsBelow}
+use Rattle.book.specs.declared.code.Op as kinds
+use Rattle.book.specs.declared.code.Code.{Code}
+use Rattle.book.specs.declared.code.Code.the-variants as codes
+use Rattle.book.specs.Codes.{opOf, codeOf, countBelow, partsBelow}
+use Rattle.book.proofs.Codes.{readAs, read-as}
 use Rattle.book.proofs.Sizes.{joined, after-joined}
 
 pub never : {A B : Type 0} {b : B} → _≡_ {A = Option B} none (some b) → A
@@ -56,11 +59,12 @@ abbrev pub undecidedTaken : List Line → TakenPart
 undecidedTaken ls = record { part = UndecidedLine; rest = ls }
 
 pub data View (goals : ℕ) (p : Bool) (inner : Bool → List Line → Option TakenPart) (l : Line) (ls : List Line) (t : TakenPart) : Type 0 where
-  call : l .code ≡ 2 → callFits goals l ≡ true → callTaken l ls ≡ t → View goals p inner l ls t
-  all : l .code ≡ 3 → usesFirst l ≡ true → (ps : TakenParts) → readParts (inner p) (l .first) ls ≡ some ps → record { part = Node All (ps .parts); rest = ps .rest } ≡ t → View goals p inner l ls t
-  any : l .code ≡ 4 → usesFirst l ≡ true → (ps : TakenParts) → readParts (inner p) (l .first) ls ≡ some ps → record { part = Node Any (ps .parts); rest = ps .rest } ≡ t → View goals p inner l ls t
-  pick : l .code ≡ 5 → usesFirst l ≡ true → p ≡ false → (ps : TakenParts) → readParts (inner true) (l .first) ls ≡ some ps → record { part = Node Pick (ps .parts); rest = ps .rest } ≡ t → View goals p inner l ls t
-  undecided : l .code ≡ 6 → undecidedFits l ≡ true → undecidedTaken ls ≡ t → View goals p inner l ls t
+  call : codeOf (l .code) ≡ codes.Call → callFits goals l ≡ true → callTaken l ls ≡ t → View goals p inner l ls t
+  group : (op : kinds.Op) → codeOf (l .code) ≡ codes.Group op → usesFirst l ≡ true → (ps : TakenParts)
+      → readParts (inner p) (l .first) ls ≡ some ps → record { part = Node (opOf op) (ps .parts); rest = ps .rest } ≡ t → View goals p inner l ls t
+  pick : codeOf (l .code) ≡ codes.Pick → usesFirst l ≡ true → p ≡ false → (ps : TakenParts)
+      → readParts (inner true) (l .first) ls ≡ some ps → record { part = Node Pick (ps .parts); rest = ps .rest } ≡ t → View goals p inner l ls t
+  undecided : codeOf (l .code) ≡ codes.Undecided → undecidedFits l ≡ true → undecidedTaken ls ≡ t → View goals p inner l ls t
 
 abbrev takenIf : Bool → TakenPart → Option TakenPart
 takenIf b t = elim b [ true ↦ some t | false ↦ none ]
@@ -92,25 +96,23 @@ module _ (goals : ℕ) (p : Bool) (inner : Bool → List Line → Option TakenPa
   outside b x false e = (refl, node Pick b x e)
 
   pub view : readByCode goals (l .code) p inner l ls ≡ some t → View goals p inner l ls t
-  view e = go (l .code) refl e
+  view e = go (codeOf (l .code)) refl (sym (read-as goals p inner l ls (l .code)) ∙ e)
     where
-      go : (k : ℕ) → l .code ≡ k → readByCode goals k p inner l ls ≡ some t → View goals p inner l ls t
-      go zero k e = never e
-      go (suc zero) k e = never e
-      go (suc (suc zero)) k e = let v = leaf (callFits goals l) (callTaken l ls) e in call k (v .0) (v .1)
-      go (suc (suc (suc zero))) k e = let v = node All (usesFirst l) (readParts (inner p) (l .first) ls) e in all k (v .fits) (v .parts) (v .read) (v .is)
-      go (suc (suc (suc (suc zero)))) k e = let v = node Any (usesFirst l) (readParts (inner p) (l .first) ls) e in any k (v .fits) (v .parts) (v .read) (v .is)
-      go (suc (suc (suc (suc (suc zero))))) k e = let v = outside (usesFirst l) (readParts (inner true) (l .first) ls) p e in pick k (v .1 .fits) (v .0) (v .1 .parts) (v .1 .read) (v .1 .is)
-      go (suc (suc (suc (suc (suc (suc zero)))))) k e = let v = leaf (undecidedFits l) (undecidedTaken ls) e in undecided k (v .0) (v .1)
-      go (suc (suc (suc (suc (suc (suc (suc n))))))) k e = never e
+      go : (k : Code) → codeOf (l .code) ≡ k → readAs goals p inner l ls k ≡ some t → View goals p inner l ls t
+      go codes.Goal k e = never e
+      go codes.Call k e = let v = leaf (callFits goals l) (callTaken l ls) e in call k (v .0) (v .1)
+      go (codes.Group op) k e = let v = node (opOf op) (usesFirst l) (readParts (inner p) (l .first) ls) e in group op k (v .fits) (v .parts) (v .read) (v .is)
+      go codes.Pick k e = let v = outside (usesFirst l) (readParts (inner true) (l .first) ls) p e in pick k (v .1 .fits) (v .0) (v .1 .parts) (v .1 .read) (v .1 .is)
+      go codes.Undecided k e = let v = leaf (undecidedFits l) (undecidedTaken ls) e in undecided k (v .0) (v .1)
+      go codes.Unknown k e = never e
 
-  at-code : {k : ℕ} → l .code ≡ k → readByCode goals (l .code) p inner l ls ≡ readByCode goals k p inner l ls
-  at-code e = ap (λ (n : ℕ). readByCode goals n p inner l ls) e
+  at-code : {k : Code} → codeOf (l .code) ≡ k → readByCode goals (l .code) p inner l ls ≡ readAs goals p inner l ls k
+  at-code e = read-as goals p inner l ls (l .code) ∙ ap (λ (c : Code). readAs goals p inner l ls c) e
 
   pub unview : View goals p inner l ls t → readByCode goals (l .code) p inner l ls ≡ some t
   unview (call k f e) = at-code k ∙ ap (λ (b : Bool). takenIf b (callTaken l ls)) f ∙ ap some e
-  unview (all k f ps r e) = at-code k ∙ ap (λ (b : Bool). nodeIf All b (readParts (inner p) (l .first) ls)) f ∙ ap (nodeOf All) r ∙ ap some e
-  unview (any k f ps r e) = at-code k ∙ ap (λ (b : Bool). nodeIf Any b (readParts (inner p) (l .first) ls)) f ∙ ap (nodeOf Any) r ∙ ap some e
+  unview (group op k f ps r e) =
+      at-code k ∙ ap (λ (b : Bool). nodeIf (opOf op) b (readParts (inner p) (l .first) ls)) f ∙ ap (nodeOf (opOf op)) r ∙ ap some e
   unview (pick k f o ps r e) =
       at-code k ∙ ap (λ (q : Bool). pickIf q (usesFirst l) (readParts (inner true) (l .first) ls)) o
       ∙ ap (λ (b : Bool). nodeIf Pick b (readParts (inner true) (l .first) ls)) f ∙ ap (nodeOf Pick) r ∙ ap some e
@@ -147,8 +149,7 @@ module _ (goals : ℕ) (f g : Bool → List Line → Option TakenPart) (w : (p q
     where
       go : View goals p f l ls t → View goals q g l ls t
       go (call k a e) = call k a e
-      go (all k a ps r e) = all k a ps (parts-within (f p) (g q) (w p q h) (l .first) ls ps r) e
-      go (any k a ps r e) = any k a ps (parts-within (f p) (g q) (w p q h) (l .first) ls ps r) e
+      go (group op k a ps r e) = group op k a ps (parts-within (f p) (g q) (w p q h) (l .first) ls ps r) e
       go (pick k a o ps r e) = pick k a (looser-false p q o h) ps (parts-within (f true) (g true) (w true true tt) (l .first) ls ps r) e
       go (undecided k a e) = undecided k a e
 
@@ -187,8 +188,7 @@ by-first-shrinks goals f s p (l ∷ ls) t e = go (view goals p f l ls t e)
 
     go : View goals p f l ls t → length (t .rest) < length (l ∷ ls)
     go (call k a e) = let b = rest-of e in omega arith
-    go (all k a ps r e) = parts p ps _ r e
-    go (any k a ps r e) = parts p ps _ r e
+    go (group op k a ps r e) = parts p ps _ r e
     go (pick k a o ps r e) = parts true ps _ r e
     go (undecided k a e) = let b = rest-of e in omega arith
 
@@ -214,47 +214,44 @@ pub record Noded (op : Op) (f : List Line → Option TakenPart) (n : ℕ) (ls : 
   pub is : record { part = Node op (taken .parts); rest = taken .rest } ≡ t
 
 module _ {goals : ℕ} {p : Bool} {inner : Bool → List Line → Option TakenPart} {l : Line} {ls : List Line} {t : TakenPart} where
-  pub as-call : View goals p inner l ls t → l .code ≡ 2 → (callFits goals l ≡ true) × (callTaken l ls ≡ t)
+  pub as-call : View goals p inner l ls t → codeOf (l .code) ≡ codes.Call → (callFits goals l ≡ true) × (callTaken l ls ≡ t)
   as-call (call k f e) c = (f, e)
-  as-call (all k f ps r e) c = absurd (omega arith)
-  as-call (any k f ps r e) c = absurd (omega arith)
-  as-call (pick k f o ps r e) c = absurd (omega arith)
-  as-call (undecided k f e) c = absurd (omega arith)
+  as-call (group op k f ps r e) c = let z : _≡_ {A = ℕ} 0 1 = cc in absurd (omega arith)
+  as-call (pick k f o ps r e) c = let z : _≡_ {A = ℕ} 0 1 = cc in absurd (omega arith)
+  as-call (undecided k f e) c = let z : _≡_ {A = ℕ} 0 1 = cc in absurd (omega arith)
 
-  pub as-all : View goals p inner l ls t → l .code ≡ 3 → Noded All (inner p) (l .first) ls t
-  as-all (call k f e) c = absurd (omega arith)
-  as-all (all k f ps r e) c = record { taken = ps; read = r; is = e }
-  as-all (any k f ps r e) c = absurd (omega arith)
-  as-all (pick k f o ps r e) c = absurd (omega arith)
-  as-all (undecided k f e) c = absurd (omega arith)
+  pub as-group : View goals p inner l ls t → (op : kinds.Op) → codeOf (l .code) ≡ codes.Group op → Noded (opOf op) (inner p) (l .first) ls t
+  as-group (call k f e) op c = let z : _≡_ {A = ℕ} 0 1 = cc in absurd (omega arith)
+  as-group (group o k f ps r e) op c =
+      let same : op ≡ o = cc in
+      record { taken = ps; read = r; is = ap (λ (x : kinds.Op). record { part = Node (opOf x) (ps .parts); rest = ps .rest }) same ∙ e }
+  as-group (pick k f o ps r e) op c = let z : _≡_ {A = ℕ} 0 1 = cc in absurd (omega arith)
+  as-group (undecided k f e) op c = let z : _≡_ {A = ℕ} 0 1 = cc in absurd (omega arith)
 
-  pub as-any : View goals p inner l ls t → l .code ≡ 4 → Noded Any (inner p) (l .first) ls t
-  as-any (call k f e) c = absurd (omega arith)
-  as-any (all k f ps r e) c = absurd (omega arith)
-  as-any (any k f ps r e) c = record { taken = ps; read = r; is = e }
-  as-any (pick k f o ps r e) c = absurd (omega arith)
-  as-any (undecided k f e) c = absurd (omega arith)
-
-  pub as-pick : View goals p inner l ls t → l .code ≡ 5 → (p ≡ false) × Noded Pick (inner true) (l .first) ls t
-  as-pick (call k f e) c = absurd (omega arith)
-  as-pick (all k f ps r e) c = absurd (omega arith)
-  as-pick (any k f ps r e) c = absurd (omega arith)
+  pub as-pick : View goals p inner l ls t → codeOf (l .code) ≡ codes.Pick → (p ≡ false) × Noded Pick (inner true) (l .first) ls t
+  as-pick (call k f e) c = let z : _≡_ {A = ℕ} 0 1 = cc in absurd (omega arith)
+  as-pick (group op k f ps r e) c = let z : _≡_ {A = ℕ} 0 1 = cc in absurd (omega arith)
   as-pick (pick k f o ps r e) c = (o, record { taken = ps; read = r; is = e })
-  as-pick (undecided k f e) c = absurd (omega arith)
+  as-pick (undecided k f e) c = let z : _≡_ {A = ℕ} 0 1 = cc in absurd (omega arith)
 
-  pub as-undecided : View goals p inner l ls t → l .code ≡ 6 → undecidedTaken ls ≡ t
-  as-undecided (call k f e) c = absurd (omega arith)
-  as-undecided (all k f ps r e) c = absurd (omega arith)
-  as-undecided (any k f ps r e) c = absurd (omega arith)
-  as-undecided (pick k f o ps r e) c = absurd (omega arith)
+  pub as-undecided : View goals p inner l ls t → codeOf (l .code) ≡ codes.Undecided → undecidedTaken ls ≡ t
+  as-undecided (call k f e) c = let z : _≡_ {A = ℕ} 0 1 = cc in absurd (omega arith)
+  as-undecided (group op k f ps r e) c = let z : _≡_ {A = ℕ} 0 1 = cc in absurd (omega arith)
+  as-undecided (pick k f o ps r e) c = let z : _≡_ {A = ℕ} 0 1 = cc in absurd (omega arith)
   as-undecided (undecided k f e) c = e
 
-  pub a-code : View goals p inner l ls t → (2 ≤ l .code) × (l .code ≤ 6)
-  a-code (call k f e) = omega arith
-  a-code (all k f ps r e) = omega arith
-  a-code (any k f ps r e) = omega arith
-  a-code (pick k f o ps r e) = omega arith
-  a-code (undecided k f e) = omega arith
+  -- a part's first line is no goal's, and its code is known
+  pub not-goal : View goals p inner l ls t → codeOf (l .code) ≡ codes.Goal → ⊥
+  not-goal (call k f e) c = let z : _≡_ {A = ℕ} 0 1 = cc in absurd (omega arith)
+  not-goal (group op k f ps r e) c = let z : _≡_ {A = ℕ} 0 1 = cc in absurd (omega arith)
+  not-goal (pick k f o ps r e) c = let z : _≡_ {A = ℕ} 0 1 = cc in absurd (omega arith)
+  not-goal (undecided k f e) c = let z : _≡_ {A = ℕ} 0 1 = cc in absurd (omega arith)
+
+  pub not-unknown : View goals p inner l ls t → codeOf (l .code) ≡ codes.Unknown → ⊥
+  not-unknown (call k f e) c = let z : _≡_ {A = ℕ} 0 1 = cc in absurd (omega arith)
+  not-unknown (group op k f ps r e) c = let z : _≡_ {A = ℕ} 0 1 = cc in absurd (omega arith)
+  not-unknown (pick k f o ps r e) c = let z : _≡_ {A = ℕ} 0 1 = cc in absurd (omega arith)
+  not-unknown (undecided k f e) c = let z : _≡_ {A = ℕ} 0 1 = cc in absurd (omega arith)
 
 -- ---- the parts below the first line, whatever it is
 pub record Below (inner : Bool → List Line → Option TakenPart) (l : Line) (ls : List Line) (t : TakenPart) : Type 0 where
@@ -263,14 +260,11 @@ pub record Below (inner : Bool → List Line → Option TakenPart) (l : Line) (l
   pub read : readParts (inner inside) (partsBelow l) ls ≡ some taken
   pub rest : taken .rest ≡ t .rest
 
-pub count-is : (l : Line) → 3 ≤ l .code → l .code ≤ 5 → partsBelow l ≡ l .first
-count-is l a b = rw (le-leb 3 (l .code) a, le-leb (l .code) 5 b)
+below-as : (l : Line) {k : Code} → codeOf (l .code) ≡ k → partsBelow l ≡ countBelow k (l .first)
+below-as l e = ap (λ (c : Code). countBelow c (l .first)) e
 
-pub none-low : (l : Line) → l .code < 3 → partsBelow l ≡ 0
-none-low l a = rw (lt-leb 3 (l .code) a)
-
-pub none-high : (l : Line) → 3 ≤ l .code → 5 < l .code → partsBelow l ≡ 0
-none-high l a b = rw (le-leb 3 (l .code) a, lt-leb (l .code) 5 b)
+pub below-is : (l : Line) (code : Code) → code ≡ codeOf (l .code) → (k : Code) → code ≡ k → countBelow k (l .first) ≡ partsBelow l
+below-is l code is k e = sym (below-as l (sym is ∙ e))
 
 module _ (inner : Bool → List Line → Option TakenPart) (l : Line) (ls : List Line) (t : TakenPart) where
   leaf-below : (p : Part) → partsBelow l ≡ 0 → record { part = p; rest = ls } ≡ t → Below inner l ls t
@@ -287,8 +281,7 @@ module _ (inner : Bool → List Line → Option TakenPart) (l : Line) (ls : List
       record { inside = q; taken = ps; read = ap (λ (m : ℕ). readParts (inner q) m ls) n ∙ r; rest = ap (λ (x : TakenPart). x .rest) e }
 
   pub below-of : (goals : ℕ) (p : Bool) → View goals p inner l ls t → Below inner l ls t
-  below-of goals p (call k f e) = leaf-below _ (none-low l (omega arith)) e
-  below-of goals p (all k f ps r e) = node-below _ p ps (count-is l (omega arith) (omega arith)) r e
-  below-of goals p (any k f ps r e) = node-below _ p ps (count-is l (omega arith) (omega arith)) r e
-  below-of goals p (pick k f o ps r e) = node-below _ true ps (count-is l (omega arith) (omega arith)) r e
-  below-of goals p (undecided k f e) = leaf-below _ (none-high l (omega arith) (omega arith)) e
+  below-of goals p (call k f e) = leaf-below _ (below-as l k) e
+  below-of goals p (group op k f ps r e) = node-below _ p ps (below-as l k) r e
+  below-of goals p (pick k f o ps r e) = node-below _ true ps (below-as l k) r e
+  below-of goals p (undecided k f e) = leaf-below _ (below-as l k) e

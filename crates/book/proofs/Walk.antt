@@ -15,11 +15,15 @@ use Rattle.definition.specs.declared.format.Line.{Line}
 use Rattle.definition.specs.Paths.{kindOf}
 use Rattle.definition.specs.Part.{Op, All, Any, Pick, Part, Parts, Call, Node, UndecidedLine, Then, End}
 use Rattle.definition.specs.Reader.{TakenPart, TakenParts, readParts, readByCode, readFirst, readPart}
+use Rattle.book.specs.declared.code.Op as kinds
+use Rattle.book.specs.declared.code.Code.the-variants as codes
 use Rattle.book.specs.Lines.{lineIn, linesIn}
+use Rattle.book.specs.Codes.{opOf, codeOf}
 use Rattle.book.specs.Grammar.{callFits}
 use Rattle.book.specs.Parts.{partRead, takenOr, partIn, restIn, Reads, StartsPart, partsRead, takenPartsOr, partsIn, restAfter, ReadsParts}
 use Rattle.book.proofs.Lines.{lines-cons, lines-none}
-use Rattle.book.proofs.Views.{never, of-some, First, uncons, View, call, all, any, pick, undecided, callTaken, view, Noded, as-call, as-all, as-any, as-pick, as-undecided, a-code, Looser, looser-refl, Within, part-within, parts-within}
+use Rattle.book.proofs.Codes.{known-digit}
+use Rattle.book.proofs.Views.{never, of-some, First, uncons, View, view, Noded, as-call, as-group, as-pick, as-undecided, not-goal, not-unknown, Looser, looser-refl, Within, part-within, parts-within}
 
 -- ---- what was read
 module _ (goals : ℕ) (p : Bool) (bytes : List ℕ) (t : TakenPart) (e : partRead goals p bytes ≡ some t) where
@@ -79,10 +83,14 @@ module _ (goals : ℕ) (p : Bool) (bytes : List ℕ) (l : Line) (is : l ≡ line
   unfolding whole
   a-line = has-line goals p bytes whole h
 
-  pub known-code : (2 ≤ l .code) × (l .code ≤ 6)
-  known-code = a-code seen
+  -- its code is known, and no goal's
+  pub no-goal-line : codeOf (l .code) ≡ codes.Goal → ⊥
+  no-goal-line = not-goal seen
 
-  fits : l .code ≡ 2 → (l .first < goals) × ((l .second ≤ 3) × (l .third ≤ 1))
+  pub known-code : codeOf (l .code) ≡ codes.Unknown → ⊥
+  known-code = not-unknown seen
+
+  fits : codeOf (l .code) ≡ codes.Call → (l .first < goals) × ((l .second ≤ 3) × (l .third ≤ 1))
   fits k = let t = tests (ltb (l .first) goals) (leb (l .second) 3) (leb (l .third) 1) (eqb (l .fourth) 0) (as-call seen k .0) in (ltb-true _ _ (t .0), (leb-true _ _ (t .1 .0), leb-true _ _ (t .1 .1)))
     where
       off : {A : Type 0} → _≡_ {A = Bool} false true → A
@@ -94,24 +102,22 @@ module _ (goals : ℕ) (p : Bool) (bytes : List ℕ) (l : Line) (is : l ≡ line
       tests true false c d e = off e
       tests false b c d e = off e
 
-  pub is-call : l .code ≡ 2 → (partIn goals p bytes ≡ Call (l .first) (kindOf (l .second)) (eqb (l .third) 1)) × (l .first < goals)
+  pub is-call : codeOf (l .code) ≡ codes.Call → (partIn goals p bytes ≡ Call (l .first) (kindOf (l .second)) (eqb (l .third) 1)) × (l .first < goals)
   unfolding whole
   is-call k = let v = as-call seen k in (ap (λ (t : TakenPart). t .part) (sym (v .1)), fits k .0)
 
   -- the kind and the mark of a call have one digit
-  pub has-digits : l .code ≡ 2 → (l .second ≤ 3) × (l .third ≤ 1)
+  pub has-digits : codeOf (l .code) ≡ codes.Call → (l .second ≤ 3) × (l .third ≤ 1)
   has-digits k = fits k .1
 
-  pub is-all : l .code ≡ 3 → (partIn goals p bytes ≡ Node All (partsIn goals p (l .first) (drop 16 bytes))) × ReadsParts goals p (l .first) (drop 16 bytes)
-  is-all k = node All p (as-all seen k)
+  pub is-group : (op : kinds.Op) → codeOf (l .code) ≡ codes.Group op
+      → (partIn goals p bytes ≡ Node (opOf op) (partsIn goals p (l .first) (drop 16 bytes))) × ReadsParts goals p (l .first) (drop 16 bytes)
+  is-group op k = node (opOf op) p (as-group seen op k)
 
-  pub is-any : l .code ≡ 4 → (partIn goals p bytes ≡ Node Any (partsIn goals p (l .first) (drop 16 bytes))) × ReadsParts goals p (l .first) (drop 16 bytes)
-  is-any k = node Any p (as-any seen k)
-
-  pub is-pick : l .code ≡ 5 → (p ≡ false) × ((partIn goals p bytes ≡ Node Pick (partsIn goals true (l .first) (drop 16 bytes))) × ReadsParts goals true (l .first) (drop 16 bytes))
+  pub is-pick : codeOf (l .code) ≡ codes.Pick → (p ≡ false) × ((partIn goals p bytes ≡ Node Pick (partsIn goals true (l .first) (drop 16 bytes))) × ReadsParts goals true (l .first) (drop 16 bytes))
   is-pick k = let v = as-pick seen k in (v .0, node Pick true (v .1))
 
-  pub is-undecided : l .code ≡ 6 → partIn goals p bytes ≡ UndecidedLine
+  pub is-undecided : codeOf (l .code) ≡ codes.Undecided → partIn goals p bytes ≡ UndecidedLine
   unfolding whole
   is-undecided k = ap (λ (t : TakenPart). t .part) (sym (as-undecided seen k))
 
@@ -121,9 +127,9 @@ module _ (bytes : List ℕ) (s : StartsPart bytes) where
   part-line = a-line (s .goals) (s .inPick) bytes (lineIn bytes) refl (s .reads)
 
   pub code-digit : lineIn bytes .code ≤ 6
-  code-digit = known-code (s .goals) (s .inPick) bytes (lineIn bytes) refl (s .reads) .1
+  code-digit = known-digit (lineIn bytes .code) (known-code (s .goals) (s .inPick) bytes (lineIn bytes) refl (s .reads))
 
-  pub call-digits : lineIn bytes .code ≡ 2 → (lineIn bytes .second ≤ 3) × (lineIn bytes .third ≤ 1)
+  pub call-digits : codeOf (lineIn bytes .code) ≡ codes.Call → (lineIn bytes .second ≤ 3) × (lineIn bytes .third ≤ 1)
   call-digits = has-digits (s .goals) (s .inPick) bytes (lineIn bytes) refl (s .reads)
 
 -- ---- the parts below it, one by one

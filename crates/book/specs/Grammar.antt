@@ -35,6 +35,9 @@ abbrev pub openedIf : Bool → ℕ → Bool → Opened
 openedIf true n inPick = Parts n inPick
 openedIf false n inPick = Nothing
 
+abbrev pub goalFits : ℕ → Line → Bool
+goalFits goal l = eqb (l .first) goal && usesFirst l
+
 abbrev pub callFits : ℕ → Line → Bool
 callFits goals l = ltb (l .first) goals && leb (l .second) 3 && leb (l .third) 1 && eqb (l .fourth) 0
 

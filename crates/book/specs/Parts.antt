@@ -1,22 +1,14 @@
 -- The part that bytes start with.
 use mathlib.Core.Path.{_≡_}
-use Prim.Native.Nat.{ℕ, zero, suc}
-use mathlib.Core.Bool.{Bool, true, false, _&&_}
+use Prim.Native.Nat.{ℕ, _*_, _-_, _<_}
+use mathlib.Core.Bool.{Bool}
 use mathlib.Core.Option.{Option, none, some}
-use mathlib.Core.List.{List, [], _∷_}
-use lib.Dec.{leb}
+use mathlib.Core.List.{List, []}
+use lib.ListN.{length, drop}
 use Rattle.definition.specs.declared.format.Line.{Line}
 use Rattle.definition.specs.Part.{Part, Parts, UndecidedLine, End}
 use Rattle.definition.specs.Reader.{TakenPart, TakenParts, readPart, readParts, nestingLimit}
 use Rattle.book.specs.Lines.{linesIn}
-
--- how many parts stand below a part's first line
-abbrev pub countIf : Bool → ℕ → ℕ
-countIf true n = n
-countIf false n = 0
-
-abbrev pub partsBelow : Line → ℕ
-partsBelow l = countIf (leb 3 (l .code) && leb (l .code) 5) (l .first)
 
 -- ---- one part, of a book with so many goals; `inPick`: it stands inside a pick
 unfoldable pub partRead : ℕ → Bool → List ℕ → Option TakenPart
@@ -37,6 +29,12 @@ restIn goals inPick bytes = takenOr (partRead goals inPick bytes) .rest
 abbrev pub Reads : ℕ → Bool → List ℕ → Type 0
 Reads goals inPick bytes =
     partRead goals inPick bytes ≡ some (record { part = partIn goals inPick bytes; rest = restIn goals inPick bytes })
+
+-- the bytes after it are these: its lines are passed over
+pub record PassedOver (goals : ℕ) (inPick : Bool) (bytes rest : List ℕ) : Type 0 where
+  pub place : rest ≡ drop (16 * (length (linesIn bytes) - length (restIn goals inPick bytes))) bytes
+  pub lines : linesIn rest ≡ restIn goals inPick bytes
+  pub shorter : length rest < length bytes
 
 -- for some book
 pub record StartsPart (bytes : List ℕ) : Type 0 where

@@ -1,4 +1,5 @@
 // The grammar of a book's body.
+use crate::code::Code;
 use crate::line;
 ghost use mathlib.Core.Path.{_≡_};
 ghost use mathlib.Core.Bool.{Bool};
@@ -9,7 +10,7 @@ ghost use lib.ListN.{length};
 ghost use Rattle.definition.specs.declared.format.Line.{Line};
 ghost use Rattle.definition.specs.Reader.{TakenPart, usesFirst, readByCode, readPart, isGoalLine, readGoal};
 ghost use Rattle.book.specs.Lines.{lineIn, linesIn};
-ghost use Rattle.book.specs.Grammar.{afterPart, afterBytes, afterOpened, openedIf, callFits, undecidedFits, pickFits};
+ghost use Rattle.book.specs.Grammar.{afterPart, afterBytes, afterOpened, openedIf, goalFits, callFits, undecidedFits, pickFits};
 
 // What the first line of a part opens: so many parts that follow it, with whether they
 // stand inside a pick; or nothing, where no part starts with the line.
@@ -85,13 +86,15 @@ fn opened_by(s: &[u8], goals: usize, in_pick: bool) -> Opened
     requires { ⌜ 16 ≤ length (now s) ⌝ }
     ensures { λ r. ⌜ ((inner : Bool → List Line → Option TakenPart) (ls : List Line) → afterOpened r inner ls ≡ afterPart (readByCode goals (lineIn (now (s .entry)) .code) «in_pick» inner (lineIn (now (s .entry))) ls)) ⌝ }
 {
-    let code = line::field_at(s, 0);
+    let number = line::field_at(s, 0);
+    let code = Code::of_number(number);
     match code {
-        2 => opened_if(call_fits(s, goals), 0, in_pick),
-        3..=4 => opened_if(uses_first(s), line::field_at(s, 3), in_pick),
-        5 => opened_if(pick_fits(s, in_pick), line::field_at(s, 3), true),
-        6 => opened_if(undecided_fits(s), 0, in_pick),
-        0..=1 | 7..=65535 => Opened::Nothing,
+        Code::Goal => Opened::Nothing,
+        Code::Call => opened_if(call_fits(s, goals), 0, in_pick),
+        Code::Group(_) => opened_if(uses_first(s), line::field_at(s, 3), in_pick),
+        Code::Pick => opened_if(pick_fits(s, in_pick), line::field_at(s, 3), true),
+        Code::Undecided => opened_if(undecided_fits(s), 0, in_pick),
+        Code::Unknown => Opened::Nothing,
     }
 }
 
@@ -125,18 +128,31 @@ fn part_size(s: &[u8], goals: usize, nest: u8, in_pick: bool) -> usize
     at
 }
 
-fn is_goal_line(s: &[u8], goal: usize) -> bool
+// Whether a goal's line has this goal's number.
+fn goal_fits(s: &[u8], goal: usize) -> bool
     requires { ⌜ 16 ≤ length (now s) ⌝ }
-    ensures { λ r. ⌜ r ≡ isGoalLine goal (lineIn (now (s .entry))) ⌝ }
+    ensures { λ r. ⌜ r ≡ goalFits goal (lineIn (now (s .entry))) ⌝ }
 {
-    if line::field_at(s, 0) != 1 {
-        return false;
-    }
     let number = line::field_at(s, 3) as usize;
     if number != goal {
         return false;
     }
     uses_first(s)
+}
+
+fn is_goal_line(s: &[u8], goal: usize) -> bool
+    requires { ⌜ 16 ≤ length (now s) ⌝ }
+    ensures { λ r. ⌜ r ≡ isGoalLine goal (lineIn (now (s .entry))) ⌝ }
+{
+    let code = Code::of_number(line::field_at(s, 0));
+    match code {
+        Code::Goal => goal_fits(s, goal),
+        Code::Call => false,
+        Code::Group(_) => false,
+        Code::Pick => false,
+        Code::Undecided => false,
+        Code::Unknown => false,
+    }
 }
 
 // How many bytes a goal's line and its part take that s starts with; 0 where s starts

@@ -1,4 +1,5 @@
 // The parts of a book that was read.
+use crate::code::Code;
 use crate::line;
 use definition::paths::PathKind;
 ghost use mathlib.Core.Path.{_≡_};
@@ -6,8 +7,9 @@ ghost use mathlib.Core.Bool.{Bool};
 ghost use Prim.Native.Nat.{ℕ, _≤_, _<_};
 ghost use lib.ListN.{length, getD, drop};
 ghost use Rattle.definition.specs.Paths.{kindOf};
-ghost use Rattle.book.specs.Lines.{lineIn, linesIn};
-ghost use Rattle.book.specs.Parts.{partsBelow, Reads, restIn, StartsPart};
+ghost use Rattle.book.specs.Lines.{lineIn};
+ghost use Rattle.book.specs.Codes.{codeOf, partsBelow};
+ghost use Rattle.book.specs.Parts.{Reads, StartsPart, PassedOver};
 ghost use Rattle.book.specs.Calls.{callOf};
 
 // A call line.
@@ -26,12 +28,12 @@ pub fn of_goal<'a>(book: &'a [u8], starts: &[u16], goal: usize) -> &'a [u8]
     &book[at..]
 }
 
-// The code of the first line.
-pub fn code(part: &[u8]) -> u16
+// What the code of the first line says.
+pub fn code(part: &[u8]) -> Code
     requires { ⌜ StartsPart (now part) ⌝ }
-    ensures { λ r. ⌜ r ≡ lineIn (now (part .entry)) .code ⌝ }
+    ensures { λ r. ⌜ r ≡ codeOf (lineIn (now (part .entry)) .code) ⌝ }
 {
-    line::digit_at(part, 0)
+    Code::of_number(line::digit_at(part, 0))
 }
 
 // How many parts stand below the first line of a group.
@@ -47,17 +49,21 @@ fn below(part: &[u8]) -> usize
     requires { ⌜ StartsPart (now part) ⌝ }
     ensures { λ r. ⌜ (r ≡ partsBelow (lineIn (now (part .entry)))) × (r < 65536) ⌝ }
 {
-    let number = code(part);
-    match number {
-        3..=5 => count(part),
-        0..=2 | 6..=65535 => 0,
+    let first = code(part);
+    match first {
+        Code::Goal => 0,
+        Code::Call => 0,
+        Code::Group(_) => count(part),
+        Code::Pick => count(part),
+        Code::Undecided => 0,
+        Code::Unknown => 0,
     }
 }
 
 // Passes over the part that the bytes start with, and hands back the rest.
-fn skip(part: &[u8]) -> &[u8]
+pub fn next(part: &[u8]) -> &[u8]
     requires { ⌜ StartsPart (now part) ⌝ }
-    ensures { λ r. ⌜ ((goals : ℕ) (inPick : Bool) → Reads goals inPick (now (part .entry)) → linesIn (now r) ≡ restIn goals inPick (now (part .entry))) × (length (now r) < length (now (part .entry))) ⌝ }
+    ensures { λ r. ⌜ ((goals : ℕ) (inPick : Bool) → Reads goals inPick (now (part .entry)) → PassedOver goals inPick (now (part .entry)) (now r)) ⌝ }
 {
     let mut t = part;
     let mut pending: usize = 1;
@@ -66,17 +72,6 @@ fn skip(part: &[u8]) -> &[u8]
         t = &t[16..];
     }
     t
-}
-
-// Passes over the part that the bytes start with, where others are left.
-pub fn next(part: &[u8], left: usize) -> &[u8]
-    requires { ⌜ StartsPart (now part) ⌝ }
-    ensures { λ r. ⌜ (0 < left → (goals : ℕ) (inPick : Bool) → Reads goals inPick (now (part .entry)) → linesIn (now r) ≡ restIn goals inPick (now (part .entry))) × (length (now r) ≤ length (now (part .entry))) ⌝ }
-{
-    if left == 0 {
-        return part;
-    }
-    skip(part)
 }
 
 // The kind of a step, by its number.
@@ -94,7 +89,7 @@ fn kind(number: u16) -> PathKind
 impl Call {
     // The call of the first line.
     pub fn first(part: &[u8]) -> Call
-        requires { ⌜ StartsPart (now part) × (lineIn (now part) .code ≡ 2) ⌝ }
+        requires { ⌜ StartsPart (now part) × (codeOf (lineIn (now part) .code) ≡ Code.Call) ⌝ }
         ensures { λ r. ⌜ r ≡ callOf (lineIn (now (part .entry))) ⌝ }
     {
         let step = kind(line::digit_at(part, 6));

@@ -1,6 +1,3 @@
-pub mod Laws
-pub mod Plain
+pub mod Groups
 pub mod Tracking
-pub mod Starts
-pub mod Turns
-pub mod Ends
+pub mod Picks

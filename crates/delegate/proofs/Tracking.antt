@@ -10,7 +10,7 @@ use Rattle.layout.specs.Work.{graphLength, stackOf, entriesOf}
 use Rattle.stack.proofs.Parts.{part, returned}
 use Rattle.evaluation.specs.Workspace.{WorkBytes}
 use Rattle.evaluation.proofs.Lent.{lent-graph, graph-back, merged-back}
-use Rattle.delegate.specs.Steps.{Tracked}
+use Rattle.delegate.specs.Picks.{Tracked}
 
 pub tracked : (goals : ℕ) (work : List ℕ) (w : WorkBytes goals work) (n : ℕ) (is : n ≡ graphLength goals) (ys : List ℕ) → length ys ≡ length (part work 0 n) → (own : ℕ) (c : Option (List HeadUsages))
     → stackOf goals (own + 1) ys ≡ setCandidateUsages c (stackOf goals (own + 1) (part work 0 n))

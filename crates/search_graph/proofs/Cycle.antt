@@ -46,14 +46,18 @@ pub fewer : (a b b1 t : ℕ) → a * 2 ^ 64 + b ≡ t → b1 < b → a * 2 ^ 64 
 fewer a b b1 t e l = omega arith
 
 -- ---- the buffers after a call
-pub work-next : {goals : ℕ} {work : List ℕ} (new : List ℕ) → WorkBytes goals work → length new ≡ length work → WorkBytes goals new
+pub work-next : {goals : ℕ} {work : List ℕ} (new : List ℕ) → WorkBytes goals work → length new ≡ length work
+    → WorkBytes goals new
 work-next new w e = record { some = w .some; few = w .few; long = e ∙ w .long }
 
-pub cache-next : {goals top : ℕ} {cache : List ℕ} (new : List ℕ) → CacheBytes goals top cache → length new ≡ length cache → CacheBytes goals top new
+pub cache-next : {goals top : ℕ} {cache : List ℕ} (new : List ℕ) → CacheBytes goals top cache
+    → length new ≡ length cache → CacheBytes goals top new
 cache-next new c e = record { few = c .few; low = c .low; whole = e ∙ c .whole }
 
-pub running-next : {book starts cache work : List ℕ} {h : Header} {root height n : ℕ} (newCache newWork : List ℕ) (newHeight m : ℕ)
-    → Running book starts cache work h root height n → length newCache ≡ length cache → length newWork ≡ length work → newHeight ≤ h .goals → m ≤ 2 * h .goals
+pub running-next : {book starts cache work : List ℕ} {h : Header} {root height n : ℕ} (newCache newWork : List ℕ)
+    (newHeight m : ℕ)
+    → Running book starts cache work h root height n → length newCache ≡ length cache → length newWork ≡ length work
+    → newHeight ≤ h .goals → m ≤ 2 * h .goals
     → Running book starts newCache newWork h root newHeight m
 running-next newCache newWork newHeight m r ec ew le few =
     record {
@@ -87,16 +91,19 @@ module _ {book starts cache work : List ℕ} {h : Header} {root height n goal : 
       ≡ found h (computer book h height) goal step r (graphHeld (h .goals) root height n work1 cache)
   finds =
       evaluates (bookIn book) (h .goals - height) (graphHeld (h .goals) root height n work cache) goal step lower
-      ∙ ap (λ (x : Header). evaluateGoalWith x (computer book h height) (graphHeld (h .goals) root height n work cache) goal step lower)
+      ∙ ap (λ (x : Header). evaluateGoalWith x (computer book h height)
+      (graphHeld (h .goals) root height n work cache) goal step lower)
       (run .read .header)
       ∙ looked .is (computer book h height)
 
   pub known : (a : Answer) → r ≡ Known a
-      → Comes (h .goals) root height height (goalFrom book h root height n work cache goal step lower) work work1 cache (Done a n)
+      → Comes (h .goals) root height height (goalFrom book h root height n work cache goal step lower) work work1
+      cache (Done a n)
   unfolding outcomeOf found
   known a e =
       record {
-        is = sym (finds ∙ ap (λ (x : Found). found h (computer book h height) goal step x (graphHeld (h .goals) root height n work1 cache)) e);
+        is = sym (finds ∙ ap (λ (x : Found). found h (computer book h height) goal step x
+            (graphHeld (h .goals) root height n work1 cache)) e);
         few = run .entries;
         merged = λ i lt. looked .merged i;
       }
@@ -105,18 +112,21 @@ module _ {book starts cache work : List ℕ} {h : Header} {root height n goal : 
     pushes : goalFrom book h root height n work cache goal step lower
         ≡ evaluateNewFrame h (computer book h height) (graphHeld (h .goals) root height n work1 cache) goal step d
     unfolding found
-    pushes = finds ∙ ap (λ (x : Found). found h (computer book h height) goal step x (graphHeld (h .goals) root height n work1 cache)) e
+    pushes = finds ∙ ap (λ (x : Found). found h (computer book h height) goal step x
+        (graphHeld (h .goals) root height n work1 cache)) e
 
     -- every goal is on the stack
     pub full : h .goals ≤ height
-        → Comes (h .goals) root height height (goalFrom book h root height n work cache goal step lower) work work1 cache (Stopped Unreachable)
+        → Comes (h .goals) root height height (goalFrom book h root height n work cache goal step lower) work work1
+        cache (Stopped Unreachable)
     unfolding outcomeOf
     full le =
         let none-off : h .goals - height ≡ 0 = omega arith in
         record {
           is = sym
               (pushes
-              ∙ ap (λ (off : ℕ). evaluateNewFrame h (computeBy (bookIn book) off) (graphHeld (h .goals) root height n work1 cache) goal step d)
+              ∙ ap (λ (off : ℕ). evaluateNewFrame h (computeBy (bookIn book) off)
+              (graphHeld (h .goals) root height n work1 cache) goal step d)
               none-off
               ∙ stops (pred (h .limit)) _);
           few = tt;
@@ -124,68 +134,79 @@ module _ {book starts cache work : List ℕ} {h : Header} {root height n goal : 
         }
       where
         stops : (left : ℕ) (g : Graph)
-            → afterTask h goal step d (evaluateGoalInTask (λ g1. graph.Stopped Unreachable) left false g) ≡ graph.Stopped Unreachable
+            → afterTask h goal step d
+            (evaluateGoalInTask (λ g1. graph.Stopped Unreachable) left false g) ≡ graph.Stopped Unreachable
         stops zero g = refl
         stops (suc left) g = refl
 
     -- a new frame: its iterations, and what follows them
-    module _ (lt : height < h .goals) (known-goal : goal < h .goals) {work2 : List ℕ} (push : Pushed (h .goals) height goal step d work1 work2)
+    module _ (lt : height < h .goals) (known-goal : goal < h .goals) {work2 : List ℕ}
+        (push : Pushed (h .goals) height goal step d work1 work2)
         {p : List ℕ} (starts-at : p ≡ drop (getD starts goal 0) book) {left : ℕ} (less : left ≡ pred (h .limit))
         {work3 cache3 : List ℕ} {o : TaskOutcome}
-        (ran : TaskComes (h .goals) root (height + 1 - 1) (taskFrom book p h root (height + 1) n left work2 cache) work2 work3 cache3 o)
-        {work4 cache4 : List ℕ} {x : Outcome} (end : Finished h height goal step d o work3 work4 cache3 cache4 x) where
-      the-part : partAt (bookIn book .parts) goal ≡ some (partIn (h .goals) false p)
-      the-part =
-          run .read .started goal known-goal .part ∙ ap (λ (bs : List ℕ). some (partIn (h .goals) false bs)) (sym starts-at)
+        (ran : TaskComes (h .goals) root (height + 1 - 1) (taskFrom book p h root (height + 1) n left work2 cache)
+        work2 work3 cache3 o)
+        {work4 cache4 : List ℕ} {x : Outcome} (end : Finished h height goal step d o work3 work4 cache3 cache4 x)
+      where
+        the-part : partAt (bookIn book .parts) goal ≡ some (partIn (h .goals) false p)
+        the-part =
+            run .read .started goal known-goal .part
+            ∙ ap (λ (bs : List ℕ). some (partIn (h .goals) false bs)) (sym starts-at)
 
-      one-off : h .goals - height ≡ suc (h .goals - (height + 1))
-      one-off = omega arith
+        one-off : h .goals - height ≡ suc (h .goals - (height + 1))
+        one-off = omega arith
 
-      popped : height + 1 - 1 ≡ height
-      popped = omega arith
+        popped : height + 1 - 1 ≡ height
+        popped = omega arith
 
-      computes : (λ (g : Graph). computer book h height goal g)
-          ≡ evalPart (evaluator book h (height + 1)) (h .goals) (partIn (h .goals) false p)
-      computes =
-          ap (λ (m : ℕ). λ (g : Graph). computeBy (bookIn book) m goal g) one-off
-          ∙ (λ i. λ (g : Graph).
-          elim (the-part i) [
-            | none ↦ graph.Stopped Unreachable
-            | some q ↦ evalPart (evaluator book h (height + 1)) (bookIn book .header .goals) q g
-          ])
-          ∙ ap (λ (x : Header). evalPart (evaluator book h (height + 1)) (x .goals) (partIn (h .goals) false p)) (run .read .header)
+        computes : (λ (g : Graph). computer book h height goal g)
+            ≡ evalPart (evaluator book h (height + 1)) (h .goals) (partIn (h .goals) false p)
+        computes =
+            ap (λ (m : ℕ). λ (g : Graph). computeBy (bookIn book) m goal g) one-off
+            ∙ (λ i. λ (g : Graph).
+            elim (the-part i) [
+              | none ↦ graph.Stopped Unreachable
+              | some q ↦ evalPart (evaluator book h (height + 1)) (bookIn book .header .goals) q g
+            ])
+            ∙ ap (λ (x : Header). evalPart (evaluator book h (height + 1)) (x .goals) (partIn (h .goals) false p))
+            (run .read .header)
 
-      tasks : taskOutcomeOf (h .goals) root height (graphIn (h .goals) work3) cache3 o
-          ≡ evaluateGoalInTask (computer book h height goal) (pred (h .limit)) false
-          (withStack (graphHeld (h .goals) root height n work1 cache)
-          (newFrame (h .goals) goal step d ∷ graphHeld (h .goals) root height n work1 cache .stack))
-      tasks =
-          ap (λ (m : ℕ). taskOutcomeOf (h .goals) root m (graphIn (h .goals) work3) cache3 o) (sym popped)
-          ∙ ran .is
-          ∙ (λ i. evaluateGoalInTask (sym computes i) (less i) false (push .is root n cache i))
+        tasks : taskOutcomeOf (h .goals) root height (graphIn (h .goals) work3) cache3 o
+            ≡ evaluateGoalInTask (computer book h height goal) (pred (h .limit)) false
+            (withStack (graphHeld (h .goals) root height n work1 cache)
+            (newFrame (h .goals) goal step d ∷ graphHeld (h .goals) root height n work1 cache .stack))
+        tasks =
+            ap (λ (m : ℕ). taskOutcomeOf (h .goals) root m (graphIn (h .goals) work3) cache3 o) (sym popped)
+            ∙ ran .is
+            ∙ (λ i. evaluateGoalInTask (sym computes i) (less i) false (push .is root n cache i))
 
-      pub framed : Comes (h .goals) root height height (goalFrom book h root height n work cache goal step lower) work work4 cache4 x
-      framed =
-          record {
-            is = end .is root ∙ ap (afterTask h goal step d) tasks ∙ sym pushes;
-            few = end .few;
-            merged = λ i low. end .merged i ∙ ran .merged i (rw popped low) ∙ push .merged i ∙ looked .merged i;
-          }
+        pub framed : Comes (h .goals) root height height (goalFrom book h root height n work cache goal step lower) work
+            work4 cache4 x
+        framed =
+            record {
+              is = end .is root ∙ ap (afterTask h goal step d) tasks ∙ sym pushes;
+              few = end .few;
+              merged = λ i low. end .merged i ∙ ran .merged i (rw popped low) ∙ push .merged i ∙ looked .merged i;
+            }
 
 -- ---- rerun: a turn of its loop. The iterations from here on make the whole; `first` is the workspace before the loop
-pub record Turn (f : Graph → graph.Outcome) (goals root height most : ℕ) (whole : task.TaskOutcome) (first work cache : List ℕ)
+pub record Turn (f : Graph → graph.Outcome) (goals root height most : ℕ) (whole : task.TaskOutcome)
+    (first work cache : List ℕ)
     (left : ℕ) (overflow : Bool) (n : ℕ) : Type 0 where
   pub low : left ≤ most
   pub few : n ≤ 2 * goals
   pub value : evaluateGoalInTask f left overflow (graphHeld goals root height n work cache) ≡ whole
   pub merged : (i : ℕ) → i < height - 1 → mergedOf goals i work ≡ mergedOf goals i first
 
-pub turn-starts : {f : Graph → graph.Outcome} {goals root height : ℕ} {work cache : List ℕ} {left : ℕ} {overflow : Bool} {n : ℕ} → n ≤ 2 * goals
-    → Turn f goals root height left (evaluateGoalInTask f left overflow (graphHeld goals root height n work cache)) work work cache left overflow n
+pub turn-starts : {f : Graph → graph.Outcome} {goals root height : ℕ} {work cache : List ℕ} {left : ℕ}
+    {overflow : Bool} {n : ℕ} → n ≤ 2 * goals
+    → Turn f goals root height left (evaluateGoalInTask f left overflow (graphHeld goals root height n work cache))
+    work work cache left overflow n
 turn-starts few =
     record { low = omega arith; few = few; value = refl; merged = λ i lt. refl }
 
-module _ {f : Graph → graph.Outcome} {goals root height most : ℕ} {whole : task.TaskOutcome} {first work cache : List ℕ}
+module _ {f : Graph → graph.Outcome} {goals root height most : ℕ} {whole : task.TaskOutcome}
+    {first work cache : List ℕ}
     {left : ℕ} {overflow : Bool} {n : ℕ} (here : Turn f goals root height most whole first work cache left overflow n)
     {work1 cache1 : List ℕ} {o : Outcome}
     (read : Comes goals root height (height - 1) (f (graphHeld goals root height n work cache)) work work1 cache1 o)
@@ -204,7 +225,8 @@ module _ {f : Graph → graph.Outcome} {goals root height most : ℕ} {whole : t
   unfolding turned
   turn-ends t e =
       record {
-        is = sym (ap (turned goals root height (evaluateGoalInTask f (left - 1)) (graphIn goals work2) cache1) e) ∙ goes-on;
+        is = sym (ap (turned goals root height (evaluateGoalInTask f (left - 1)) (graphIn goals work2) cache1) e)
+            ∙ goes-on;
         few = subst (FewTurned goals left) e (ended .few);
         merged = merged-on;
       }
@@ -213,7 +235,8 @@ module _ {f : Graph → graph.Outcome} {goals root height most : ℕ} {whole : t
   pub turn-left : (met : Bool) (m : ℕ) → r ≡ Again met m → 0 < left
   turn-left met m e = subst (FewTurned goals left) e (ended .few) .1
 
-  pub turn-again : (met : Bool) (m : ℕ) → r ≡ Again met m → Turn f goals root height most whole first work2 cache1 (left - 1) met m
+  pub turn-again : (met : Bool) (m : ℕ) → r ≡ Again met m
+      → Turn f goals root height most whole first work2 cache1 (left - 1) met m
   unfolding turned
   turn-again met m e =
       let some = turn-left met m e in
@@ -221,6 +244,7 @@ module _ {f : Graph → graph.Outcome} {goals root height most : ℕ} {whole : t
       record {
         low = omega arith;
         few = subst (FewTurned goals left) e (ended .few) .0;
-        value = sym (ap (turned goals root height (evaluateGoalInTask f (left - 1)) (graphIn goals work2) cache1) e) ∙ goes-on;
+        value = sym (ap (turned goals root height (evaluateGoalInTask f (left - 1)) (graphIn goals work2) cache1) e)
+            ∙ goes-on;
         merged = merged-on;
       }

@@ -1,4 +1,3 @@
-pub mod Codes
 pub mod Cycle
 pub mod Lending
 pub mod Walks

@@ -1,253 +1,111 @@
--- A part is read by its first line; a group, part by part.
+-- A part is read by its first line; the parts of a group, and the candidates of a pick, one by one.
 use mathlib.Core.Path.{_≡_, refl, sym, ap, _∙_, subst}
 use mathlib.Core.Bool.{Bool, true, false}
-use mathlib.Core.List.{List}
+use mathlib.Core.Logic.{⊎-elim}
+use mathlib.Core.List.{List, [], _∷_}
 use Prim.Native.Nat.{ℕ, _*_, _-_, _≤_, _<_}
 use native.Mathlib.Omega.{arith}
-use native.Mathlib.Decide.{decLt}
 use lib.ListN.{length, take, drop, length-drop}
+use types.Run.{OneOf}
+use denote.Enum.Declared.{tagOf}
+use Rattle.definition.specs.declared.format.Header.{Header}
 use Rattle.definition.specs.declared.answers.Answer.the-variants as answers
-use Rattle.definition.specs.Part.{Part, Parts, Node, Then}
+use Rattle.definition.specs.Part.{Part, Parts, Node, UndecidedLine, Then}
 use Rattle.definition.specs.Part as part
 use Rattle.definition.specs.Graph.{Graph, andThen}
 use Rattle.definition.specs.Graph as graph
-use Rattle.definition.specs.Evaluate.{Evaluator, evalPart}
-use Rattle.layout.specs.Work.{graphOf, mergedOf}
-use Rattle.book.specs.Lines.{lineIn, linesIn}
-use Rattle.book.specs.Calls.{callOf}
-use Rattle.book.specs.Parts.{Reads, partIn, restIn, ReadsParts, partsIn}
+use Rattle.definition.specs.Candidates.{enterSingleCandidate}
+use Rattle.definition.specs.Evaluate.{evalPart}
 use Rattle.definition.proofs.Lists.{part-from}
-use Rattle.book.proofs.Walk.{known-code, is-call, is-all, is-any, is-pick, is-undecided, no-parts, first-reads, others-of, first-and, none-read, none-then, others-read, first-then}
+use Rattle.layout.specs.Work.{mergedOf}
+use Rattle.book.specs.declared.code.Op.{Op}
+use Rattle.book.specs.declared.code.Code.{Code}
+use Rattle.book.specs.declared.code.Code.the-variants as codes
+use Rattle.book.specs.declared.part.Call.{Call}
+use Rattle.book.specs.Lines.{lineIn}
+use Rattle.book.specs.Codes.{opOf, codeOf}
+use Rattle.book.specs.Calls.{callOf}
+use Rattle.book.specs.Parts.{Reads, partIn, PassedOver, ReadsParts, partsIn}
+use Rattle.book.proofs.code.Code.{the-type}
+use Rattle.book.proofs.Walk.{a-line, no-goal-line, known-code, is-call, is-group, is-pick, is-undecided}
+use Rattle.book.proofs.Walk.{no-parts, others-of, first-and, none-read, none-then, others-read, first-then}
 use Rattle.evaluation.specs.declared.Outcome.{Outcome}
 use Rattle.evaluation.specs.declared.Outcome.the-variants.{Done}
 use Rattle.evaluation.specs.Workspace.{graphIn}
 use Rattle.evaluation.specs.Outcomes.{outcomeOf, FewEntries}
-use Rattle.delegate.specs.declared.Op.{Op}
-use Rattle.delegate.specs.declared.Op.the-variants.{All, Any, Pick}
-use Rattle.delegate.specs.declared.Group.{Group}
-use Rattle.delegate.specs.declared.Step.{Step}
-use Rattle.delegate.specs.declared.Step.the-variants.{End, More}
-use Rattle.delegate.specs.Groups.{opOf, isPick, rest, next}
-use Rattle.delegate.proofs.Laws.{rest-turn}
-use Rattle.delegate.proofs.Plain.{no-pick}
-use Rattle.delegate.specs.Steps.{Kept, Begun, Entered, Stepped, Ended, stepOf}
-use Rattle.search_graph.specs.declared.between.Shape.{Shape}
-use Rattle.search_graph.specs.declared.between.Shape.the-variants as shapes
-use Rattle.search_graph.specs.Shapes.{shapeOf, insideOf}
-use Rattle.search_graph.specs.Calls.{Comes, keptBelow}
-use Rattle.search_graph.proofs.Codes.{opNumber, number, code-is, plain-group}
+use Rattle.delegate.specs.declared.group.Group.{Group}
+use Rattle.delegate.specs.declared.group.Weighed.{Weighed}
+use Rattle.delegate.specs.declared.group.Weighed.the-variants as weighed
+use Rattle.delegate.specs.Groups.{GroupStarted, GroupWeighed, GroupClosed}
+use Rattle.delegate.specs.Groups as groups
+use Rattle.delegate.specs.declared.pick.Pick.{Pick}
+use Rattle.delegate.specs.declared.pick.Tried.{Tried}
+use Rattle.delegate.specs.declared.pick.Tried.the-variants as tried
+use Rattle.delegate.specs.Picks.{PickBegun, CandidateEntered, CandidateFinished, PickEnded}
+use Rattle.delegate.specs.Picks as picks
+use Rattle.delegate.proofs.Groups.{rest-then}
+use Rattle.search_graph.specs.Calls.{Running, graphHeld, evaluator, goalFrom, partFrom, Comes, keptBelow}
 
 -- ---- by the first line
 module _ (goals : ℕ) (inPick : Bool) (p : List ℕ) (reads : Reads goals inPick p) where
-  -- a call
-  pub called : lineIn p .code ≡ 2
-      → (callOf (lineIn p) .goal < goals) × ((ev : Evaluator) (g : Graph) → evalPart ev goals (partIn goals inPick p) g ≡ ev g (callOf (lineIn p) .goal) (callOf (lineIn p) .step) (callOf (lineIn p) .lower))
-  called e = let v = is-call goals inPick p (lineIn p) refl reads e in (v .1, λ ev g. ap (λ (x : Part). evalPart ev goals x g) (v .0))
+  -- a call's goal is one of the book's
+  pub call-known : codeOf (lineIn p .code) ≡ codes.Call → callOf (lineIn p) .goal < goals
+  call-known k = is-call goals inPick p (lineIn p) refl reads k .1
 
-  -- a group: what is asked of the parts below it
-  abbrev pub Grouped : Op → ℕ → List ℕ → Type 0
-  Grouped op n t =
-      (op ≡ Pick → inPick ≡ false) × ((partIn goals inPick p ≡ Node (opOf op) (partsIn goals (insideOf op inPick) n t)) × ReadsParts goals (insideOf op inPick) n t)
+  -- what is no call, no group and no pick is an undecided line: no part starts with another code
+  undecided : (code : Code) → code ≡ codeOf (lineIn p .code) → OneOf (0 ∷ 4 ∷ 5 ∷ []) (tagOf the-type code)
+      → partIn goals inPick p ≡ UndecidedLine
+  undecided codes.Goal e k = absurd (no-goal-line goals inPick p (lineIn p) refl reads (sym e))
+  undecided codes.Call e k = absurd (⊎-elim (λ x. omega arith) (⊎-elim (λ x. omega arith) (λ x. omega arith)) k)
+  undecided (codes.Group op) e k = absurd (⊎-elim (λ x. omega arith) (⊎-elim (λ x. omega arith) (λ x. omega arith)) k)
+  undecided codes.Pick e k = absurd (⊎-elim (λ x. omega arith) (⊎-elim (λ x. omega arith) (λ x. omega arith)) k)
+  undecided codes.Undecided e k = is-undecided goals inPick p (lineIn p) refl reads (sym e)
+  undecided codes.Unknown e k = absurd (known-code goals inPick p (lineIn p) refl reads (sym e))
 
-  grouped : (op : Op) → lineIn p .code ≡ opNumber op → Grouped op (lineIn p .first) (drop 16 p)
-  grouped All k = (λ d. absurd (other d), is-all goals inPick p (lineIn p) refl reads k)
-    where
-      other : All ≡ Pick → ⊥
-      other d = let z : _≡_ {A = ℕ} 3 5 = ap opNumber d in omega arith
-  grouped Any k = (λ d. absurd (other d), is-any goals inPick p (lineIn p) refl reads k)
-    where
-      other : Any ≡ Pick → ⊥
-      other d = let z : _≡_ {A = ℕ} 4 5 = ap opNumber d in omega arith
-  grouped Pick k = let v = is-pick goals inPick p (lineIn p) refl reads k in (λ d. v .0, v .1)
+below-height : (inPick : Bool) (height i : ℕ) → i < keptBelow inPick height → i < height
+below-height true height i lt = lt
+below-height false height i lt = omega arith
 
-  module _ (code : ℕ) (is : code ≡ lineIn p .code) (s : Shape) (shaped : s ≡ shapeOf code) where
-    coded : (k : Shape) → s ≡ k → lineIn p .code ≡ number k
-    coded k e = let c = known-code goals inPick p (lineIn p) refl reads in code-is (lineIn p .code) (c .0) (c .1) k (sym e ∙ shaped ∙ ap shapeOf is)
-
-    pub call-code : s ≡ shapes.Call → lineIn p .code ≡ 2
-    call-code e = coded shapes.Call e
-
-    -- an undecided line
-    pub undecided : s ≡ shapes.Undecided → (ev : Evaluator) (g : Graph) → evalPart ev goals (partIn goals inPick p) g ≡ graph.Done g answers.Undecided
-    undecided e ev g = ap (λ (x : Part). evalPart ev goals x g) (is-undecided goals inPick p (lineIn p) refl reads (coded shapes.Undecided e))
-
-    -- a group, with the bytes after the first line as the code takes them
-    pub in-part : (op : Op) → s ≡ shapes.Group op → (n : ℕ) → n ≡ lineIn p .first → Grouped op n (take (length p - 16) (drop 16 p))
-    in-part op e n count = rw (count, part-from) (grouped op (coded (shapes.Group op) e))
-
-    -- a group that is read as one is no pick
-    pub plain : (op : Op) → s ≡ shapes.Group op → isPick op ≡ false
-    plain op e = let c = known-code goals inPick p (lineIn p) refl reads in plain-group (lineIn p .code) (c .0) (c .1) op (sym e ∙ shaped ∙ ap shapeOf is)
-
-    pub pick-part : s ≡ shapes.Pick → (n : ℕ) → n ≡ lineIn p .first → Grouped Pick n (take (length p - 16) (drop 16 p))
-    pick-part e n count = rw (count, part-from) (grouped Pick (coded shapes.Pick e))
-
-pub inside-plain : (op : Op) (inPick : Bool) → isPick op ≡ false → inPick ≡ insideOf op inPick
-inside-plain All inPick h = refl
-inside-plain Any inPick h = refl
-inside-plain Pick inPick h = no-pick Pick refl h
-
-pub part-shorter : (n : ℕ) (bs : List ℕ) → 0 < n → n ≤ length bs → length (take (length bs - n) (drop n bs)) < length bs
-part-shorter n bs pos h = let e : length (take (length bs - n) (drop n bs)) ≡ length bs - n = ap length (part-from n bs) ∙ length-drop n bs in omega arith
-
--- ---- which merged usages are kept
-kept-by : (op : Op) (inPick : Bool) (goals height : ℕ) (old new : List ℕ) → (op ≡ Pick → inPick ≡ false) → Kept op goals (height - 1) old new
-    → (i : ℕ) → i < keptBelow inPick height → mergedOf goals i new ≡ mergedOf goals i old
-kept-by op false goals height old new alone k i lt = k .below i lt
-kept-by op true goals height old new alone k i lt =
-    elim (decLt i (height - 1)) [
-      | yes h ↦ k .below i h
-      | no h ↦ let e : i ≡ height - 1 = omega arith in
-          ap (λ (x : ℕ). mergedOf goals x new) e ∙ k .here (no-pick op alone) ∙ ap (λ (x : ℕ). mergedOf goals x old) (sym e)
-    ]
-  where
-    no-pick : (x : Op) → (x ≡ Pick → true ≡ false) → isPick x ≡ false
-    no-pick All e = refl
-    no-pick Any e = refl
-    no-pick Pick e = e refl
-
-inside-keeps : (op : Op) (inPick : Bool) (height i : ℕ) → i < keptBelow inPick height → i < keptBelow (insideOf op inPick) height
-inside-keeps All inPick height i lt = lt
-inside-keeps Any inPick height i lt = lt
-inside-keeps Pick true height i lt = lt
-inside-keeps Pick false height i lt = omega arith
-
-under-goals : (inPick : Bool) (height goals i : ℕ) → height ≤ goals → i < keptBelow inPick height → i < goals
-under-goals true height goals i le lt = omega arith
-under-goals false height goals i le lt = omega arith
-
-is-pick-op : (x : Op) → isPick x ≡ true → x ≡ Pick
-is-pick-op All e = let z : _≡_ {A = ℕ} 0 1 = ap (λ (b : Bool). elim b [ true ↦ 1 | false ↦ 0 ]) e in absurd (omega arith)
-is-pick-op Any e = let z : _≡_ {A = ℕ} 0 1 = ap (λ (b : Bool). elim b [ true ↦ 1 | false ↦ 0 ]) e in absurd (omega arith)
-is-pick-op Pick e = refl
-
--- a turn of the loop over the parts: those that are left, and that they make the whole; `first` are the values before the loop
-pub record Walk (ev : Evaluator) (goals root height : ℕ) (inPick inside : Bool) (op : Op) (whole : graph.Outcome) (room : ℕ) (first work cache : List ℕ) (g : Group) (t : List ℕ) (k : ℕ) : Type 0 where
-  pub alone : op ≡ Pick → inPick ≡ false
-  pub within : inside ≡ insideOf op inPick
-  pub same : g .op ≡ op
-  pub few : g .entries ≤ 2 * goals
-  pub parts : ReadsParts goals inside k t
-  pub shorter : length t < room
-  pub value : rest ev goals g (partsIn goals inside k t) (mergedOf goals (height - 1) work) (graphOf goals root height (g .entries) (graphIn goals work) cache) ≡ whole
-  pub merged : (i : ℕ) → i < keptBelow inPick height → mergedOf goals i work ≡ mergedOf goals i first
-
-module _ (ev : Evaluator) (goals root height : ℕ) (inPick inside : Bool) (op : Op) (whole : graph.Outcome) (room : ℕ) (first work cache : List ℕ) (g : Group) (t : List ℕ) (k : ℕ)
-    (some-frame : 1 ≤ height) (few-frames : height ≤ goals) (walk : Walk ev goals root height inPick inside op whole room first work cache g t k) where
-  -- after the last part
-  pub walk-ends : k ≤ 0 → (work1 : List ℕ) (r : Outcome) → Ended goals height g work work1 r
-      → Comes goals root height (keptBelow inPick height) whole first work1 cache r
-  walk-ends z work1 r end =
+-- what a part comes to that is no group and no pick
+module _ {book starts cache work : List ℕ} {h : Header} {root height n : ℕ}
+    (run : Running book starts cache work h root height n)
+    (inPick : Bool) (p : List ℕ) (reads : Reads (h .goals) inPick p) where
+  pub call-comes : codeOf (lineIn p .code) ≡ codes.Call → {call : Call} → call ≡ callOf (lineIn p)
+      → {new cache1 : List ℕ} {r : Outcome}
+      → Comes (h .goals) root height height
+      (goalFrom book h root height n work cache (call .goal) (call .step) (call .lower)) work new cache1 r
+      → Comes (h .goals) root height (keptBelow inPick height) (partFrom book p inPick h root height n work cache)
+      work new cache1 r
+  call-comes k made c =
       record {
-        is = end .whole ev root cache
-            ∙ ap (λ (ps : Parts). rest ev goals g ps (mergedOf goals (height - 1) work) (graphOf goals root height (g .entries) (graphIn goals work) cache)) (sym (no-parts goals inside k t (walk .parts) z))
-            ∙ walk .value;
-        few = end .few;
-        merged = λ i lt. end .kept i (under-goals inPick height goals i few-frames lt) ∙ walk .merged i lt;
+        is = c .is
+            ∙ ap (λ (x : Call). goalFrom book h root height n work cache (x .goal) (x .step) (x .lower)) made
+            ∙ ap (λ (x : Part). evalPart (evaluator book h height) (h .goals) x
+            (graphHeld (h .goals) root height n work cache))
+            (sym (is-call (h .goals) inPick p (lineIn p) refl reads k .0));
+        few = c .few;
+        merged = λ i lt. c .merged i (below-height inPick height i lt);
       }
 
-  module _ (pos : 0 < k) where
-    pub walk-reads : Reads goals inside t
-    walk-reads = first-reads goals inside k t (walk .parts) pos
-
-    module _ (work1 : List ℕ) (enter : Entered goals height (g .op) work work1)
-        (work2 cache2 : List ℕ) (o : Outcome)
-        (read : Comes goals root height (keptBelow inside height) (evalPart ev goals (partIn goals inside t) (graphOf goals root height (g .entries) (graphIn goals work1) cache)) work1 work2 cache2 o)
-        (work3 : List ℕ) (r : Step) (after : Stepped goals height o g work2 work3 r) where
-      own-kept : g .op ≡ Pick → mergedOf goals (height - 1) work2 ≡ mergedOf goals (height - 1) work
-      own-kept e =
-          read .merged (height - 1) (subst (λ (b : Bool). height - 1 < keptBelow b height) (sym (walk .within ∙ ap (λ (x : Op). insideOf x inPick) (sym (walk .same) ∙ e))) (omega arith))
-          ∙ enter .kept (height - 1) (omega arith)
-
-      goes-on : (ps : Parts) → partsIn goals inside k t ≡ Then (partIn goals inside t) ps
-          → stepOf ev goals height ps root work3 cache2 r ≡ whole
-      goes-on ps e =
-          after .whole ev ps root cache2
-          ∙ (λ i. andThen ((read .is ∙ ap (evalPart ev goals (partIn goals inside t)) (enter .whole root (g .entries) cache)) i) (next ev goals g ps (mergedOf goals (height - 1) work2)))
-          ∙ sym (rest-turn ev goals g (partIn goals inside t) ps (mergedOf goals (height - 1) work) (mergedOf goals (height - 1) work2) (graphOf goals root height (g .entries) (graphIn goals work) cache) (λ e. sym (own-kept (is-pick-op (g .op) e))))
-          ∙ ap (λ (qs : Parts). rest ev goals g qs (mergedOf goals (height - 1) work) (graphOf goals root height (g .entries) (graphIn goals work) cache)) (sym e)
-          ∙ walk .value
-
-      merged-on : (i : ℕ) → i < keptBelow inPick height → mergedOf goals i work3 ≡ mergedOf goals i first
-      merged-on i lt =
-          kept-by op inPick goals height work2 work3 (walk .alone) (subst (λ (x : Op). Kept x goals (height - 1) work2 work3) (walk .same) (after .kept)) i lt
-          ∙ read .merged i (subst (λ (b : Bool). i < keptBelow b height) (sym (walk .within)) (inside-keeps op inPick height i lt))
-          ∙ enter .kept i (under-goals inPick height goals i few-frames lt)
-          ∙ walk .merged i lt
-
-      -- the parts after the first
-      parts-left : (u : List ℕ) → (0 < k - 1 → linesIn u ≡ restIn goals inside t)
-          → ReadsParts goals inside (k - 1) u × (partsIn goals inside k t ≡ Then (partIn goals inside t) (partsIn goals inside (k - 1) u))
-      parts-left u after-t =
-          elim (decLt 0 (k - 1)) [
-            | yes h ↦ (others-read goals inside k t (walk .parts) pos u (after-t h), first-then goals inside k t (walk .parts) pos u (after-t h))
-            | no h ↦ (none-read goals inside k t (walk .parts) pos (omega arith) u, none-then goals inside k t (walk .parts) pos (omega arith) u)
-          ]
-
-      pub walk-stops : (x : Outcome) → r ≡ End x → Comes goals root height (keptBelow inPick height) whole first work3 cache2 x
-      unfolding stepOf
-      walk-stops x e =
-          let ps = others-of goals inside k t (walk .parts) pos in
-          record {
-            is = sym (ap (stepOf ev goals height ps root work3 cache2) e) ∙ goes-on ps (first-and goals inside k t (walk .parts) pos);
-            few = after .ended x e;
-            merged = merged-on;
-          }
-
-      pub walk-next : (x : Group) → r ≡ More x → (u : List ℕ) → (0 < k - 1 → linesIn u ≡ restIn goals inside t) → length u ≤ length t
-          → Walk ev goals root height inPick inside op whole room first work3 cache2 x u (k - 1)
-      unfolding stepOf
-      walk-next x e u after-t lt =
-          let s = walk .shorter in
-          let left = parts-left u after-t in
-          let ps = partsIn goals inside (k - 1) u in
-          record {
-            alone = walk .alone;
-            within = walk .within;
-            same = after .kind x e ∙ walk .same;
-            few = after .count x e;
-            parts = left .0;
-            shorter = omega arith;
-            value = sym (ap (stepOf ev goals height ps root work3 cache2) e) ∙ goes-on ps (left .1);
-            merged = merged-on;
-          }
-
--- ---- before the first part
-module _ (ev : Evaluator) (goals root height n : ℕ) (inPick : Bool) (p : List ℕ) (op : Op) (work cache : List ℕ) (work1 : List ℕ) (g : Group)
-    (few : n ≤ 2 * goals) (begun : Begun goals height n op work work1 g) (inside : Bool) (within : inside ≡ insideOf op inPick)
-    (k : ℕ) (t : List ℕ)
-    (group : (op ≡ Pick → inPick ≡ false) × ((partIn goals inPick p ≡ Node (opOf op) (partsIn goals (insideOf op inPick) k t)) × ReadsParts goals (insideOf op inPick) k t)) where
-  pub walk-starts : length t < length p
-      → Walk ev goals root height inPick inside (g .op) (rest ev goals g (partsIn goals inside k t) (mergedOf goals (height - 1) work1) (graphOf goals root height (g .entries) (graphIn goals work1) cache)) (length p) work1 work1 cache g t k
-  walk-starts shorter =
+  pub undecided-comes : (code : Code) → code ≡ codeOf (lineIn p .code) → OneOf (0 ∷ 4 ∷ 5 ∷ []) (tagOf the-type code)
+      → Comes (h .goals) root height (keptBelow inPick height) (partFrom book p inPick h root height n work cache)
+      work work cache
+      (Done answers.Undecided n)
+  unfolding outcomeOf
+  undecided-comes code e k =
       record {
-        alone = λ e. group .0 (sym (begun .kind) ∙ e);
-        within = within ∙ ap (λ (x : Op). insideOf x inPick) (sym (begun .kind));
-        same = refl;
-        few = rw (begun .count) few;
-        parts = subst (λ (b : Bool). ReadsParts goals b k t) (sym within) (group .1 .1);
-        shorter = shorter;
-        value = refl;
+        is = ap (λ (x : Part). evalPart (evaluator book h height) (h .goals) x
+            (graphHeld (h .goals) root height n work cache))
+            (sym (undecided (h .goals) inPick p reads code e k));
+        few = run .entries;
         merged = λ i lt. refl;
       }
 
-  -- what the parts make is what the group makes
-  pub walk-whole : (new cache1 : List ℕ) (r : Outcome)
-      → Comes goals root height (keptBelow inPick height) (rest ev goals g (partsIn goals inside k t) (mergedOf goals (height - 1) work1) (graphOf goals root height (g .entries) (graphIn goals work1) cache)) work1 new cache1 r
-      → Comes goals root height (keptBelow inPick height) (evalPart ev goals (partIn goals inPick p) (graphOf goals root height n (graphIn goals work) cache)) work new cache1 r
-  walk-whole new cache1 r c =
-      record {
-        is = c .is
-            ∙ (λ i. rest ev goals g (partsIn goals (within i) k t) (mergedOf goals (height - 1) work1) (graphOf goals root height (begun .count i) (graphIn goals work1) cache))
-            ∙ begun .whole ev (partsIn goals (insideOf op inPick) k t) root cache
-            ∙ ap (λ (x : Part). evalPart ev goals x (graphOf goals root height n (graphIn goals work) cache)) (sym (group .1 .0));
-        few = c .few;
-        merged = λ i lt. c .merged i lt ∙ kept-by op inPick goals height work work1 (group .0) (begun .kept) i lt;
-      }
-
--- ---- an outcome by other names
-pub comes-as : {goals root height low : ℕ} {whole : graph.Outcome} {old new new1 cache cache1 : List ℕ} {r r1 : Outcome}
-    → new1 ≡ new → cache1 ≡ cache → r1 ≡ r → Comes goals root height low whole old new cache r → Comes goals root height low whole old new1 cache1 r1
+-- an outcome by other names
+pub comes-as : {goals root height low : ℕ} {whole : graph.Outcome} {old new new1 cache cache1 : List ℕ}
+    {r r1 : Outcome}
+    → new1 ≡ new → cache1 ≡ cache → r1 ≡ r → Comes goals root height low whole old new cache r
+    → Comes goals root height low whole old new1 cache1 r1
 comes-as {goals} {root} {height} ew ec er c =
     record {
       is = (λ i. outcomeOf goals root height (graphIn goals (ew i)) (ec i) (er i)) ∙ c .is;
@@ -255,18 +113,275 @@ comes-as {goals} {root} {height} ew ec er c =
       merged = λ i lt. ap (mergedOf goals i) ew ∙ c .merged i lt;
     }
 
--- ---- a call, or an undecided line
-below-height : (inPick : Bool) (height i : ℕ) → i < keptBelow inPick height → i < height
-below-height true height i lt = lt
-below-height false height i lt = omega arith
+-- ---- the parts below a first line: k are left at t, and after the first of them the others at u
+pub record LeftAt (goals : ℕ) (inside : Bool) (k : ℕ) (t u : List ℕ) : Type 0 where
+  pub parts : ReadsParts goals inside (k - 1) u
+  pub first : partsIn goals inside k t ≡ Then (partIn goals inside t) (partsIn goals inside (k - 1) u)
+  pub shorter : length u ≤ length t
 
-pub call-comes : (goals root height : ℕ) (inPick : Bool) (made whole : graph.Outcome) (work new cache : List ℕ) (r : Outcome)
-    → whole ≡ made → Comes goals root height height made work new cache r → Comes goals root height (keptBelow inPick height) whole work new cache r
-call-comes goals root height inPick made whole work new cache r e c =
-    record { is = c .is ∙ sym e; few = c .few; merged = λ i lt. c .merged i (below-height inPick height i lt) }
+module _ (goals : ℕ) (inside : Bool) (k : ℕ) (t : List ℕ) (parts : ReadsParts goals inside k t) (pos : 0 < k) where
+  pub passed : (u : List ℕ) → PassedOver goals inside t u → LeftAt goals inside k t u
+  passed u over =
+      let s = over .shorter in
+      record {
+        parts = others-read goals inside k t parts pos u (over .lines);
+        first = first-then goals inside k t parts pos u (over .lines);
+        shorter = omega arith;
+      }
 
-pub undecided-comes : (goals root height n low : ℕ) (whole : graph.Outcome) (work cache : List ℕ)
-    → whole ≡ graph.Done (graphOf goals root height n (graphIn goals work) cache) answers.Undecided → n ≤ 2 * goals
-    → Comes goals root height low whole work work cache (Done answers.Undecided n)
-unfolding outcomeOf
-undecided-comes goals root height n low whole work cache e few = record { is = sym e; few = few; merged = λ i lt. refl }
+  -- none is left, and t stays
+  pub none-left : k - 1 ≤ 0 → LeftAt goals inside k t t
+  none-left z =
+      record {
+        parts = none-read goals inside k t parts pos z t;
+        first = none-then goals inside k t parts pos z t;
+        shorter = omega arith;
+      }
+
+pub part-shorter : (n : ℕ) (bs : List ℕ) → 0 < n → n ≤ length bs
+    → length (take (length bs - n) (drop n bs)) < length bs
+part-shorter n bs pos h = let e : length (take (length bs - n) (drop n bs)) ≡ length bs - n = ap length
+    (part-from n bs) ∙ length-drop n bs in omega arith
+
+-- ---- a turn of the loop over a group's parts: those that are left make the whole. `first` is the workspace before the loop
+pub record GroupWalk (book : List ℕ) (h : Header) (root height : ℕ) (inPick : Bool) (whole : graph.Outcome) (room : ℕ)
+    (first work cache : List ℕ) (group : Group) (t : List ℕ) (k : ℕ) : Type 0 where
+  pub few : group .entries ≤ 2 * h .goals
+  pub parts : ReadsParts (h .goals) inPick k t
+  pub shorter : length t < room
+  pub value : groups.rest (evaluator book h height) (h .goals) group (partsIn (h .goals) inPick k t)
+      (graphHeld (h .goals) root height (group .entries) work cache)
+      ≡ whole
+  pub merged : (i : ℕ) → i < keptBelow inPick height → mergedOf (h .goals) i work ≡ mergedOf (h .goals) i first
+
+-- before the first part, with the bytes after the first line as the code takes them
+pub group-starts : {book starts cache work : List ℕ} {h : Header} {root height n : ℕ}
+    (run : Running book starts cache work h root height n)
+    (inPick : Bool) (p : List ℕ) (reads : Reads (h .goals) inPick p) (op : Op)
+    → codeOf (lineIn p .code) ≡ codes.Group op
+    → {group : Group} → GroupStarted op n group → (k : ℕ) → k ≡ lineIn p .first
+    → GroupWalk book h root height inPick (partFrom book p inPick h root height n work cache) (length p) work work
+    cache group
+    (take (length p - 16) (drop 16 p)) k
+group-starts {book} {starts} {cache} {work} {h} {root} {height} run inPick p reads op c started k count =
+    let t = take (length p - 16) (drop 16 p) in
+    let below : (partIn (h .goals) inPick p ≡ Node (opOf op) (partsIn (h .goals) inPick k t))
+    × ReadsParts (h .goals) inPick k t =
+    rw (count, part-from) (is-group (h .goals) inPick p (lineIn p) refl reads op c) in
+    record {
+      few = rw (started .count) (run .entries);
+      parts = below .1;
+      shorter = part-shorter 16 p (omega arith) (a-line (h .goals) inPick p (lineIn p) refl reads);
+      value = started .whole (evaluator book h height) (h .goals) (partsIn (h .goals) inPick k t) _
+          ∙ (λ i. evalPart (evaluator book h height) (h .goals) (sym (below .0) i)
+          (graphHeld (h .goals) root height (started .count i) work cache));
+      merged = λ i lt. refl;
+    }
+
+module _ {book : List ℕ} {h : Header} {root height : ℕ} {inPick : Bool} {whole : graph.Outcome} {room : ℕ}
+    {first work cache : List ℕ}
+    {group : Group} {t : List ℕ} {k : ℕ}
+    (walk : GroupWalk book h root height inPick whole room first work cache group t k) where
+  -- after the last part
+  pub group-ends : k ≤ 0 → {r : Outcome} → GroupClosed group r
+      → Comes (h .goals) root height (keptBelow inPick height) whole first work cache r
+  group-ends z closed =
+      record {
+        is = closed .whole (evaluator book h height) (h .goals) root height (graphIn (h .goals) work) cache
+            ∙ ap (λ (ps : Parts).
+            groups.rest (evaluator book h height) (h .goals) group ps
+            (graphHeld (h .goals) root height (group .entries) work cache))
+            (sym (no-parts (h .goals) inPick k t (walk .parts) z))
+            ∙ walk .value;
+        few = closed .few (h .goals) (walk .few);
+        merged = walk .merged;
+      }
+
+  -- after a part
+  module _ {work1 cache1 : List ℕ} {o : Outcome}
+      (read : Comes (h .goals) root height (keptBelow inPick height)
+      (partFrom book t inPick h root height (group .entries) work cache) work work1 cache1 o)
+      {r : Weighed} (weigh : GroupWeighed o group r) where
+    group-goes-on : (ps : Parts) → partsIn (h .goals) inPick k t ≡ Then (partIn (h .goals) inPick t) ps
+        → groups.leftOf (evaluator book h height) (h .goals) root height ps (graphIn (h .goals) work1) cache1
+        r ≡ whole
+    group-goes-on ps e =
+        weigh .whole (evaluator book h height) (h .goals) root height ps (graphIn (h .goals) work1) cache1
+        ∙ ap (λ (x : graph.Outcome). andThen x (groups.next (evaluator book h height) (h .goals) group ps)) (read .is)
+        ∙ sym (rest-then (evaluator book h height) (h .goals) group (partIn (h .goals) inPick t) ps _)
+        ∙ ap (λ (qs : Parts).
+        groups.rest (evaluator book h height) (h .goals) group qs
+        (graphHeld (h .goals) root height (group .entries) work cache))
+        (sym e)
+        ∙ walk .value
+
+    group-merged : (i : ℕ) → i < keptBelow inPick height → mergedOf (h .goals) i work1 ≡ mergedOf (h .goals) i first
+    group-merged i lt = read .merged i lt ∙ walk .merged i lt
+
+    pub group-stops : 0 < k → (x : Outcome) → r ≡ weighed.Ended x
+        → Comes (h .goals) root height (keptBelow inPick height) whole first work1 cache1 x
+    unfolding groups.leftOf
+    group-stops pos x e =
+        let ps = others-of (h .goals) inPick k t (walk .parts) pos in
+        record {
+          is = sym (ap (groups.leftOf (evaluator book h height) (h .goals) root height ps (graphIn (h .goals) work1)
+              cache1) e)
+              ∙ group-goes-on ps (first-and (h .goals) inPick k t (walk .parts) pos);
+          few = subst (groups.FewLeft (h .goals)) e (weigh .few (h .goals) (read .few));
+          merged = group-merged;
+        }
+
+    pub group-next : (x : Group) → r ≡ weighed.More x → {u : List ℕ} → LeftAt (h .goals) inPick k t u
+        → GroupWalk book h root height inPick whole room first work1 cache1 x u (k - 1)
+    unfolding groups.leftOf
+    group-next x e {u} left =
+        let ps = partsIn (h .goals) inPick (k - 1) u in
+        let s = walk .shorter in
+        let s1 = left .shorter in
+        record {
+          few = subst (groups.FewLeft (h .goals)) e (weigh .few (h .goals) (read .few));
+          parts = left .parts;
+          shorter = omega arith;
+          value = sym (ap (groups.leftOf (evaluator book h height) (h .goals) root height ps
+              (graphIn (h .goals) work1) cache1) e)
+              ∙ group-goes-on ps (left .first);
+          merged = group-merged;
+        }
+
+-- ---- likewise of the loop over a pick's candidates, which stand inside a pick: the merged usages of the top frame are part of the pick
+abbrev pub pickFrom : List ℕ → Header → ℕ → ℕ → List ℕ → List ℕ → Pick → List ℕ → ℕ → graph.Outcome
+pickFrom book h root height work cache pick t k =
+    picks.rest (evaluator book h height) (h .goals) pick (partsIn (h .goals) true k t)
+    (mergedOf (h .goals) (height - 1) work)
+    (graphHeld (h .goals) root height (pick .entries) work cache)
+
+pub record PickWalk (book : List ℕ) (h : Header) (root height : ℕ) (whole : graph.Outcome) (room : ℕ)
+    (first work cache : List ℕ) (pick : Pick) (t : List ℕ) (k : ℕ) : Type 0 where
+  pub few : pick .entries ≤ 2 * h .goals
+  pub parts : ReadsParts (h .goals) true k t
+  pub shorter : length t < room
+  pub value : pickFrom book h root height work cache pick t k ≡ whole
+  pub merged : (i : ℕ) → i < height - 1 → mergedOf (h .goals) i work ≡ mergedOf (h .goals) i first
+
+-- before the first candidate
+module _ {book starts cache work : List ℕ} {h : Header} {root height n : ℕ}
+    (run : Running book starts cache work h root height n)
+    (inPick : Bool) (p : List ℕ) (reads : Reads (h .goals) inPick p) (c : codeOf (lineIn p .code) ≡ codes.Pick)
+    {work1 : List ℕ} {pick : Pick} (begun : PickBegun (h .goals) height n work work1 pick) (k : ℕ)
+    (count : k ≡ lineIn p .first) where
+  candidates : (partIn (h .goals) inPick p ≡ Node part.Pick
+      (partsIn (h .goals) true k (take (length p - 16) (drop 16 p))))
+      × ReadsParts (h .goals) true k (take (length p - 16) (drop 16 p))
+  candidates = rw (count, part-from) (is-pick (h .goals) inPick p (lineIn p) refl reads c .1)
+
+  pub pick-starts : PickWalk book h root height
+      (pickFrom book h root height work1 cache pick (take (length p - 16) (drop 16 p)) k) (length p)
+      work1 work1 cache pick (take (length p - 16) (drop 16 p)) k
+  pick-starts =
+      record {
+        few = rw (begun .count) (run .entries);
+        parts = candidates .1;
+        shorter = part-shorter 16 p (omega arith) (a-line (h .goals) inPick p (lineIn p) refl reads);
+        value = refl;
+        merged = λ i lt. refl;
+      }
+
+  -- what the candidates make is what the part makes
+  pub pick-whole : {new cache1 : List ℕ} {r : Outcome}
+      → Comes (h .goals) root height (height - 1)
+      (pickFrom book h root height work1 cache pick (take (length p - 16) (drop 16 p)) k) work1 new cache1 r
+      → Comes (h .goals) root height (keptBelow inPick height) (partFrom book p inPick h root height n work cache)
+      work new cache1 r
+  pick-whole came =
+      record {
+        is = came .is
+            ∙ begun .whole (evaluator book h height) (partsIn (h .goals) true k (take (length p - 16) (drop 16 p)))
+            root (pick .entries) cache
+            ∙ (λ i. evalPart (evaluator book h height) (h .goals) (sym (candidates .0) i)
+            (graphHeld (h .goals) root height (begun .count i) work cache));
+        few = came .few;
+        merged = λ i lt. let low = alone i lt in came .merged i low ∙ begun .kept i low;
+      }
+    where
+      -- no pick stands in a pick
+      alone : (i : ℕ) → i < keptBelow inPick height → i < height - 1
+      alone i lt = subst (λ (b : Bool). i < keptBelow b height)
+          (is-pick (h .goals) inPick p (lineIn p) refl reads c .0) lt
+
+module _ {book : List ℕ} {h : Header} {root height : ℕ} {whole : graph.Outcome} {room : ℕ} {first work cache : List ℕ}
+    {pick : Pick} {t : List ℕ} {k : ℕ} (some-frame : 1 ≤ height) (few-frames : height ≤ h .goals)
+    (walk : PickWalk book h root height whole room first work cache pick t k) where
+  -- after the last candidate
+  pub pick-ends : k ≤ 0 → {work1 : List ℕ} {r : Outcome} → PickEnded (h .goals) height pick work work1 r
+      → Comes (h .goals) root height (height - 1) whole first work1 cache r
+  pick-ends z ended =
+      record {
+        is = ended .whole root cache
+            ∙ ap (λ (ps : Parts).
+            picks.rest (evaluator book h height) (h .goals) pick ps (mergedOf (h .goals) (height - 1) work)
+            (graphHeld (h .goals) root height (pick .entries) work cache))
+            (sym (no-parts (h .goals) true k t (walk .parts) z))
+            ∙ walk .value;
+        few = ended .few;
+        merged = λ i lt. ended .kept i (omega arith) ∙ walk .merged i lt;
+      }
+
+  -- after a candidate
+  module _ {work1 : List ℕ} (enter : CandidateEntered (h .goals) height work work1) {work2 cache2 : List ℕ}
+      {o : Outcome}
+      (read : Comes (h .goals) root height height (partFrom book t true h root height (pick .entries) work1 cache)
+      work1 work2 cache2 o)
+      {work3 : List ℕ} {r : Tried} (finished : CandidateFinished (h .goals) height o pick work2 work3 r) where
+    own-kept : mergedOf (h .goals) (height - 1) work2 ≡ mergedOf (h .goals) (height - 1) work
+    own-kept = read .merged (height - 1) (omega arith) ∙ enter .kept (height - 1) (omega arith)
+
+    entered : evalPart (evaluator book h height) (h .goals) (partIn (h .goals) true t)
+        (graphHeld (h .goals) root height (pick .entries) work1 cache)
+        ≡ evalPart (evaluator book h height) (h .goals) (partIn (h .goals) true t)
+        (enterSingleCandidate (h .goals) (graphHeld (h .goals) root height (pick .entries) work cache))
+    entered = ap (evalPart (evaluator book h height) (h .goals) (partIn (h .goals) true t))
+        (enter .whole root (pick .entries) cache)
+
+    pick-goes-on : (ps : Parts) → partsIn (h .goals) true k t ≡ Then (partIn (h .goals) true t) ps
+        → picks.leftOf (evaluator book h height) (h .goals) root height ps work3 cache2 r ≡ whole
+    pick-goes-on ps e =
+        finished .whole (evaluator book h height) ps root cache2
+        ∙ (λ i. andThen ((read .is ∙ entered) i)
+        (picks.next (evaluator book h height) (h .goals) pick ps (own-kept i)))
+        ∙ ap (λ (qs : Parts).
+        picks.rest (evaluator book h height) (h .goals) pick qs (mergedOf (h .goals) (height - 1) work)
+        (graphHeld (h .goals) root height (pick .entries) work cache))
+        (sym e)
+        ∙ walk .value
+
+    pick-merged : (i : ℕ) → i < height - 1 → mergedOf (h .goals) i work3 ≡ mergedOf (h .goals) i first
+    pick-merged i lt = finished .kept i lt ∙ read .merged i (omega arith) ∙ enter .kept i (omega arith)
+        ∙ walk .merged i lt
+
+    pub pick-stops : 0 < k → (x : Outcome) → r ≡ tried.Ended x
+        → Comes (h .goals) root height (height - 1) whole first work3 cache2 x
+    unfolding picks.leftOf
+    pick-stops pos x e =
+        let ps = others-of (h .goals) true k t (walk .parts) pos in
+        record {
+          is = sym (ap (picks.leftOf (evaluator book h height) (h .goals) root height ps work3 cache2) e)
+              ∙ pick-goes-on ps (first-and (h .goals) true k t (walk .parts) pos);
+          few = subst (picks.FewLeft (h .goals)) e (finished .few);
+          merged = pick-merged;
+        }
+
+    pub pick-next : (x : Pick) → r ≡ tried.More x → {u : List ℕ} → LeftAt (h .goals) true k t u
+        → PickWalk book h root height whole room first work3 cache2 x u (k - 1)
+    unfolding picks.leftOf
+    pick-next x e {u} left =
+        let ps = partsIn (h .goals) true (k - 1) u in
+        let s = walk .shorter in
+        let s1 = left .shorter in
+        record {
+          few = subst (picks.FewLeft (h .goals)) e (finished .few);
+          parts = left .parts;
+          shorter = omega arith;
+          value = sym (ap (picks.leftOf (evaluator book h height) (h .goals) root height ps work3 cache2) e)
+              ∙ pick-goes-on ps (left .first);
+          merged = pick-merged;
+        }

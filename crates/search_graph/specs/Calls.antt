@@ -47,21 +47,25 @@ abbrev pub computed : List ℕ → List ℕ → Bool → Header → ℕ → Grap
 computed book p inPick h height = evalPart (evaluator book h height) (h .goals) (partIn (h .goals) inPick p)
 
 abbrev pub partFrom : List ℕ → List ℕ → Bool → Header → ℕ → ℕ → ℕ → List ℕ → List ℕ → graph.Outcome
-partFrom book p inPick h root height n work cache = computed book p inPick h height (graphHeld (h .goals) root height n work cache)
+partFrom book p inPick h root height n work cache = computed book p inPick h height
+    (graphHeld (h .goals) root height n work cache)
 
 -- its evaluate_goal_in_task of the goal whose part that is, with `left` iterations after the first
 abbrev pub taskFrom : List ℕ → List ℕ → Header → ℕ → ℕ → ℕ → ℕ → List ℕ → List ℕ → task.TaskOutcome
 taskFrom book p h root height n left work cache =
-    task.evaluateGoalInTask (computed book p false h height) left false (graphHeld (h .goals) root height n work cache)
+    task.evaluateGoalInTask (computed book p false h height) left false
+    (graphHeld (h .goals) root height n work cache)
 
 -- an outcome is the definition's, and the merged usages below an index are as they were
-pub record Comes (goals root height low : ℕ) (whole : graph.Outcome) (old new cache : List ℕ) (r : Outcome) : Type 0 where
-  pub is : outcomeOf goals root height (graphIn goals new) cache r ≡ whole
-  pub few : FewEntries goals r
-  pub merged : (i : ℕ) → i < low → mergedOf goals i new ≡ mergedOf goals i old
+pub record Comes (goals root height low : ℕ) (whole : graph.Outcome) (old new cache : List ℕ) (r : Outcome) : Type 0
+  where
+    pub is : outcomeOf goals root height (graphIn goals new) cache r ≡ whole
+    pub few : FewEntries goals r
+    pub merged : (i : ℕ) → i < low → mergedOf goals i new ≡ mergedOf goals i old
 
 -- likewise of a task, whose frame was popped
-pub record TaskComes (goals root height : ℕ) (whole : task.TaskOutcome) (old new cache : List ℕ) (r : TaskOutcome) : Type 0 where
+pub record TaskComes (goals root height : ℕ) (whole : task.TaskOutcome) (old new cache : List ℕ) (r : TaskOutcome) :
+    Type 0 where
   pub is : taskOutcomeOf goals root height (graphIn goals new) cache r ≡ whole
   pub few : FewTaskEntries goals r
   pub merged : (i : ℕ) → i < height → mergedOf goals i new ≡ mergedOf goals i old

@@ -2,7 +2,6 @@
 // the first part of the workspace, and how a line is read.
 use definition::format::Header;
 use definition::paths::PathKind;
-use delegate::Op;
 use evaluation::Outcome;
 use evaluation::TaskOutcome;
 use layout::offsets;
@@ -12,32 +11,7 @@ ghost use mathlib.Core.Path.{_≡_};
 ghost use Prim.Native.Nat.{_≤_, _<_, pred};
 ghost use Rattle.evaluation.specs.Workspace.{WorkBytes};
 ghost use Rattle.evaluation.specs.Outcomes.{FewEntries};
-ghost use Rattle.search_graph.specs.Shapes.{shapeOf};
 ghost use Rattle.search_graph.specs.Between.{Looking, LookedUp, Pushed, IterationEnded, Finishing, Finished};
-
-// What a part is.
-pub enum Shape {
-    Call,
-    // all or any
-    Group(Op),
-    Pick,
-    Undecided,
-}
-
-// By the code of its first line; a goal's line starts no part, nor does an unknown code.
-pub fn shape_of(code: u16) -> Shape
-    ensures { λ r. ⌜ r ≡ shapeOf code ⌝ }
-{
-    match code {
-        1 => Shape::Undecided,
-        2 => Shape::Call,
-        3 => Shape::Group(Op::All),
-        4 => Shape::Group(Op::Any),
-        5 => Shape::Pick,
-        6 => Shape::Undecided,
-        0 | 7..=65535 => Shape::Undecided,
-    }
-}
 
 // One iteration less; 0 iterations act as 1.
 pub fn one_less(limit: usize) -> usize

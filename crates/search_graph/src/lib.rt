@@ -2,15 +2,17 @@
 // that call each other in a cycle. What stands between their calls is in other functions.
 pub mod between;
 
-use between::Shape;
+use book::code::Code;
 use book::part;
 use book::part::Call;
 use definition::answers::Answer;
 use definition::format::Header;
 use definition::paths::PathKind;
 use definition::replies::Refusal;
-use delegate::Op;
-use delegate::Step;
+use delegate::group;
+use delegate::group::Weighed;
+use delegate::pick;
+use delegate::pick::Tried;
 use evaluation::Outcome;
 use evaluation::TaskOutcome;
 use lookup::Found;
@@ -127,10 +129,8 @@ fn read_part(
         (now (work .entry)) (now (work .exit)) (now (cache .exit)) r ⌝ }
 {
     let code = part::code(p);
-    let shape = between::shape_of(code);
-    match shape {
-        Shape::Undecided => Outcome::Done(Answer::Undecided, entries),
-        Shape::Call => {
+    match code {
+        Code::Call => {
             let call = Call::first(p);
             let step = call.step;
             evaluate(
@@ -147,14 +147,14 @@ fn read_part(
                 call.lower,
             )
         }
-        Shape::Group(op) => {
-            let mut group = delegate::start(op, entries);
+        Code::Group(op) => {
+            let mut group = group::start(op, entries);
             let mut t = &p[16..];
             let mut k = part::count(p);
             while 0 < k {
                 let below = part::code(t);
                 // a call, the commonest, is evaluated at once
-                let o = if below == 2 {
+                let o = if let Code::Call = below {
                     let call = Call::first(t);
                     let step = call.step;
                     evaluate(
@@ -184,28 +184,29 @@ fn read_part(
                         in_pick,
                     )
                 };
-                let next = delegate::weigh(o, group);
+                let next = group::weigh(o, group);
                 match next {
-                    Step::End(outcome) => {
+                    Weighed::Ended(outcome) => {
                         return outcome;
                     }
-                    Step::More(g) => {
+                    Weighed::More(g) => {
                         group = g;
                     }
                 }
                 k = k - 1;
-                let u = part::next(t, k);
-                t = u;
+                if 0 < k {
+                    let u = part::next(t);
+                    t = u;
+                }
             }
-            delegate::close(group)
+            group::close(group)
         }
-        Shape::Pick => {
-            let op = Op::Pick;
-            let mut group = delegate::begin(op, work, h.goals, height, entries);
+        Code::Pick => {
+            let mut pick = pick::begin(work, h.goals, height, entries);
             let mut t = &p[16..];
             let mut k = part::count(p);
             while 0 < k {
-                delegate::before(group, work, h.goals, height);
+                pick::enter_candidate(work, h.goals, height);
                 let o = read_part(
                     book,
                     starts,
@@ -215,23 +216,26 @@ fn read_part(
                     h,
                     root,
                     height,
-                    group.entries,
+                    pick.entries,
                     true,
                 );
-                let next = delegate::after(o, group, work, h.goals, height);
+                let next = pick::finish_candidate(o, pick, work, h.goals, height);
                 match next {
-                    Step::End(outcome) => {
+                    Tried::Ended(outcome) => {
                         return outcome;
                     }
-                    Step::More(g) => {
-                        group = g;
+                    Tried::More(next_pick) => {
+                        pick = next_pick;
                     }
                 }
                 k = k - 1;
-                let u = part::next(t, k);
-                t = u;
+                if 0 < k {
+                    let u = part::next(t);
+                    t = u;
+                }
             }
-            delegate::end(group, work, h.goals, height)
+            pick::end(pick, work, h.goals, height)
         }
+        _ => Outcome::Done(Answer::Undecided, entries),
     }
 }
