@@ -118,7 +118,9 @@ impl HeadUsages {
         }
     }
 
-    // The usages of a nested goal: whether it used the head counts, not how often.
+    // The usages of a nested goal, at most 1 of each kind: whether it used the head counts,
+    // not how often. Counters are there so that the usages of a candidate can be ignored
+    // again, and a goal that is evaluated in it adds as much to the frame as to the candidate.
     pub fn add_usages_from_nested(self, nested: HeadUsages) -> HeadUsages
         ensures { λ r. ⌜ r ≡ addUsagesFromNested self nested ⌝ }
     {
@@ -160,7 +162,9 @@ impl HeadUsages {
         )
     }
 
-    // Whether every usage is of one kind.
+    // Whether every usage is of one kind; none at all is single too. A head without usages
+    // left, because those of its candidates were ignored, is at its fixpoint where its result
+    // is the initial one: nothing read another.
     pub fn is_single(self, kind: PathKind) -> bool
         ensures { λ r. ⌜ r ≡ isSingle self kind ⌝ }
     {
