@@ -4,9 +4,9 @@ use mathlib.Core.List.{List, [], _∷_}
 use mathlib.Core.Path.{_≡_, ap, refl}
 use Prim.Native.Nat.{ℕ}
 use native.Mathlib.Omega.{arith}
-use lib.ListN.{length, replicate}
+use lib.ListN.{getD, replicate}
 use Rattle.definition.specs.Answers.{answerNumber}
-use Rattle.definition.specs.Graph.{Done, EvaluationResult, Stopped}
+use Rattle.definition.specs.Graph.{Done, EvaluationResult, Graph, Stopped}
 use Rattle.definition.specs.Part.{All, Any, Book, Call, End, Node, Part, Parts, Pick, Then, UndecidedLine}
 use Rattle.definition.specs.Usages.{counterLimit}
 use Rattle.definition.specs.declared.answers.Answer.the-variants.{Yes}
@@ -150,8 +150,12 @@ full-without-events r = r .full refl
 conflict-without-events : Run (header 1 0 1) [] (Stopped CacheConflict) → ⊥
 conflict-without-events r = r .conflict refl
 
-leaves-another : Run (header 1 0 1) (event [] (Answers 0) ∷ []) (Done (event (0 ∷ []) (Answers 0) .state) Yes) → ⊥
-leaves-another r = omega (arith, ap (λ g. length (g .globalCache)) (r .leaves (event (0 ∷ []) (Answers 0) .state) Yes refl))
+-- the state that was met last has another cache than the one that is left
+abbrev left : Graph
+left = event (1 ∷ replicate 7 0) (Answers 0) .state
+
+leaves-another : Run (header 1 0 1) (event (replicate 8 0) (Answers 0) ∷ []) (Done left Yes) → ⊥
+leaves-another r = omega (arith, ap (λ g. getD (g .globalCache) 0 0) (r .leaves left Yes refl))
 
 out-of-order : Run (header 1 0 1) (event [] (Answers 0) ∷ []) (Done (event [] (Answers 0) .state) Yes) → ⊥
 out-of-order r = omega (arith, r .inOrder .0 .0 .cache .size)
