@@ -1,14 +1,14 @@
 -- Records of one size, one after the other: once, over the size, the base and what reads a record.
 use mathlib.Core.Path.{_≡_, refl, sym, ap, ap₂, _∙_}
 use mathlib.Core.List.{List, [], _∷_, _++_}
-use Prim.Native.Nat.{ℕ, zero, suc, _+_, _*_, _-_, _≤_, _<_}
-use native.Mathlib.Nat.{zero-add, suc-add, add-zero, suc-mul, mul-le-mul-right}
+use Prim.Native.Nat.{ℕ, zero, suc, _+_, _*_, _≤_, _<_}
+use native.Mathlib.Nat.{add-zero, suc-mul, mul-le-mul-right}
 use native.Mathlib.Omega.{arith}
-use native.Mathlib.Decide.{decLt, ℕ-discrete}
-use lib.ListN.{length, getD, set, drop}
+use native.Mathlib.Decide.{decLt}
+use lib.ListN.{length, getD, set}
 use Rattle.buffer.specs.Regions.{region, overwrite}
 use Rattle.buffer.specs.Tables.{listUp, listDown, recordAt, table, tableDown}
-use Rattle.buffer.proofs.Regions.{region-same, region-before, region-after, region-inside}
+use Rattle.buffer.proofs.Regions.{region-same, region-before, region-after}
 
 -- ---- lists of f's values
 module _ {A : Type 0} where
@@ -52,28 +52,6 @@ module _ {A : Type 0} where
   down-same f g zero h = refl
   down-same f g (suc n) h = ap₂ (λ (x : A) (l : List A). x ∷ l) (h n (omega arith)) (down-same f g n (λ i lt. h i (omega arith)))
 
-  -- f i stands n - 1 - i places from the front
-  pub down-at : (d : A) (f : ℕ → A) (n i : ℕ) → i < n → getD (listDown f n) (n - suc i) d ≡ f i
-  down-at d f zero i h = absurd (omega arith)
-  down-at d f (suc n) i h =
-      elim (ℕ-discrete i n) [
-        | yes e ↦ let z : suc n - suc i ≡ 0 = omega arith in rw z (ap f (sym e))
-        | no ne ↦ let z : suc n - suc i ≡ suc (n - suc i) = omega arith in rw z (down-at d f n i (omega arith))
-      ]
-
-  pub down-set : (f g : ℕ → A) (n i : ℕ) → i < n → ((j : ℕ) → j < n → (j ≡ i → ⊥) → g j ≡ f j) → listDown g n ≡ set (listDown f n) (n - suc i) (g i)
-  down-set f g zero i lt h = absurd (omega arith)
-  down-set f g (suc n) i lt h =
-      elim (ℕ-discrete i n) [
-        | yes e ↦ let z : suc n - suc i ≡ 0 = omega arith in rw z (ap₂ (λ (x : A) (l : List A). x ∷ l) (ap g (sym e)) (down-same g f n (λ j l. h j (omega arith) (λ q. omega arith))))
-        | no ne ↦ let z : suc n - suc i ≡ suc (n - suc i) = omega arith in rw z (ap₂ (λ (x : A) (l : List A). x ∷ l) (h n (omega arith) (λ q. ne (sym q))) (down-set f g n i (omega arith) (λ j l. h j (omega arith))))
-      ]
-
-  -- without the k in front
-  pub down-drop : (f : ℕ → A) (k n : ℕ) → drop k (listDown f (k + n)) ≡ listDown f n
-  down-drop f zero n = rw zero-add
-  down-drop f (suc k) n = rw suc-add (down-drop f k n)
-
 -- ---- records in bytes
 -- a record below another ends where that starts, or before
 pub apart : (j i size : ℕ) → j < i → j * size + size ≤ i * size
@@ -110,10 +88,6 @@ module _ {A : Type 0} (dec : List ℕ → A) (size base : ℕ) where
     abbrev written : List ℕ
     written = overwrite bs (base + i * size + k) ys
 
-    -- that record
-    pub record-inside : recordAt dec size base written i ≡ dec (overwrite (region (base + i * size) size bs) k ys)
-    record-inside = ap dec (region-inside bs (base + i * size) size k ys inner room)
-
     -- another
     pub record-other : (j : ℕ) → (j ≡ i → ⊥) → recordAt dec size base written j ≡ recordAt dec size base bs j
     record-other j ne =
@@ -121,17 +95,6 @@ module _ {A : Type 0} (dec : List ℕ → A) (size base : ℕ) where
           | yes lo ↦ record-before bs (base + i * size + k) ys (omega arith) j (omega (arith, apart j i size lo))
           | no hi ↦ record-after bs (base + i * size + k) ys (omega arith) j (omega (arith, apart i j size (omega arith)))
         ]
-
-    -- all
-    pub table-inside : (n : ℕ) → i < n → table dec size base n written ≡ set (table dec size base n bs) i (dec (overwrite (region (base + i * size) size bs) k ys))
-    table-inside n lt =
-        up-set (recordAt dec size base bs) (recordAt dec size base written) n i lt (λ j l ne. record-other j ne)
-        ∙ ap (set (table dec size base n bs) i) record-inside
-
-    pub tableDown-inside : (n : ℕ) → i < n → tableDown dec size base n written ≡ set (tableDown dec size base n bs) (n - suc i) (dec (overwrite (region (base + i * size) size bs) k ys))
-    tableDown-inside n lt =
-        down-set (recordAt dec size base bs) (recordAt dec size base written) n i lt (λ j l ne. record-other j ne)
-        ∙ ap (set (tableDown dec size base n bs) (n - suc i)) record-inside
 
   -- a write of a whole record
   module _ (bs : List ℕ) (i : ℕ) (ys : List ℕ) (whole : length ys ≡ size) (room : base + i * size + size ≤ length bs) where

@@ -1,9 +1,9 @@
 -- The length and the form of the global cache's bytes.
-use Prim.Native.Nat.{ℕ, zero, suc, _+_, _*_}
-use mathlib.Core.Bool.{Bool, true, false, _&&_, _||_}
+use Prim.Native.Nat.{ℕ, zero, suc, _*_}
+use mathlib.Core.Bool.{Bool, true, _&&_, _||_}
 use mathlib.Core.List.{List, [], _∷_}
 use lib.Dec.{eqb, leb}
-use lib.ListN.{getD, drop}
+use lib.ListN.{getD}
 use Rattle.definition.specs.declared.format.Header.{Header}
 use Rattle.definition.specs.GlobalCache.{slotSize, slotsPerGoal, slotAt, slotDepth, slotNested}
 

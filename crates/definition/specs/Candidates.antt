@@ -1,6 +1,6 @@
 -- `enter_single_candidate`, `finish_single_candidate` and `ignore_candidate_head_usages` of mod.rs, on the top frame.
 use Prim.Native.Nat.{ℕ, zero, suc}
-use mathlib.Core.Bool.{Bool, true, false, _&&_}
+use mathlib.Core.Bool.{Bool, true, _&&_}
 use mathlib.Core.Option.{Option, none, some}
 use mathlib.Core.List.{List, [], _∷_}
 use lib.ListN.{length, getD, replicate}

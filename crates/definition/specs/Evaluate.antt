@@ -1,7 +1,7 @@
 -- `evaluate_goal` of mod.rs, and the delegate's `compute_goal`.
 use Prim.Native.Nat.{ℕ, zero, suc, _-_, _*_, pred}
 use mathlib.Core.Bool.{Bool, true, false, not, _&&_, _||_}
-use mathlib.Core.Option.{Option, none, some}
+use mathlib.Core.Option.{none, some}
 use mathlib.Core.List.{List, [], _∷_, _++_}
 use lib.Dec.{leb}
 use lib.ListN.{length}
@@ -16,7 +16,7 @@ use Rattle.definition.specs.Answers.{combine, sameAnswer}
 use Rattle.definition.specs.Heads.{noHeads, headsEmpty, highestIndex}
 use Rattle.definition.specs.Nested.{noNestedGoals}
 use Rattle.definition.specs.Stack.{Frame, cyclePathKind}
-use Rattle.definition.specs.Part.{Op, All, Any, Pick, Part, Parts, Call, Node, UndecidedLine, End, Then, Book, partAt}
+use Rattle.definition.specs.Part.{All, Any, Pick, Part, Parts, Call, Node, UndecidedLine, End, Then, Book, partAt}
 use Rattle.definition.specs.Graph.{Graph, Entry, withStack, withProvisionalCache, withGlobalCache, Outcome, Done, Stopped, andThen, unlessFound, EvaluationResult}
 use Rattle.definition.specs.Parent.{updateParentGoal, handleOverflow, Ordinary}
 use Rattle.definition.specs.GlobalCache.{cacheInsert}

@@ -1,9 +1,9 @@
 -- global_cache.rs, in bytes: for each goal T + 2 slots, the success slot and then an overflow slot for each required depth 0 to T.
 -- A slot: held 0 or 1, result, required depth, then the nested goals, a byte for each goal.
-use Prim.Native.Nat.{ℕ, zero, suc, _+_, _*_}
+use Prim.Native.Nat.{ℕ, _+_, _*_}
 use mathlib.Core.Bool.{Bool, true, false, not, _&&_}
 use mathlib.Core.Option.{Option, none, some}
-use mathlib.Core.List.{List, [], _∷_, _++_}
+use mathlib.Core.List.{List, _∷_, _++_}
 use lib.Dec.{eqb, leb}
 use lib.ListN.{getD, take, drop}
 use Rattle.definition.specs.declared.answers.Answer.{Answer}

@@ -1,5 +1,5 @@
 -- `CycleHeads` of mod.rs: at place i of the list, the head at stack index i. The list is as long as there are goals.
-use Prim.Native.Nat.{ℕ, zero, suc}
+use Prim.Native.Nat.{ℕ, suc}
 use mathlib.Core.Bool.{Bool, true, false}
 use mathlib.Core.Option.{Option, none, some}
 use mathlib.Core.List.{List, [], _∷_}

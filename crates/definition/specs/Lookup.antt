@@ -1,5 +1,5 @@
 -- What `evaluate_goal` tries before it pushes a frame: the allowed depth, the two caches, a cycle on the stack.
-use Prim.Native.Nat.{ℕ, zero, suc, _-_, _/_}
+use Prim.Native.Nat.{ℕ, _-_, _/_}
 use mathlib.Core.Bool.{Bool, true, false, not, _&&_, _||_}
 use mathlib.Core.Option.{Option, none, some}
 use mathlib.Core.List.{List, [], _∷_}
@@ -13,7 +13,7 @@ use Rattle.definition.specs.Usages.{noUsages, addUsage}
 use Rattle.definition.specs.Answers.{initialProvisionalResult}
 use Rattle.definition.specs.Heads.{CycleHeads, noHeads, optLowestIndex, highestIndex, insertHead}
 use Rattle.definition.specs.Nested.{NestedGoals, nestedEmpty, nestedContains}
-use Rattle.definition.specs.Stack.{Frame, Stack, cyclePathKind, OnStack, stackFind}
+use Rattle.definition.specs.Stack.{Stack, cyclePathKind, OnStack, stackFind}
 use Rattle.definition.specs.Graph.{Entry, Graph, withStack, Outcome, Done}
 use Rattle.definition.specs.Parent.{updateParentGoal, Ordinary, CycleOnStack, ProvisionalCacheHit}
 use Rattle.definition.specs.GlobalCache.{CacheData, cacheGet}

@@ -1,6 +1,6 @@
 -- `NestedGoals` of mod.rs: at place g of the list, the paths to goal g, 0 where it is absent. These are the last bytes of a slot.
 use Prim.Native.Nat.{ℕ}
-use mathlib.Core.Bool.{Bool, true, false, not, _&&_}
+use mathlib.Core.Bool.{Bool, true, not, _&&_}
 use mathlib.Core.List.{List, [], _∷_}
 use lib.Dec.{eqb}
 use lib.ListN.{getD, set, replicate}

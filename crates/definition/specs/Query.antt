@@ -12,7 +12,7 @@ use Rattle.definition.specs.declared.replies.Response.{Response}
 use Rattle.definition.specs.declared.replies.Response.the-variants.{Answered, Refused}
 use Rattle.definition.specs.Part.{Book}
 use Rattle.definition.specs.Graph.{Graph, Outcome, Done, Stopped}
-use Rattle.definition.specs.Reader.{BookRead, Accepted, Rejected, readBook}
+use Rattle.definition.specs.Reader.{Accepted, Rejected, readBook}
 use Rattle.definition.specs.CacheForm.{cacheLength, cacheFits}
 use Rattle.definition.specs.Evaluate.{evaluateGoal}
 

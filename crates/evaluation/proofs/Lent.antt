@@ -23,9 +23,6 @@ module _ (goals : ℕ) (work : List ℕ) (w : WorkBytes goals work) where
   unfolding graphIn
   graph-long = length-region 0 (graphLength goals) work (le-trans (at-least (sym (zero-add (graphLength goals)))) graph-room)
 
-  pub graph-bytes : GraphBytes goals (graphIn goals work)
-  graph-bytes = record { some = w .some; few = w .few; long = graph-long }
-
   -- a workspace stays one while it keeps its length
   pub same-bytes : (new : List ℕ) → length new ≡ length work → WorkBytes goals new
   same-bytes new e = record { some = w .some; few = w .few; long = e ∙ w .long }
