@@ -278,10 +278,6 @@ pub record Below (inner : Bool → List Line → Option TakenPart) (l : Line) (l
 below-as : (l : Line) {k : Code} → codeOf (l .code) ≡ k → partsBelow l ≡ countBelow k (l .first)
 below-as l e = ap (λ (c : Code). countBelow c (l .first)) e
 
-pub below-is : (l : Line) (code : Code) → code ≡ codeOf (l .code) → (k : Code) → code ≡ k
-    → countBelow k (l .first) ≡ partsBelow l
-below-is l code is k e = sym (below-as l (sym is ∙ e))
-
 module _ (inner : Bool → List Line → Option TakenPart) (l : Line) (ls : List Line) (t : TakenPart) where
   leaf-below : (p : Part) → partsBelow l ≡ 0 → record { part = p; rest = ls } ≡ t → Below inner l ls t
   leaf-below p z e =

@@ -50,12 +50,8 @@ fn below(part: &[u8]) -> usize
 {
     let first = code(part);
     match first {
-        Code::Goal => 0,
-        Code::Call => 0,
-        Code::Group(_) => count(part),
-        Code::Pick => count(part),
-        Code::Undecided => 0,
-        Code::Unknown => 0,
+        Code::Group(_) | Code::Pick => count(part),
+        _ => 0,
     }
 }
 

@@ -41,7 +41,7 @@ abbrev pub rank : ℕ → ℕ → ℕ → ℕ
 rank off left bytes = (off * 128 + left) * 2 ^ 64 + bytes
 
 pub lower : (a a1 b b1 t : ℕ) → a * 2 ^ 64 + b ≡ t → a1 < a → b1 < 2 ^ 64 → a1 * 2 ^ 64 + b1 < t
-lower a a1 b b1 t e h l = omega arith
+lower a a1 b b1 t e less l = omega arith
 
 pub fewer : (a b b1 t : ℕ) → a * 2 ^ 64 + b ≡ t → b1 < b → a * 2 ^ 64 + b1 < t
 fewer a b b1 t e l = omega arith

@@ -140,7 +140,7 @@ module _ (goals : ℕ) (inside : Bool) (k : ℕ) (t : List ℕ) (parts : ReadsPa
 
 pub part-shorter : (n : ℕ) (bs : List ℕ) → 0 < n → n ≤ length bs
     → length (take (length bs - n) (drop n bs)) < length bs
-part-shorter n bs pos h = let e : length (take (length bs - n) (drop n bs)) ≡ length bs - n = ap length
+part-shorter n bs pos fits = let e : length (take (length bs - n) (drop n bs)) ≡ length bs - n = ap length
     (part-from n bs) ∙ length-drop n bs in omega arith
 
 -- ---- a turn of the loop over a group's parts: those that are left make the whole. `first` is the workspace before the loop

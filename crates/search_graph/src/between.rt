@@ -1,5 +1,5 @@
-// What stands between the calls of the cycle: what needs the graph alone, which is
-// the first part of the workspace, and how a line is read.
+// What stands between the calls of the cycle. It needs the graph alone, which is the first
+// part of the workspace.
 use definition::format::Header;
 use definition::paths::PathKind;
 use evaluation::Outcome;
