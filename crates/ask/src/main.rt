@@ -52,8 +52,10 @@ fn open(book: &[u8]) -> Opened
 
 // Answers a question.
 fn reply(book: &[u8], cache: &mut [u8], work: &mut [u8], goal: u16, depth: u16) -> Turn
-    ensures { λ r. ⌜ turned r (now (cache .exit)) (now (work .exit)) ≡ replied goal depth (query (now (book .entry)) (now (cache .entry)) (now (work .entry)) goal depth) ⌝ }
-    ensures carried { λ _. ⌜ (Carried (now (book .entry)) (now (cache .entry)) → Carried (now (book .entry)) (now (cache .exit))) ⌝ }
+    ensures { λ r. ⌜ turned r (now (cache .exit)) (now (work .exit))
+        ≡ replied goal depth (query (now (book .entry)) (now (cache .entry)) (now (work .entry)) goal depth) ⌝ }
+    ensures carried { λ _. ⌜ (Carried (now (book .entry)) (now (cache .entry))
+        → Carried (now (book .entry)) (now (cache .exit))) ⌝ }
 {
     let r = query::query(book, cache, work, goal as usize, depth as usize);
     Turn {
@@ -64,8 +66,10 @@ fn reply(book: &[u8], cache: &mut [u8], work: &mut [u8], goal: u16, depth: u16) 
 
 // Answers a question line, or ends the program where it is ill-formed.
 fn answer_line(book: &[u8], cache: &mut [u8], work: &mut [u8], line: &[u8]) -> Turn
-    ensures { λ r. ⌜ turned r (now (cache .exit)) (now (work .exit)) ≡ turn (now (book .entry)) (now (cache .entry)) (now (work .entry)) (now (line .entry)) ⌝ }
-    ensures carried { λ _. ⌜ (Carried (now (book .entry)) (now (cache .entry)) → Carried (now (book .entry)) (now (cache .exit))) ⌝ }
+    ensures { λ r. ⌜ turned r (now (cache .exit)) (now (work .exit))
+        ≡ turn (now (book .entry)) (now (cache .entry)) (now (work .entry)) (now (line .entry)) ⌝ }
+    ensures carried { λ _. ⌜ (Carried (now (book .entry)) (now (cache .entry))
+        → Carried (now (book .entry)) (now (cache .exit))) ⌝ }
 {
     let read = question::read_question(line);
     let Question::Asked(goal, depth) = read else {

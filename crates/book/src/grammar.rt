@@ -84,7 +84,9 @@ fn opened_if(fits: bool, count: u16, in_pick: bool) -> Opened
 
 fn opened_by(s: &[u8], goals: usize, in_pick: bool) -> Opened
     requires { ⌜ 16 ≤ length (now s) ⌝ }
-    ensures { λ r. ⌜ ((inner : Bool → List Line → Option TakenPart) (ls : List Line) → afterOpened r inner ls ≡ afterPart (readByCode goals (lineIn (now (s .entry)) .code) «in_pick» inner (lineIn (now (s .entry))) ls)) ⌝ }
+    ensures { λ r. ⌜ ((inner : Bool → List Line → Option TakenPart) (ls : List Line)
+        → afterOpened r inner ls ≡ afterPart
+        (readByCode goals (lineIn (now (s .entry)) .code) «in_pick» inner (lineIn (now (s .entry))) ls)) ⌝ }
 {
     let number = line::field_at(s, 0);
     let code = Code::of_number(number);
@@ -103,7 +105,8 @@ fn opened_by(s: &[u8], goals: usize, in_pick: bool) -> Opened
 // How many bytes the part takes that s starts with, where it nests at most `nest` deep;
 // 0 where s starts with none.
 fn part_size(s: &[u8], goals: usize, nest: u8, in_pick: bool) -> usize
-    ensures { λ r. ⌜ (afterBytes r (now (s .entry)) ≡ afterPart (readPart goals nest «in_pick» (linesIn (now (s .entry))))) × (r ≤ length (now (s .entry))) ⌝ }
+    ensures { λ r. ⌜ (afterBytes r (now (s .entry))
+        ≡ afterPart (readPart goals nest «in_pick» (linesIn (now (s .entry))))) × (r ≤ length (now (s .entry))) ⌝ }
 {
     if nest == 0 {
         return 0;
@@ -158,7 +161,8 @@ fn is_goal_line(s: &[u8], goal: usize) -> bool
 // How many bytes a goal's line and its part take that s starts with; 0 where s starts
 // with none.
 pub fn goal_size(s: &[u8], goals: usize, goal: usize) -> usize
-    ensures { λ r. ⌜ (afterBytes r (now (s .entry)) ≡ afterPart (readGoal goals goal (linesIn (now (s .entry))))) × (r ≤ length (now (s .entry))) ⌝ }
+    ensures { λ r. ⌜ (afterBytes r (now (s .entry)) ≡ afterPart (readGoal goals goal (linesIn (now (s .entry)))))
+        × (r ≤ length (now (s .entry))) ⌝ }
 {
     if s.len() < 16 {
         return 0;

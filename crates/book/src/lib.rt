@@ -36,7 +36,9 @@ fn length_fits(n: usize) -> bool
 // `starts` takes the place of each goal's part.
 fn read_body(book: &[u8], starts: &mut [u16], goals: usize) -> bool
     requires { ⌜ (16 ≤ length (now book)) × ((length (now book) ≤ 16000) × (goals ≤ length (now starts))) ⌝ }
-    ensures { λ r. ⌜ (r ≡ wholeBody (readGoals goals 0 goals (linesIn (drop 16 (now (book .entry)))))) × StartedBy (readGoals goals 0 goals (linesIn (drop 16 (now (book .entry))))) goals (now (book .entry)) (now (starts .exit)) ⌝ }
+    ensures { λ r. ⌜ (r ≡ wholeBody (readGoals goals 0 goals (linesIn (drop 16 (now (book .entry))))))
+        × StartedBy (readGoals goals 0 goals (linesIn (drop 16 (now (book .entry))))) goals (now (book .entry))
+        (now (starts .exit)) ⌝ }
 {
     let mut at: usize = 16;
     let mut g: usize = 0;
@@ -55,7 +57,8 @@ fn read_body(book: &[u8], starts: &mut [u16], goals: usize) -> bool
 // The book's header, or refusal 1 to 4. `starts` takes the place of each goal's part.
 pub fn read(book: &[u8], starts: &mut [u16]) -> BookRead
     requires { ⌜ length (now starts) ≡ 64 ⌝ }
-    ensures { λ r. ⌜ (r ≡ headerRead (readBook (now (book .entry)))) × StartedIf (readBook (now (book .entry))) (now (book .entry)) (now (starts .exit)) ⌝ }
+    ensures { λ r. ⌜ (r ≡ headerRead (readBook (now (book .entry))))
+        × StartedIf (readBook (now (book .entry))) (now (book .entry)) (now (starts .exit)) ⌝ }
 {
     if !length_fits(book.len()) {
         return BookRead::Rejected(Refusal::BookLength);

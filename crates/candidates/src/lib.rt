@@ -24,7 +24,8 @@ ghost use Rattle.candidates.specs.Written.{mergedBytes, topBytes, stackI
 
 pub fn enter_single_candidate(graph: &mut [u8], goals: usize, own: usize)
     requires { ⌜ GraphBytes goals (now graph) × (own < goals) ⌝ }
-    ensures { λ _. ⌜ StackChanged goals (own + 1) (setCandidateUsages (some (noCandidateUsages goals))) (now (graph .entry)) (now (graph .exit)) ⌝ }
+    ensures { λ _. ⌜ StackChanged goals (own + 1) (setCandidateUsages (some (noCandidateUsages goals)))
+        (now (graph .entry)) (now (graph .exit)) ⌝ }
 {
     let start = offsets::frame_start(goals, own);
     let end = start + offsets::frame_size(goals);
@@ -87,7 +88,9 @@ fn add_at(work: &mut [u8], goals: usize, own: usize, i: usize, u: HeadUsages)
 // The usages of the candidate that is tracked are merged.
 pub fn merge(work: &mut [u8], goals: usize, own: usize)
     requires { ⌜ WorkBytes goals (now work) × (own < goals) ⌝ }
-    ensures { λ _. ⌜ MergedChanged goals own (λ us. mergeUsages us (candidateUsagesOf goals (stackIn goals own (now (work .entry))))) (now (work .entry)) (now (work .exit)) ⌝ }
+    ensures { λ _. ⌜ MergedChanged goals own
+        (λ us. mergeUsages us (candidateUsagesOf goals (stackIn goals own (now (work .entry))))) (now (work .entry))
+        (now (work .exit)) ⌝ }
 {
     let mut left = tracked::mask(top(work, goals, own), goals);
     while 0 < left {
@@ -103,7 +106,8 @@ pub fn merge(work: &mut [u8], goals: usize, own: usize)
 // Whether usages can be taken from the heads below the frame f.
 fn heads_cover(f: &[u8], b: &[u8], goals: usize, own: usize) -> bool
     requires { ⌜ FrameBytes goals (now f) × (UsagesBlock goals (now b) × (own ≤ goals)) ⌝ }
-    ensures { λ r. ⌜ r ≡ headsCover own ((frameOf goals (now (f .entry))) .heads) (candidateOf goals (now (b .entry))) ⌝ }
+    ensures { λ r. ⌜ r ≡ headsCover own ((frameOf goals (now (f .entry))) .heads)
+        (candidateOf goals (now (b .entry))) ⌝ }
 {
     let mut left = bits::below(candidate::mask(b, goals), own);
     while 0 < left {
@@ -154,7 +158,8 @@ fn ignore_own(work: &mut [u8], goals: usize, own: usize, u: HeadUsages)
 // The merged usages are taken from the heads.
 fn ignore_at_heads(work: &mut [u8], goals: usize, own: usize)
     requires { ⌜ WorkBytes goals (now work) × (own < goals) ⌝ }
-    ensures { λ _. ⌜ WorkTopChanged goals own (ignoreHeads (mergedOf goals own (now (work .entry)))) (now (work .entry)) (now (work .exit)) ⌝ }
+    ensures { λ _. ⌜ WorkTopChanged goals own (ignoreHeads (mergedOf goals own (now (work .entry))))
+        (now (work .entry)) (now (work .exit)) ⌝ }
 {
     let mut left = candidate::mask(merged(work, goals, own), goals);
     while 0 < left {
@@ -168,7 +173,9 @@ fn ignore_at_heads(work: &mut [u8], goals: usize, own: usize)
 // The merged usages are ignored.
 pub fn ignore(work: &mut [u8], goals: usize, own: usize)
     requires { ⌜ WorkBytes goals (now work) × (own < goals) ⌝ }
-    ensures { λ _. ⌜ WorkWritten goals (own + 1) (ignoreOnTop (mergedOf goals own (now (work .entry))) (stackIn goals own (now (work .entry)))) (now (work .entry)) (now (work .exit)) ⌝ }
+    ensures { λ _. ⌜ WorkWritten goals (own + 1)
+        (ignoreOnTop (mergedOf goals own (now (work .entry))) (stackIn goals own (now (work .entry))))
+        (now (work .entry)) (now (work .exit)) ⌝ }
 {
     ignore_at_heads(work, goals, own);
     let u = candidate::usages(merged(work, goals, own), goals, own);

@@ -137,7 +137,9 @@ impl PathsToNested {
 
     // The paths that `extend_with` makes, where the kind is in `kinds`, else none.
     fn extend_if(self, kinds: PathsToNested, kind: PathKind) -> PathsToNested
-        ensures { λ r. ⌜ ((ks : List PathKind) → bitOr (r .bits) (extendWithEach (self .bits) (containedIn (kinds .bits) ks)) ≡ extendWithEach (self .bits) (containedIn (kinds .bits) (kind ∷ ks))) ⌝ }
+        ensures { λ r. ⌜ ((ks : List PathKind) → bitOr (r .bits)
+            (extendWithEach (self .bits) (containedIn (kinds .bits) ks))
+            ≡ extendWithEach (self .bits) (containedIn (kinds .bits) (kind ∷ ks))) ⌝ }
     {
         if kinds.contains(kind) {
             return self.extend_with(kind);

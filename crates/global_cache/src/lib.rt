@@ -52,7 +52,8 @@ pub fn slot_at(cache: &[u8], goals: usize, top: usize, goal: usize, slot: usize)
 // The slot that a result belongs to.
 fn slot_for(overflow: bool, required: usize) -> usize
     requires { ⌜ required ≤ 63 ⌝ }
-    ensures { λ r. ⌜ (r ≤ required + 1) × ((nested : List ℕ) (result : Answer) → r ≡ slotFor (evaluated overflow required nested result)) ⌝ }
+    ensures { λ r. ⌜ (r ≤ required + 1) × ((nested : List ℕ) (result : Answer) → r
+        ≡ slotFor (evaluated overflow required nested result)) ⌝ }
 {
     if overflow {
         return required + 1;
@@ -71,8 +72,10 @@ pub fn insert(
     result: Answer,
     nested: &[u8],
 ) -> Insertion
-    requires { ⌜ CacheBytes goals top (now cache) × (goal < goals) × (required ≤ top) × (length (now nested) ≡ goals) ⌝ }
-    ensures { λ r. ⌜ cacheInsert (headerWith goals top) (now (cache .entry)) goal (evaluated overflow required (now (nested .entry)) result) ≡ inserted r (now (cache .exit)) ⌝ }
+    requires { ⌜ CacheBytes goals top (now cache) × (goal < goals) × (required ≤ top)
+        × (length (now nested) ≡ goals) ⌝ }
+    ensures { λ r. ⌜ cacheInsert (headerWith goals top) (now (cache .entry)) goal
+        (evaluated overflow required (now (nested .entry)) result) ≡ inserted r (now (cache .exit)) ⌝ }
     ensures unchanged { λ r. ⌜ (r ≡ Insertion.Conflict → now (cache .exit) ≡ now (cache .entry)) ⌝ }
 {
     let slot = slot_for(overflow, required);

@@ -31,7 +31,8 @@ fn add_head(graph: &mut [u8], goals: usize, own: usize, step: PathKind, i: usize
 // The heads of the nested goal, in the block at `start` of the graph, behind the frame.
 fn add_heads(graph: &mut [u8], goals: usize, own: usize, step: PathKind, start: usize)
     requires { ⌜ GraphBytes goals (now graph) × ((own < goals) × HeadsAbove goals own start (now graph)) ⌝ }
-    ensures { λ _. ⌜ TopChanged goals own (addHeads step own (headsIn goals start (now (graph .entry)))) (now (graph .entry)) (now (graph .exit)) ⌝ }
+    ensures { λ _. ⌜ TopChanged goals own (addHeads step own (headsIn goals start (now (graph .entry))))
+        (now (graph .entry)) (now (graph .exit)) ⌝ }
 {
     let end = start + offsets::heads_size(goals);
     let mut left = heads::mask(&graph[start..end], goals);
@@ -54,7 +55,8 @@ fn add_ordinary(
     reached: usize,
 )
     requires { ⌜ GraphBytes goals (now graph) × (own < goals) ⌝ }
-    ensures { λ _. ⌜ TopChanged goals own (addRest step overflow (Ordinary (now (nested .entry))) reached) (now (graph .entry)) (now (graph .exit)) ⌝ }
+    ensures { λ _. ⌜ TopChanged goals own (addRest step overflow (Ordinary (now (nested .entry))) reached)
+        (now (graph .entry)) (now (graph .exit)) ⌝ }
 {
     let start = offsets::frame_start(goals, own);
     let end = start + offsets::frame_size(goals);
@@ -78,7 +80,8 @@ fn add_entry(
     reached: usize,
 )
     requires { ⌜ GraphBytes goals (now graph) × (own < goals) ⌝ }
-    ensures { λ _. ⌜ TopChanged goals own (addRest step overflow ProvisionalCacheHit reached) (now (graph .entry)) (now (graph .exit)) ⌝ }
+    ensures { λ _. ⌜ TopChanged goals own (addRest step overflow ProvisionalCacheHit reached) (now (graph .entry))
+        (now (graph .exit)) ⌝ }
 {
     let start = offsets::frame_start(goals, own);
     let end = start + offsets::frame_size(goals);
@@ -95,7 +98,8 @@ fn add_cycle(
     reached: usize,
 )
     requires { ⌜ GraphBytes goals (now graph) × (own < goals) ⌝ }
-    ensures { λ _. ⌜ TopChanged goals own (addRest step false (CycleOnStack goal) reached) (now (graph .entry)) (now (graph .exit)) ⌝ }
+    ensures { λ _. ⌜ TopChanged goals own (addRest step false (CycleOnStack goal) reached) (now (graph .entry))
+        (now (graph .exit)) ⌝ }
 {
     let start = offsets::frame_start(goals, own);
     let end = start + offsets::frame_size(goals);
@@ -115,7 +119,8 @@ pub fn update_from_slot(
     reached: usize,
 )
     requires { ⌜ GraphBytes goals (now graph) × (height ≤ goals) ⌝ }
-    ensures { λ _. ⌜ Updated goals height step (noHeads goals) overflow (Ordinary (now (nested .entry))) reached (now (graph .entry)) (now (graph .exit)) ⌝ }
+    ensures { λ _. ⌜ Updated goals height step (noHeads goals) overflow (Ordinary (now (nested .entry))) reached
+        (now (graph .entry)) (now (graph .exit)) ⌝ }
 {
     if height == 0 {
         return;
@@ -134,7 +139,8 @@ pub fn update_from_entry(
     reached: usize,
 )
     requires { ⌜ GraphBytes goals (now graph) × ((height ≤ goals) × (i < 2 * goals)) ⌝ }
-    ensures { λ _. ⌜ Updated goals height step (entryHeads goals i (now (graph .entry))) overflow ProvisionalCacheHit reached (now (graph .entry)) (now (graph .exit)) ⌝ }
+    ensures { λ _. ⌜ Updated goals height step (entryHeads goals i (now (graph .entry))) overflow ProvisionalCacheHit
+        reached (now (graph .entry)) (now (graph .exit)) ⌝ }
 {
     if height == 0 {
         return;
@@ -156,7 +162,8 @@ pub fn update_from_cycle(
     reached: usize,
 )
     requires { ⌜ GraphBytes goals (now graph) × ((height ≤ goals) × (head < height)) ⌝ }
-    ensures { λ _. ⌜ Updated goals height step (insertHead (noHeads goals) head (flagOf step) usages) false (CycleOnStack goal) reached (now (graph .entry)) (now (graph .exit)) ⌝ }
+    ensures { λ _. ⌜ Updated goals height step (insertHead (noHeads goals) head (flagOf step) usages) false
+        (CycleOnStack goal) reached (now (graph .entry)) (now (graph .exit)) ⌝ }
 {
     if height == 0 {
         return;
@@ -181,7 +188,8 @@ pub fn update_from_frame(
     reached: usize,
 )
     requires { ⌜ GraphBytes goals (now graph) × (height < goals) ⌝ }
-    ensures { λ _. ⌜ Updated goals height step ((frameAt goals height (now (graph .entry))) .heads) overflow (Ordinary (now (child .entry))) reached (now (graph .entry)) (now (graph .exit)) ⌝ }
+    ensures { λ _. ⌜ Updated goals height step ((frameAt goals height (now (graph .entry))) .heads) overflow
+        (Ordinary (now (child .entry))) reached (now (graph .entry)) (now (graph .exit)) ⌝ }
 {
     if height == 0 {
         return;

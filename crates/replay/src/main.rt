@@ -40,7 +40,8 @@ fn as_recorded(
     work: &[u8],
     before: &[u8],
 ) -> bool
-    ensures { λ r. ⌜ (r ≡ true → AsRecorded code recorded (now (cache .entry)) (now (after .entry)) (now (work .entry)) (now (before .entry))) ⌝ }
+    ensures { λ r. ⌜ (r ≡ true → AsRecorded code recorded (now (cache .entry)) (now (after .entry))
+        (now (work .entry)) (now (before .entry))) ⌝ }
 {
     if code != recorded {
         return false;

@@ -23,59 +23,71 @@ use Rattle.task.specs.Iterations.{TurnTaken}
 use Rattle.task.specs.Results as results
 use Rattle.search_graph.specs.Between.{LookedUp, Pushed, IterationEnded, Finished}
 
-module _ (h : Header) (work : List ℕ) (n : ℕ) (w : WorkBytes (h .goals) work) (is : n ≡ graphLength (h .goals)) (ys : List ℕ) (kept : length ys ≡ length (part work 0 n)) where
-  pub looked-up : (root height m goal : ℕ) (step : PathKind) (lower : Bool) (cache : List ℕ) (r : Found)
-      → Answered h root height m goal step lower cache (part work 0 n) ys r
-      → LookedUp h root height m goal step lower work (returned work 0 n ys) cache r
-  looked-up root height m goal step lower cache r answered =
-      record {
-        is = λ compute.
-            ap (λ (bs : List ℕ). evaluateGoalWith h compute (graphOf (h .goals) root height m bs cache) goal step lower) (sym (lent-graph (h .goals) work w n is))
-            ∙ answered .is compute
-            ∙ ap (λ (bs : List ℕ). found h compute goal step r (graphOf (h .goals) root height m bs cache)) (sym (graph-back (h .goals) work w n is ys kept));
-        low = answered .low;
-        merged = merged-back (h .goals) work w n is ys kept;
-      }
+module _
+    (h : Header) (work : List ℕ) (n : ℕ) (w : WorkBytes (h .goals) work) (is : n ≡ graphLength (h .goals))
+    (ys : List ℕ) (kept : length ys ≡ length (part work 0 n))
+  where
+    pub looked-up : (root height m goal : ℕ) (step : PathKind) (lower : Bool) (cache : List ℕ) (r : Found)
+        → Answered h root height m goal step lower cache (part work 0 n) ys r
+        → LookedUp h root height m goal step lower work (returned work 0 n ys) cache r
+    looked-up root height m goal step lower cache r answered =
+        record {
+          is = λ compute.
+              ap (λ (bs : List ℕ). evaluateGoalWith h compute (graphOf (h .goals) root height m bs cache) goal step lower)
+              (sym (lent-graph (h .goals) work w n is))
+              ∙ answered .is compute
+              ∙ ap (λ (bs : List ℕ). found h compute goal step r (graphOf (h .goals) root height m bs cache))
+              (sym (graph-back (h .goals) work w n is ys kept));
+          low = answered .low;
+          merged = merged-back (h .goals) work w n is ys kept;
+        }
 
-  pub finished : (height goal : ℕ) (step : PathKind) (available : ℕ) (o : TaskOutcome) (cache cacheAfter : List ℕ) (r : Outcome)
-      → results.Finished h height goal step available o cache cacheAfter (part work 0 n) ys r
-      → Finished h height goal step available o work (returned work 0 n ys) cache cacheAfter r
-  finished height goal step available o cache cacheAfter r made =
-      record {
-        is = λ root.
-            ap (λ (bs : List ℕ). outcomeOf (h .goals) root height bs cacheAfter r) (graph-back (h .goals) work w n is ys kept)
-            ∙ made .is root
-            ∙ ap (λ (bs : List ℕ). afterTask h goal step available (taskOutcomeOf (h .goals) root height bs cache o)) (lent-graph (h .goals) work w n is);
-        few = made .few;
-        merged = merged-back (h .goals) work w n is ys kept;
-      }
+    pub finished : (height goal : ℕ) (step : PathKind) (available : ℕ) (o : TaskOutcome) (cache cacheAfter : List ℕ) (r : Outcome)
+        → results.Finished h height goal step available o cache cacheAfter (part work 0 n) ys r
+        → Finished h height goal step available o work (returned work 0 n ys) cache cacheAfter r
+    finished height goal step available o cache cacheAfter r made =
+        record {
+          is = λ root.
+              ap (λ (bs : List ℕ). outcomeOf (h .goals) root height bs cacheAfter r) (graph-back (h .goals) work w n is ys kept)
+              ∙ made .is root
+              ∙ ap (λ (bs : List ℕ). afterTask h goal step available (taskOutcomeOf (h .goals) root height bs cache o))
+              (lent-graph (h .goals) work w n is);
+          few = made .few;
+          merged = merged-back (h .goals) work w n is ys kept;
+        }
 
-module _ (goals : ℕ) (work : List ℕ) (n : ℕ) (w : WorkBytes goals work) (is : n ≡ graphLength goals) (ys : List ℕ) (kept : length ys ≡ length (part work 0 n)) where
-  pub pushed : (height goal : ℕ) (step : PathKind) (available : ℕ)
-      → stackOf goals (height + 1) ys ≡ newFrame goals goal step available ∷ stackOf goals height (part work 0 n)
-      → ((m : ℕ) → entriesOf goals m ys ≡ entriesOf goals m (part work 0 n))
-      → Pushed goals height goal step available work (returned work 0 n ys)
-  pushed height goal step available es ee =
-      let b = graph-back goals work w n is ys kept in
-      let l = lent-graph goals work w n is in
-      record {
-        is = λ root m cache.
-            let s : stackOf goals (height + 1) (graphIn goals (returned work 0 n ys)) ≡ newFrame goals goal step available ∷ stackOf goals height (graphIn goals work) =
-            ap (stackOf goals (height + 1)) b ∙ es ∙ ap (λ (bs : List ℕ). newFrame goals goal step available ∷ stackOf goals height bs) l in
-            let t : entriesOf goals m (graphIn goals (returned work 0 n ys)) ≡ entriesOf goals m (graphIn goals work) = ap (entriesOf goals m) b ∙ ee m ∙ ap (entriesOf goals m) l in
-            λ j. record { rootDepth = root; stack = s j; provisionalCache = t j; globalCache = cache };
-        merged = merged-back goals work w n is ys kept;
-      }
+module _
+    (goals : ℕ) (work : List ℕ) (n : ℕ) (w : WorkBytes goals work) (is : n ≡ graphLength goals)
+    (ys : List ℕ) (kept : length ys ≡ length (part work 0 n))
+  where
+    pub pushed : (height goal : ℕ) (step : PathKind) (available : ℕ)
+        → stackOf goals (height + 1) ys ≡ newFrame goals goal step available ∷ stackOf goals height (part work 0 n)
+        → ((m : ℕ) → entriesOf goals m ys ≡ entriesOf goals m (part work 0 n))
+        → Pushed goals height goal step available work (returned work 0 n ys)
+    pushed height goal step available es ee =
+        let b = graph-back goals work w n is ys kept in
+        let l = lent-graph goals work w n is in
+        record {
+          is = λ root m cache.
+              let s : stackOf goals (height + 1) (graphIn goals (returned work 0 n ys))
+              ≡ newFrame goals goal step available ∷ stackOf goals height (graphIn goals work) =
+              ap (stackOf goals (height + 1)) b ∙ es
+              ∙ ap (λ (bs : List ℕ). newFrame goals goal step available ∷ stackOf goals height bs) l in
+              let t : entriesOf goals m (graphIn goals (returned work 0 n ys)) ≡ entriesOf goals m (graphIn goals work) =
+              ap (entriesOf goals m) b ∙ ee m ∙ ap (entriesOf goals m) l in
+              λ j. record { rootDepth = root; stack = s j; provisionalCache = t j; globalCache = cache };
+          merged = merged-back goals work w n is ys kept;
+        }
 
-  pub iteration-ended : (height left : ℕ) (overflow : Bool) (o : Outcome) (r : Iteration)
-      → TurnTaken goals height left overflow o (part work 0 n) ys r
-      → IterationEnded goals height left overflow o work (returned work 0 n ys) r
-  iteration-ended height left overflow o r taken =
-      record {
-        is = λ root cache next.
-            ap (λ (bs : List ℕ). turn left next overflow (outcomeOf goals root height bs cache o)) (sym (lent-graph goals work w n is))
-            ∙ taken .is root cache next
-            ∙ ap (λ (bs : List ℕ). turned goals root height next bs cache r) (sym (graph-back goals work w n is ys kept));
-        few = taken .few;
-        merged = merged-back goals work w n is ys kept;
-      }
+    pub iteration-ended : (height left : ℕ) (overflow : Bool) (o : Outcome) (r : Iteration)
+        → TurnTaken goals height left overflow o (part work 0 n) ys r
+        → IterationEnded goals height left overflow o work (returned work 0 n ys) r
+    iteration-ended height left overflow o r taken =
+        record {
+          is = λ root cache next.
+              ap (λ (bs : List ℕ). turn left next overflow (outcomeOf goals root height bs cache o)) (sym (lent-graph goals work w n is))
+              ∙ taken .is root cache next
+              ∙ ap (λ (bs : List ℕ). turned goals root height next bs cache r) (sym (graph-back goals work w n is ys kept));
+          few = taken .few;
+          merged = merged-back goals work w n is ys kept;
+        }

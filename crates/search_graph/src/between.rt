@@ -35,7 +35,8 @@ pub fn look_up(
     lower: bool,
 ) -> Found
     requires { ⌜ Looking h root height entries goal (now work) (now cache) ⌝ }
-    ensures { λ r. ⌜ LookedUp h root height entries goal step lower (now (work .entry)) (now (work .exit)) (now (cache .entry)) r ⌝ }
+    ensures { λ r. ⌜ LookedUp h root height entries goal step lower (now (work .entry)) (now (work .exit))
+        (now (cache .entry)) r ⌝ }
 {
     let n = offsets::graph_length(h.goals);
     lookup::lookup(
@@ -92,7 +93,8 @@ pub fn finish(
     available: usize,
 ) -> Outcome
     requires { ⌜ Finishing h height goal o (now work) (now cache) ⌝ }
-    ensures { λ r. ⌜ Finished h height goal step available o (now (work .entry)) (now (work .exit)) (now (cache .entry)) (now (cache .exit)) r ⌝ }
+    ensures { λ r. ⌜ Finished h height goal step available o (now (work .entry)) (now (work .exit))
+        (now (cache .entry)) (now (cache .exit)) r ⌝ }
 {
     let n = offsets::graph_length(h.goals);
     task::finish(o, cache, &mut work[0..n], h, height, goal, step, available)

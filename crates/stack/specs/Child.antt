@@ -48,7 +48,8 @@ addHeadAt step own i c f =
 
 -- overflow, and the depth reached
 abbrev pub reachFrame : Bool → ℕ → Frame → Frame
-reachFrame overflow reached f = withOverflow (withReached f (min (f .minReachedAvailableDepth) reached)) (f .encounteredOverflow || overflow)
+reachFrame overflow reached f =
+    withOverflow (withReached f (min (f .minReachedAvailableDepth) reached)) (f .encounteredOverflow || overflow)
 
 -- paths to a nested goal, to the frame's own goal, and to the nested goals of the child
 abbrev pub insertGoal : ℕ → ℕ → Frame → Frame

@@ -149,7 +149,8 @@ pub fn required_depth(frame: &[u8], goals: usize) -> usize
 // The depth that the frame allows a nested goal; `lower` is LowerAvailableDepth::Yes.
 pub fn nested_depth(frame: &[u8], goals: usize, divisor: usize, lower: bool) -> Depth
     requires { ⌜ FrameBytes goals (now frame) × (0 < divisor) ⌝ }
-    ensures { λ r. ⌜ ((root : ℕ) (fs : Stack) → NestedDepth root divisor (frameOf goals (now (frame .entry)) ∷ fs) lower r) ⌝ }
+    ensures { λ r. ⌜ ((root : ℕ) (fs : Stack) → NestedDepth root divisor (frameOf goals (now (frame .entry)) ∷ fs)
+        lower r) ⌝ }
 {
     let depth = available(frame, goals);
     if !lower {

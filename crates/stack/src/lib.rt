@@ -45,7 +45,8 @@ pub fn push(
     available: usize,
 )
     requires { ⌜ GraphBytes goals (now graph) × ((height < goals) × ((goal < 256) × (available < 256))) ⌝ }
-    ensures { λ _. ⌜ TopWritten goals height (newFrame goals goal step available) (now (graph .entry)) (now (graph .exit)) ⌝ }
+    ensures { λ _. ⌜ TopWritten goals height (newFrame goals goal step available) (now (graph .entry))
+        (now (graph .exit)) ⌝ }
 {
     let start = offsets::frame_start(goals, height);
     let end = start + offsets::frame_size(goals);

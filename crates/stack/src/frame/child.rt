@@ -140,7 +140,8 @@ fn insert_itself(frame: &mut [u8], goals: usize)
 // The nested goals, with those of a child.
 fn extend(frame: &mut [u8], goals: usize, step: PathKind, child: &[u8])
     requires { ⌜ FrameBytes goals (now frame) ⌝ }
-    ensures { λ _. ⌜ FrameChanged goals (extendNested step (now (child .entry))) (now (frame .entry)) (now (frame .exit)) ⌝ }
+    ensures { λ _. ⌜ FrameChanged goals (extendNested step (now (child .entry))) (now (frame .entry))
+        (now (frame .exit)) ⌝ }
 {
     let start = offsets::nested_start(goals);
     let end = start + goals;
@@ -158,7 +159,8 @@ pub fn add_ordinary(
     reached: usize,
 )
     requires { ⌜ FrameBytes goals (now frame) ⌝ }
-    ensures { λ _. ⌜ FrameChanged goals (addRest step overflow (Ordinary (now (child .entry))) reached) (now (frame .entry)) (now (frame .exit)) ⌝ }
+    ensures { λ _. ⌜ FrameChanged goals (addRest step overflow (Ordinary (now (child .entry))) reached)
+        (now (frame .entry)) (now (frame .exit)) ⌝ }
 {
     reach(frame, goals, overflow, reached);
     extend(frame, goals, step, child);
@@ -171,7 +173,8 @@ pub fn add_ordinary(
 // Beside the heads, after a goal that was found in the provisional cache.
 pub fn add_entry(frame: &mut [u8], goals: usize, step: PathKind, overflow: bool, reached: usize)
     requires { ⌜ FrameBytes goals (now frame) ⌝ }
-    ensures { λ _. ⌜ FrameChanged goals (addRest step overflow ProvisionalCacheHit reached) (now (frame .entry)) (now (frame .exit)) ⌝ }
+    ensures { λ _. ⌜ FrameChanged goals (addRest step overflow ProvisionalCacheHit reached) (now (frame .entry))
+        (now (frame .exit)) ⌝ }
 {
     reach(frame, goals, overflow, reached);
     insert_itself(frame, goals);
@@ -180,7 +183,8 @@ pub fn add_entry(frame: &mut [u8], goals: usize, step: PathKind, overflow: bool,
 // Beside the heads, after a goal that is on the stack.
 pub fn add_cycle(frame: &mut [u8], goals: usize, step: PathKind, goal: usize, reached: usize)
     requires { ⌜ FrameBytes goals (now frame) ⌝ }
-    ensures { λ _. ⌜ FrameChanged goals (addRest step false (CycleOnStack goal) reached) (now (frame .entry)) (now (frame .exit)) ⌝ }
+    ensures { λ _. ⌜ FrameChanged goals (addRest step false (CycleOnStack goal) reached) (now (frame .entry))
+        (now (frame .exit)) ⌝ }
 {
     reach(frame, goals, false, reached);
     let paths = PathsToNested::from_kind(step);

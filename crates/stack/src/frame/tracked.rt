@@ -25,7 +25,8 @@ ghost use Rattle.stack.specs.Tracked.{trackedOf, ignoreHeadAt, ignoreOwn
 // enter_single_candidate
 pub fn enter(frame: &mut [u8], goals: usize)
     requires { ⌜ FrameBytes goals (now frame) ⌝ }
-    ensures { λ _. ⌜ FrameChanged goals (λ f. withCandidateUsages f (some (noCandidateUsages goals))) (now (frame .entry)) (now (frame .exit)) ⌝ }
+    ensures { λ _. ⌜ FrameChanged goals (λ f. withCandidateUsages f (some (noCandidateUsages goals)))
+        (now (frame .entry)) (now (frame .exit)) ⌝ }
 {
     let start = offsets::candidate_start(goals);
     let end = offsets::nested_start(goals);
