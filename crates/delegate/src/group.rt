@@ -10,8 +10,8 @@ ghost use Rattle.delegate.specs.Groups.{GroupStarted, GroupWeighed, Grou
 // A group so far: the answers combined, and how many provisional entries there are.
 pub struct Group {
     pub op: Op,
-    pub combined: Answer,
     pub entries: usize,
+    pub combined: Answer,
 }
 
 // After a part: the group's outcome, or the group for its next part.
