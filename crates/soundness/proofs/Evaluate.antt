@@ -30,10 +30,10 @@ use Rattle.soundness.proofs.World.{CallOk, Calls, EveryPart, World}
 use Rattle.soundness.proofs.Counters.{Reads, nothing}
 use Rattle.soundness.proofs.Assumed.{A, A-mono, A-none, A-under, Base, baseOf, basesOf, length-bases}
 use Rattle.soundness.proofs.Inv.{After, BasesOk, EntryOk, Gain, State, distinct-goals, goals-here, readsOf}
-use Rattle.soundness.proofs.Steps.{after-map, every-map, gain-known}
+use Rattle.soundness.proofs.Changes.{after-map, every-map, gain-known}
 use Rattle.soundness.proofs.HeadLaws.{absent-noHeads, empty-heads, head-or-unused, not-empty}
 use Rattle.soundness.proofs.Update.{childReads, update-gains, update-inv, update-known}
-use Rattle.soundness.proofs.Candidates.{overflow-step}
+use Rattle.soundness.proofs.Candidates.{overflow-change}
 use Rattle.soundness.proofs.Parts.{Claims, EvalOk, RightAt, RightGoal, part-ok}
 use Rattle.soundness.proofs.Runs.{ComputesGoal, Finished, TaskAfter, task-ok}
 use Rattle.soundness.proofs.Lookups.{Found, cycle-or, depth-ok, find-at, global-found, provisional-found}
@@ -313,7 +313,7 @@ module _ (W : World) (xs : List Base) (bases : BasesOk W xs) (small : length xs 
         | some available ↦ evaluateAtDepth
             (W .book .header) compute g goal step available
       ])
-  from-depth g v goal l step lower call none e = (nothing, overflow-step W xs g v, W .ambiguous Overflow tt (A W xs nothing) goal)
+  from-depth g v goal l step lower call none e = (nothing, overflow-change W xs g v, W .ambiguous Overflow tt (A W xs nothing) goal)
   from-depth g v goal l step lower call (some available) e =
       at-depth W xs bases g v (omega (arith, length-bases (g .stack), ap length (v .here))) goal l step available
       (depth-ok (W .book .header) (g .rootDepth) (g .stack) (v .root) (v .frames) lower available e) call compute ok

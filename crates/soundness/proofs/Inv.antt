@@ -1,4 +1,4 @@
--- The invariant, and what a step of the engine promises.
+-- The invariant, and what a change of the state promises.
 use mathlib.Core.List.{List, [], _∷_}
 use mathlib.Core.Logic.{_≢_, inl, inr}
 use mathlib.Core.Option.{Option, none, some}
@@ -98,7 +98,7 @@ in-order W xs bases g v =
       cache = v .cache .order;
     }
 
--- ---- what a step promises
+-- ---- what a change promises
 abbrev pub trackedIn : Option (List HeadUsages) → Reads
 trackedIn none i k = 0
 trackedIn (some us) i k = counter (getD us i noUsages) k
@@ -119,11 +119,11 @@ pub data Gain : Stack → Stack → Reads → Type 0 where
   none-gains : {d : Reads} → Gain [] [] d
   top-gains : {f f′ : Frame} {fs : Stack} {d : Reads} → FrameGain (length fs) f f′ d → Gain (f ∷ fs) (f′ ∷ fs) d
 
-pub record Step (W : World) (xs : List Base) (g g′ : Graph) (d : Reads) : Type 0 where
+pub record Change (W : World) (xs : List Base) (g g′ : Graph) (d : Reads) : Type 0 where
   pub gain : Gain (g .stack) (g′ .stack) d
   pub inv : State W xs g′
 
--- an outcome after g: one of the two refusals, or a step whose reads and answer are P
+-- an outcome after g: one of the two refusals, or a change whose reads and answer are P
 abbrev pub After : World → List Base → Graph → (Reads → Answer → Type 0) → Outcome → Type 0
-After W xs g P (Done g′ a) = (d : Reads) × Step W xs g g′ d × P d a
+After W xs g P (Done g′ a) = (d : Reads) × Change W xs g g′ d × P d a
 After W xs g P (Stopped r) = Expected r

@@ -4,6 +4,7 @@ pub mod Books
 pub mod Candidates
 pub mod Certain
 pub mod Chain
+pub mod Changes
 pub mod Counters
 pub mod Demand3
 pub mod Evaluate
@@ -29,7 +30,6 @@ pub mod SampleStatement
 pub mod SampleTrace
 pub mod Settle
 pub mod Slots
-pub mod Steps
 pub mod Support
 pub mod Theorems
 pub mod Traces

@@ -28,7 +28,7 @@ use Rattle.soundness.proofs.World.{AllCalls, CallOk, Calls, World}
 use Rattle.soundness.proofs.Counters.{Reads}
 use Rattle.soundness.proofs.Assumed.{Base, baseOf, length-bases}
 use Rattle.soundness.proofs.Inv.{After, BasesOk, State, in-order}
-use Rattle.soundness.proofs.Candidates.{enter-step, finish-step}
+use Rattle.soundness.proofs.Candidates.{enter-change, finish-change}
 use Rattle.soundness.proofs.Parts.{Claims, EvalOk, RightAt, part-ok}
 use Rattle.soundness.proofs.Runs.{ComputesGoal, Ordered, TaskAfter, TracesGoal, task-meets}
 use Rattle.soundness.proofs.Lookups.{FindPost, depth-ok, find-at}
@@ -85,12 +85,12 @@ module _ (W : World) (xs : List Base) where
           → Ordered W (tracePick evaluate trace G ps g)
       pick-meets End c g v = tt
       pick-meets (Then p ps) c g v =
-          let w : State W xs (enterSingleCandidate G g) = enter-step W xs g v .inv in
+          let w : State W xs (enterSingleCandidate G g) = enter-change W xs g v .inv in
           joined (tracePart evaluate trace G p (enterSingleCandidate G g)) _
           (part-meets p (c .0) (enterSingleCandidate G g) w)
           (after-meets (RightAt W xs p) (enterSingleCandidate G g) (evalPart evaluate G p (enterSingleCandidate G g)) _
           (part-ok W xs evaluate ok p (c .0) (enterSingleCandidate G g) w) λ g1 a u.
-          pick-meets ps (c .1) (finishSingleCandidate g1) (finish-step W xs g1 u .inv))
+          pick-meets ps (c .1) (finishSingleCandidate g1) (finish-change W xs g1 u .inv))
 
     own-meets : (goal : ℕ) (g : Graph) → State W xs g → (o : Option Part) → partAt (W .book .parts) goal ≡ o
         → Ordered W (elim o [ none ↦ [] | some p ↦ tracePart evaluate trace G p g ])

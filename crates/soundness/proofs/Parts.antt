@@ -25,9 +25,9 @@ use Rattle.soundness.proofs.Certain.{no-holds-mono, noHolds, yes-holds-
 use Rattle.soundness.proofs.World.{AllCalls, CallOk, Calls, Right, RightOf, World}
 use Rattle.soundness.proofs.Counters.{Reads, counter, nothing, plus}
 use Rattle.soundness.proofs.Assumed.{A, A-mono, Base, Within}
-use Rattle.soundness.proofs.Inv.{After, State, Step}
-use Rattle.soundness.proofs.Steps.{after-from, after-map, after-then, step-nothing, step-trans}
-use Rattle.soundness.proofs.Candidates.{Untracked, can-be-ignored, enter-step, finish-step, finish-untracked, ignore-step, merged, no-candidate, tracked-since}
+use Rattle.soundness.proofs.Inv.{After, State, Change}
+use Rattle.soundness.proofs.Changes.{after-from, after-map, after-then, change-nothing, change-trans}
+use Rattle.soundness.proofs.Candidates.{Untracked, can-be-ignored, enter-change, finish-change, finish-untracked, ignore-change, merged, no-candidate, tracked-since}
 use Rattle.soundness.proofs.Answers.{both-no, both-yes, differ, neither, same→≡}
 
 -- an answer may be given of a goal, on what reads assume
@@ -184,7 +184,7 @@ module _ (W : World) (xs : List Base) where
     all-then p ps combined g o r ih =
         after-then W xs g (RightAt W xs p) (ForAll combined (Then p ps)) o _ r λ g1 a d s t. go g1 a d s t (sameAnswer a No) refl
       where
-        go : (g1 : Graph) (a : Answer) (d : Reads) → Step W xs g g1 d → RightAt W xs p d a → (t : Bool) → sameAnswer a No ≡ t
+        go : (g1 : Graph) (a : Answer) (d : Reads) → Change W xs g g1 d → RightAt W xs p d a → (t : Bool) → sameAnswer a No ≡ t
             → After W xs g (ForAll combined (Then p ps)) (elim t [ true ↦ Done g1 No | false ↦ evalAll evaluate G ps (combine combined a) g1 ])
         go g1 a d s t true e = (d, s, all-stop combined p ps d (t .whenNo (same→≡ a No (of-true (sameAnswer a No) e))))
         go g1 a d s t false e =
@@ -199,7 +199,7 @@ module _ (W : World) (xs : List Base) where
     any-then p ps combined g o r ih =
         after-then W xs g (RightAt W xs p) (ForAny combined (Then p ps)) o _ r λ g1 a d s t. go g1 a d s t (sameAnswer a Yes) refl
       where
-        go : (g1 : Graph) (a : Answer) (d : Reads) → Step W xs g g1 d → RightAt W xs p d a → (t : Bool) → sameAnswer a Yes ≡ t
+        go : (g1 : Graph) (a : Answer) (d : Reads) → Change W xs g g1 d → RightAt W xs p d a → (t : Bool) → sameAnswer a Yes ≡ t
             → After W xs g (ForAny combined (Then p ps)) (elim t [ true ↦ Done g1 Yes | false ↦ evalAny evaluate G ps (combine combined a) g1 ])
         go g1 a d s t true e = (d, s, any-stop combined p ps d (t .whenYes (same→≡ a Yes (of-true (sameAnswer a Yes) e))))
         go g1 a d s t false e =
@@ -215,15 +215,15 @@ module _ (W : World) (xs : List Base) where
     Fits O F D = (i : ℕ) (k : PathKind) → O i k + F i k ≤ D i k
 
     -- a candidate, entered at g and left after g1
-    candidate-step : (g₀ g g1 : Graph) (D d : Reads) → State W xs g → Step W xs g₀ g D → Step W xs (enterSingleCandidate G g) g1 d
-        → Step W xs g₀ (finishSingleCandidate g1) (plus (plus (plus D nothing) d) nothing)
-    candidate-step g₀ g g1 D d v s t =
-        step-trans W xs g₀ g1 _ (plus (plus D nothing) d) nothing
-        (step-trans W xs g₀ (enterSingleCandidate G g) g1 (plus D nothing) d
-        (step-trans W xs g₀ g (enterSingleCandidate G g) D nothing s (enter-step W xs g v)) t)
-        (finish-step W xs g1 (t .inv))
+    candidate-change : (g₀ g g1 : Graph) (D d : Reads) → State W xs g → Change W xs g₀ g D → Change W xs (enterSingleCandidate G g) g1 d
+        → Change W xs g₀ (finishSingleCandidate g1) (plus (plus (plus D nothing) d) nothing)
+    candidate-change g₀ g g1 D d v s t =
+        change-trans W xs g₀ g1 _ (plus (plus D nothing) d) nothing
+        (change-trans W xs g₀ (enterSingleCandidate G g) g1 (plus D nothing) d
+        (change-trans W xs g₀ g (enterSingleCandidate G g) D nothing s (enter-change W xs g v)) t)
+        (finish-change W xs g1 (t .inv))
 
-    finished-atMost : (g g1 : Graph) (d : Reads) → Step W xs (enterSingleCandidate G g) g1 d → AtMost (finishedUsages G g1) d
+    finished-atMost : (g g1 : Graph) (d : Reads) → Change W xs (enterSingleCandidate G g) g1 d → AtMost (finishedUsages G g1) d
     finished-atMost g g1 d t = tracked-since G (g .stack) (g1 .stack) d (t .gain)
 
     merged-atMost : (us vs : List HeadUsages) (O d : Reads) → AtMost us O → AtMost vs d → AtMost (mergeUsages us vs) (plus O d)
@@ -235,20 +235,20 @@ module _ (W : World) (xs : List Base) where
 
     abbrev MetOk : Parts → Type 0
     MetOk ps =
-        (combined : Answer) (others : List HeadUsages) (g₀ g : Graph) (D O F : Reads) → Step W xs g₀ g D → AtMost others O → Fits O F D
+        (combined : Answer) (others : List HeadUsages) (g₀ g : Graph) (D O F : Reads) → Change W xs g₀ g D → AtMost others O → Fits O F D
         → Untracked (g .stack)
         → After W xs g₀ (Met F) (evalPick evaluate G ps true combined others g)
 
     abbrev PickOk : Parts → Type 0
     PickOk ps =
-        (combined : Answer) (others : List HeadUsages) (g₀ g : Graph) (D O : Reads) → Step W xs g₀ g D → AtMost others O
+        (combined : Answer) (others : List HeadUsages) (g₀ g : Graph) (D O : Reads) → Change W xs g₀ g D → AtMost others O
         → ((i : ℕ) (k : PathKind) → O i k ≤ D i k)
         → After W xs g₀ (ForPick D combined ps) (evalPick evaluate G ps false combined others g)
 
     met-then : (p : Part) (ps : Parts) → ((g : Graph) → State W xs g → After W xs g (RightAt W xs p) (evalPart evaluate G p g)) → MetOk ps
         → MetOk (Then p ps)
     met-then p ps r ih combined others g₀ g D O F s a f u =
-        go (evalPart evaluate G p (enterSingleCandidate G g)) (r (enterSingleCandidate G g) (enter-step W xs g (s .inv) .inv))
+        go (evalPart evaluate G p (enterSingleCandidate G g)) (r (enterSingleCandidate G g) (enter-change W xs g (s .inv) .inv))
       where
         go : (o : Outcome) → After W xs (enterSingleCandidate G g) (RightAt W xs p) o
             → After W xs g₀ (Met F) (andThen o λ g1 a. evalPick evaluate G ps (true || sameAnswer a Yes) (combine combined a)
@@ -256,7 +256,7 @@ module _ (W : World) (xs : List Base) where
         go (Stopped r) t = t
         go (Done g1 b) (d, t, q) =
             ih (combine combined b) (mergeUsages others (finishedUsages G g1)) g₀ (finishSingleCandidate g1) _ (plus O d) F
-            (candidate-step g₀ g g1 D d (s .inv) s t)
+            (candidate-change g₀ g g1 D d (s .inv) s t)
             (merged-atMost others (finishedUsages G g1) O d a (finished-atMost g g1 d t))
             (λ i k. omega (arith, f i k))
             (finish-untracked (g1 .stack))
@@ -265,9 +265,9 @@ module _ (W : World) (xs : List Base) where
         → PickOk ps
         → PickOk (Then p ps)
     pick-then p ps r met ih combined others g₀ g D O s a f =
-        go (evalPart evaluate G p (enterSingleCandidate G g)) (r (enterSingleCandidate G g) (enter-step W xs g (s .inv) .inv))
+        go (evalPart evaluate G p (enterSingleCandidate G g)) (r (enterSingleCandidate G g) (enter-change W xs g (s .inv) .inv))
       where
-        next : (g1 : Graph) (b : Answer) (d : Reads) → Step W xs (enterSingleCandidate G g) g1 d → RightAt W xs p d b → (t : Bool)
+        next : (g1 : Graph) (b : Answer) (d : Reads) → Change W xs (enterSingleCandidate G g) g1 d → RightAt W xs p d b → (t : Bool)
             → sameAnswer b Yes ≡ t
             → After W xs g₀ (ForPick D combined (Then p ps)) (evalPick evaluate G ps (false || t) (combine combined b)
             (mergeUnless (not false && t) others (finishedUsages G g1)) (finishSingleCandidate g1))
@@ -275,7 +275,7 @@ module _ (W : World) (xs : List Base) where
             after-map W xs g₀ (Met d) (ForPick D combined (Then p ps))
             (λ d′ a′ m. rw (m .0, m .1) (pick-stop D combined p ps d (q .whenYes (same→≡ b Yes (of-true (sameAnswer b Yes) e)))))
             (evalPick evaluate G ps true (combine combined b) others (finishSingleCandidate g1))
-            (met (combine combined b) others g₀ (finishSingleCandidate g1) _ O d (candidate-step g₀ g g1 D d (s .inv) s t) a
+            (met (combine combined b) others g₀ (finishSingleCandidate g1) _ O d (candidate-change g₀ g g1 D d (s .inv) s t) a
             (λ i k. omega (arith, f i k)) (finish-untracked (g1 .stack)))
         next g1 b d t q false e =
             after-map W xs g₀ (ForPick (plus (plus (plus D nothing) d) nothing) (combine combined b) ps) (ForPick D combined (Then p ps))
@@ -283,7 +283,7 @@ module _ (W : World) (xs : List Base) where
             (λ i k l h. omega arith) m)
             (evalPick evaluate G ps false (combine combined b) (mergeUsages others (finishedUsages G g1)) (finishSingleCandidate g1))
             (ih (combine combined b) (mergeUsages others (finishedUsages G g1)) g₀ (finishSingleCandidate g1) _ (plus O d)
-            (candidate-step g₀ g g1 D d (s .inv) s t)
+            (candidate-change g₀ g g1 D d (s .inv) s t)
             (merged-atMost others (finishedUsages G g1) O d a (finished-atMost g g1 d t))
             (λ i k. omega (arith, f i k)))
 
@@ -294,11 +294,11 @@ module _ (W : World) (xs : List Base) where
         go (Stopped r) t = t
         go (Done g1 b) (d, t, q) = next g1 b d t q (sameAnswer b Yes) refl
 
-    met-end : (combined : Answer) (others : List HeadUsages) (g₀ g : Graph) (D O F : Reads) → Step W xs g₀ g D → AtMost others O → Fits O F D
+    met-end : (combined : Answer) (others : List HeadUsages) (g₀ g : Graph) (D O F : Reads) → Change W xs g₀ g D → AtMost others O → Fits O F D
         → Untracked (g .stack)
         → (t : Bool) → canIgnore others (g .stack) ≡ t
         → After W xs g₀ (Met F) (elim t [ true ↦ Done (ignoreCandidateHeadUsages g others) Yes | false ↦ Stopped Unreachable ])
-    met-end combined others g₀ g D O F s a f u true e = (F, ignore-step W xs g₀ g others D O F s a f u, (refl, refl))
+    met-end combined others g₀ g D O F s a f u true e = (F, ignore-change W xs g₀ g others D O F s a f u, (refl, refl))
     met-end combined others g₀ g D O F s a f u false e = absurd (rw e at (can-be-ignored others O F (s .gain) a f))
 
     mutual
@@ -314,19 +314,19 @@ module _ (W : World) (xs : List Base) where
       part-ok (Node Pick ps) c g v =
           after-map W xs g (ForPick nothing No ps) (RightAt W xs (Node Pick ps)) (right-pick nothing ps)
           (evalPick evaluate G ps false No (noCandidateUsages G) g)
-          (pick-ok ps c No (noCandidateUsages G) g g nothing nothing (step-nothing W xs g v) (λ i k. omega (arith, no-candidate G i k))
+          (pick-ok ps c No (noCandidateUsages G) g g nothing nothing (change-nothing W xs g v) (λ i k. omega (arith, no-candidate G i k))
           (λ i k. omega arith))
-      part-ok UndecidedLine c g v = (nothing, step-nothing W xs g v, right-undecided nothing)
+      part-ok UndecidedLine c g v = (nothing, change-nothing W xs g v, right-undecided nothing)
 
       all-ok : (ps : Parts) → AllCalls (CallOk (W .allowed) G) ps → (combined : Answer) (g : Graph) → State W xs g
           → After W xs g (ForAll combined ps) (evalAll evaluate G ps combined g)
-      all-ok End c combined g v = (nothing, step-nothing W xs g v, all-end combined nothing)
+      all-ok End c combined g v = (nothing, change-nothing W xs g v, all-end combined nothing)
       all-ok (Then p ps) c combined g v =
           all-then p ps combined g (evalPart evaluate G p g) (part-ok p (c .0) g v) (λ w g′ v′. all-ok ps (c .1) w g′ v′)
 
       any-ok : (ps : Parts) → AllCalls (CallOk (W .allowed) G) ps → (combined : Answer) (g : Graph) → State W xs g
           → After W xs g (ForAny combined ps) (evalAny evaluate G ps combined g)
-      any-ok End c combined g v = (nothing, step-nothing W xs g v, any-end combined nothing)
+      any-ok End c combined g v = (nothing, change-nothing W xs g v, any-end combined nothing)
       any-ok (Then p ps) c combined g v =
           any-then p ps combined g (evalPart evaluate G p g) (part-ok p (c .0) g v) (λ w g′ v′. any-ok ps (c .1) w g′ v′)
 

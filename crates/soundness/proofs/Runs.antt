@@ -26,8 +26,8 @@ use Rattle.soundness.proofs.Traces.{only-append}
 use Rattle.soundness.proofs.World.{World}
 use Rattle.soundness.proofs.Counters.{Reads, counter, counter-none, limit-positive}
 use Rattle.soundness.proofs.Assumed.{A, Base, Within, assumes-none, baseOf, basesOf, length-bases}
-use Rattle.soundness.proofs.Inv.{After, BasesOk, CacheOk, EntryOk, Gain, Inv, State, Step, readsOf, top-gains}
-use Rattle.soundness.proofs.Steps.{every-map}
+use Rattle.soundness.proofs.Inv.{After, BasesOk, CacheOk, EntryOk, Gain, Inv, State, Change, readsOf, top-gains}
+use Rattle.soundness.proofs.Changes.{every-map}
 use Rattle.soundness.proofs.Parts.{RightGoal}
 use Rattle.soundness.proofs.Settle.{Turn, Why, again, ends, mixed, settled, turn, without}
 use Rattle.soundness.proofs.Rebase.{Rest, finished, rebased-fewer, rebased-ok, survivors-fewer, survivors-ok}
@@ -154,7 +154,7 @@ module _ (W : World) (xs : List Base) (fs : Stack) (goal available : ℕ) (here 
 
   ran : (x : Base) (f₀ : Frame) (g₀ g : Graph) (a : Answer) (d : Reads)
       → x .goal ≡ goal → x .depth ≡ available → BasesOk W (x ∷ xs)
-      → g₀ .stack ≡ f₀ ∷ fs → Step W (x ∷ xs) g₀ g d → RightGoal W (x ∷ xs) (x .goal) d a → Popped x g (g .stack) a
+      → g₀ .stack ≡ f₀ ∷ fs → Change W (x ∷ xs) g₀ g d → RightGoal W (x ∷ xs) (x .goal) d a → Popped x g (g .stack) a
   ran x f₀ g₀ g a d i j v st s r =
       popped-ran x f₀ g a i j v (rw st at (s .gain)) (s .inv) (s .inv .here) (s .inv .frames) r
 
