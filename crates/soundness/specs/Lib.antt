@@ -1,4 +1,5 @@
 pub mod Sets
 pub mod Statement
+pub mod Groups
 pub mod Trace
 pub mod Always
