@@ -1,0 +1,5 @@
+pub mod Masks
+pub mod Lines
+pub mod Rounds
+pub mod Accepted
+pub mod Numbers
