@@ -1,26 +1,38 @@
 -- The steps of a book's lines, one line after the other.
 use mathlib.Core.Path.{_≡_, refl, sym, ap, ap₂, _∙_}
-use mathlib.Core.Bool.{Bool, true, false, _&&_, _||_, or-assoc, or-false}
+use mathlib.Core.Bool.{Bool, true, false, _&&_, _||_, or-assoc, or-false, and-false}
 use mathlib.Core.List.{List, [], _∷_}
 use mathlib.Core.Option.{Option, none, some}
-use Prim.Native.Nat.{ℕ, suc, _+_, _-_, _≤_, _<_}
+use Prim.Native.Nat.{ℕ, zero, suc, _+_, _-_, _≤_, _<_}
+use native.Mathlib.Decide.{ℕ-discrete}
 use native.Mathlib.Numerals.{add-one}
 use native.Mathlib.Omega.{arith}
 use lib.Dec.{eqb}
-use lib.ListN.{length, getD, take, drop, replicate, length-drop}
-use borrow.Author.Tests.{eqb-true}
+use lib.ListN.{length, getD, set, take, drop, replicate, length-drop}
+use lib.Seq.{getD-set-same, getD-set-other}
+use borrow.Author.Tests.{eqb-true, eq-eqb, ne-eqb}
+use types.Run.{OneOf}
+use denote.Enum.Declared.{tagOf}
+use mathlib.Core.Logic.{⊎-elim}
 use Rattle.definition.specs.declared.format.Line.{Line}
 use Rattle.definition.specs.declared.paths.PathKind.{PathKind}
+use Rattle.definition.specs.declared.paths.PathKind.the-variants.{ForcedAmbiguity}
 use Rattle.definition.specs.Paths.{kindOf}
 use Rattle.definition.proofs.Lists.{part-from}
+use Rattle.bits.specs.Masks.{flags}
 use Rattle.bits.proofs.Marks.{only}
+use Rattle.book.specs.declared.code.Code.{Code}
+use Rattle.book.specs.declared.code.Code.the-variants as codes
+use Rattle.book.specs.Codes.{codeOf}
 use Rattle.book.specs.Lines.{lineIn, linesIn}
+use Rattle.book.proofs.Codes.{isGoal, goal-number}
 use Rattle.book.proofs.Lines.{lines-cons, lines-none}
+use Rattle.book.proofs.code.Code.{the-type}
 use Rattle.soundness.specs.Groups.{StepLine, stepLinesFrom, stepLines}
 use Rattle.guarantee.specs.declared.steps.Seen.{Seen}
 use Rattle.guarantee.specs.Guarantee.{firstStep}
 use Rattle.guarantee.specs.Engine.{inMask, meets, seenIn, stepAt, lineOf, consIf}
-use Rattle.guarantee.proofs.Masks.{meets-none}
+use Rattle.guarantee.proofs.Masks.{meets-none, meets-with}
 
 -- a step, by its caller, goal and kind, is wanted
 abbrev pub someStep : (ℕ → ℕ → PathKind → Bool) → List StepLine → Bool
@@ -30,6 +42,58 @@ someStep wanted (s ∷ ss) = wanted (s .caller) (s .goal) (s .kind) || someStep 
 -- the steps of bytes from line n on
 unfoldable pub stepsIn : ℕ → ℕ → List ℕ → List StepLine
 stepsIn n caller bytes = stepLinesFrom n caller (linesIn bytes)
+
+-- a part `[16..]`
+pub rest-length : (t : List ℕ) → length (take (length t - 16) (drop 16 t)) ≡ length t - 16
+rest-length t = ap length (part-from 16 t) ∙ length-drop 16 t
+
+-- ---- one line
+pub far-kind : (n : ℕ) → 3 < n → ForcedAmbiguity ≡ kindOf n
+far-kind zero h = absurd (omega arith)
+far-kind (suc zero) h = absurd (omega arith)
+far-kind (suc (suc zero)) h = absurd (omega arith)
+far-kind (suc (suc (suc n))) h = refl
+
+abbrev pub isCall : Code → Bool
+isCall codes.Goal = false
+isCall codes.Call = true
+isCall (codes.Group op) = false
+isCall codes.Pick = false
+isCall codes.Undecided = false
+isCall codes.Unknown = false
+
+-- a call line has the code 2, and no other line
+call-number : (n : ℕ) → isCall (codeOf n) ≡ eqb n 2
+call-number zero = refl
+call-number (suc zero) = refl
+call-number (suc (suc zero)) = refl
+call-number (suc (suc (suc zero))) = refl
+call-number (suc (suc (suc (suc zero)))) = refl
+call-number (suc (suc (suc (suc (suc zero))))) = refl
+call-number (suc (suc (suc (suc (suc (suc zero)))))) = refl
+call-number (suc (suc (suc (suc (suc (suc (suc n))))))) =
+    sym (ne-eqb (suc (suc (suc (suc (suc (suc (suc n))))))) 2 (λ e. omega arith))
+
+-- every other line, by the number of its variant
+pub other-code : (code : Code) → OneOf (2 ∷ 3 ∷ 4 ∷ 5 ∷ []) (tagOf the-type code) → (isCall code ≡ false) × (isGoal code ≡ false)
+other-code codes.Goal k = absurd (⊎-elim (λ x. omega arith) (⊎-elim (λ x. omega arith) (⊎-elim (λ x. omega arith) (λ x. omega arith))) k)
+other-code codes.Call k = absurd (⊎-elim (λ x. omega arith) (⊎-elim (λ x. omega arith) (⊎-elim (λ x. omega arith) (λ x. omega arith))) k)
+other-code (codes.Group op) k = (refl, refl)
+other-code codes.Pick k = (refl, refl)
+other-code codes.Undecided k = (refl, refl)
+other-code codes.Unknown k = (refl, refl)
+
+-- a line by what its code says
+abbrev pub seenAs : ℕ → Line → PathKind → Bool → Bool → Seen
+seenAs caller l kind call goal =
+    record { step = call; caller = elim goal [ true ↦ l .first | false ↦ caller ]; goal = l .first; kind = kind }
+
+pub seen-by : (caller : ℕ) (l l′ : Line) (kind : PathKind) (code : Code) (call goal : Bool) → l ≡ l′ → kind ≡ kindOf (l .second) → code ≡ codeOf (l .code)
+    → isCall code ≡ call → isGoal code ≡ goal → seenAs caller l kind call goal ≡ seenIn caller l′
+seen-by caller l l′ kind code call goal is k e c g =
+    ap (λ (x : PathKind). seenAs caller l x call goal) k
+    ∙ ap₂ (seenAs caller l (kindOf (l .second))) (sym c ∙ ap isCall e ∙ call-number (l .code)) (sym g ∙ ap isGoal e ∙ sym (goal-number (l .code)))
+    ∙ ap (seenIn caller) is
 
 -- ---- one line more
 step-line : (n caller : ℕ) (l : Line) (ls : List Line)
@@ -112,3 +176,36 @@ collected-more all step s left masks masks′ inv more i m h =
 pub collected-all : (all left : List StepLine) (masks : List ℕ) → left ≡ [] → Collected all left masks → (i m : ℕ) → i < 64 → meets (getD masks i 0) m ≡ someStep (into i m) all
 collected-all all left masks e inv i m h =
     sym (or-false (meets (getD masks i 0) m)) ∙ ap (λ (ss : List StepLine). meets (getD masks i 0) m || someStep (into i m) ss) (sym e) ∙ inv i m h
+
+-- ---- one step more in the masks
+module _ (masks : List ℕ) (s : Seen) where
+  abbrev pub Added : List ℕ → Type 0
+  Added masks′ =
+      (i m : ℕ) → i < 64
+      → meets (getD masks′ i 0) m ≡ (meets (getD masks i 0) m || (s .step && (eqb (s .caller) i && inMask m (s .goal))))
+
+  kept : (i m : ℕ) → (s .step && (eqb (s .caller) i && inMask m (s .goal))) ≡ false
+      → meets (getD masks i 0) m ≡ (meets (getD masks i 0) m || (s .step && (eqb (s .caller) i && inMask m (s .goal))))
+  kept i m e = sym (ap (λ (x : Bool). meets (getD masks i 0) m || x) e ∙ or-false (meets (getD masks i 0) m))
+
+  pub no-step : s .step ≡ false → Added masks
+  no-step e i m h = kept i m (ap (λ (x : Bool). x && (eqb (s .caller) i && inMask m (s .goal))) e)
+
+  pub far-step : 64 ≤ s .caller → Added masks
+  far-step far i m h = kept i m (ap (λ (x : Bool). s .step && (x && inMask m (s .goal))) (ne-eqb (s .caller) i (λ z. omega arith)) ∙ and-false (s .step))
+
+  pub one-step : s .step ≡ true → length masks ≡ 64 → s .caller < 64 → (r : ℕ) → flags 64 r ≡ set (flags 64 (getD masks (s .caller) 0)) (s .goal) true
+      → Added (set masks (s .caller) r)
+  one-step is long near r e i m h = go (ℕ-discrete i (s .caller))
+    where
+      go : Dec (i ≡ s .caller)
+          → meets (getD (set masks (s .caller) r) i 0) m ≡ (meets (getD masks i 0) m || (s .step && (eqb (s .caller) i && inMask m (s .goal))))
+      go (yes z) =
+          ap (λ (j : ℕ). meets (getD (set masks (s .caller) r) j 0) m) z
+          ∙ ap (λ (a : ℕ). meets a m) (getD-set-same masks (s .caller) r 0 (omega arith))
+          ∙ meets-with r (getD masks (s .caller) 0) m (s .goal) e
+          ∙ ap (λ (j : ℕ). meets (getD masks j 0) m || inMask m (s .goal)) (sym z)
+          ∙ sym (ap₂ (λ (x y : Bool). meets (getD masks i 0) m || (x && (y && inMask m (s .goal)))) is (eq-eqb (s .caller) i (sym z)))
+      go (no n) =
+          ap (λ (a : ℕ). meets a m) (getD-set-other masks (s .caller) i r 0 n)
+          ∙ kept i m (ap (λ (x : Bool). s .step && (x && inMask m (s .goal))) (ne-eqb (s .caller) i (λ z. n (sym z))) ∙ and-false (s .step))
