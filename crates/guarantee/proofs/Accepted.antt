@@ -3,16 +3,22 @@ use mathlib.Core.Path.{_≡_, refl, sym, ap, _∙_}
 use mathlib.Core.Bool.{Bool, true, false}
 use mathlib.Core.Option.{Option, none, some}
 use mathlib.Core.List.{List, [], _∷_}
-use Prim.Native.Nat.{ℕ, _≤_}
+use Prim.Native.Nat.{ℕ, _≤_, _<_}
+use native.Mathlib.Decide.{decLt}
 use native.Mathlib.Omega.{arith}
-use lib.ListN.{length}
+use lib.ListN.{length, getD, List·getD-eq-default}
 use Rattle.definition.specs.declared.format.Line.{Line}
 use Rattle.definition.specs.declared.replies.Refusal.the-variants.{BookLength, BookLine}
 use Rattle.definition.specs.Part.{Book}
 use Rattle.definition.specs.Reader.{BookRead, Accepted, Rejected, readHeader, lengthInRange, linesOf, readBook}
 use Rattle.book.specs.Lines.{linesIn, linesIf, allFit}
 use Rattle.book.proofs.Lines.{lines-of}
-use Rattle.book.proofs.Books.{length-fits}
+use Rattle.book.specs.Read.{bookIn}
+use Rattle.book.proofs.Books.{length-fits, accepted-range}
+use Rattle.soundness.specs.Groups.{stepLines, callsSome, linked}
+use Rattle.guarantee.specs.Engine.{IsAccepted, inMask, meets, CallMasks}
+use Rattle.guarantee.proofs.Lines.{someStep, into, beyond}
+use Rattle.guarantee.proofs.Masks.{meets-none}
 
 module _ (b : Book) where
   abbrev byLength : Bool → Option (List Line) → BookRead
@@ -38,3 +44,31 @@ module _ (b : Book) where
 
   pub accepted-long : (bytes : List ℕ) → readBook bytes ≡ Accepted b → 16 ≤ length bytes
   accepted-long bytes e = let f = length-fits (length bytes) (accepted bytes e .0) in omega (arith, f .0)
+
+module _ (bytes : List ℕ) (is : IsAccepted bytes) where
+  pub few-goals : bookIn bytes .header .goals ≤ 64
+  few-goals = accepted-range (bookIn bytes) bytes is .few-goals
+
+  -- a goal of the book is linked to goals of the book only
+  pub outside : (g k : ℕ) → g < bookIn bytes .header .goals → bookIn bytes .header .goals ≤ k → linked (bookIn bytes) g k ≡ false
+  outside g k near far = ?
+
+  -- ---- the lines' steps are the calls of the parts
+  calls-by-lines : (i m : ℕ) → someStep (into i m) (stepLines (linesIn bytes)) ≡ callsSome (bookIn bytes) (λ g kind. inMask m g) i
+  calls-by-lines i m = ?
+
+  no-calls : (i m : ℕ) → 64 ≤ i → callsSome (bookIn bytes) (λ g kind. inMask m g) i ≡ false
+  no-calls i m far = ?
+
+  pub callers-near : someStep (beyond (bookIn bytes .header .goals)) (stepLines (linesIn bytes)) ≡ false
+  callers-near = ?
+
+  pub call-masks : (masks : List ℕ) → length masks ≡ 64 → ((i m : ℕ) → i < 64 → meets (getD masks i 0) m ≡ someStep (into i m) (stepLines (linesIn bytes)))
+      → CallMasks (bookIn bytes) masks
+  call-masks masks long h i m = go (decLt i 64)
+    where
+      go : Dec (i < 64) → meets (getD masks i 0) m ≡ callsSome (bookIn bytes) (λ g kind. inMask m g) i
+      go (yes l) = h i m l ∙ calls-by-lines i m
+      go (no n) =
+          let past : getD masks i 0 ≡ 0 = List·getD-eq-default masks 0 (omega arith) in
+          ap (λ (a : ℕ). meets a m) past ∙ meets-none m ∙ sym (no-calls i m (omega arith))

@@ -3,3 +3,4 @@ pub mod Lines
 pub mod Rounds
 pub mod Accepted
 pub mod Numbers
+pub mod Conflicts

@@ -7,10 +7,10 @@ use Prim.Native.Nat.{ℕ, zero, suc, _+_, _-_, _≤_, _<_}
 use native.Mathlib.Decide.{ℕ-discrete}
 use native.Mathlib.Numerals.{add-one}
 use native.Mathlib.Omega.{arith}
-use lib.Dec.{eqb}
+use lib.Dec.{eqb, leb}
 use lib.ListN.{length, getD, set, take, drop, replicate, length-drop}
 use lib.Seq.{getD-set-same, getD-set-other}
-use borrow.Author.Tests.{eqb-true, eq-eqb, ne-eqb}
+use borrow.Author.Tests.{eqb-true, eq-eqb, ne-eqb, leb-false}
 use types.Run.{OneOf}
 use denote.Enum.Declared.{tagOf}
 use mathlib.Core.Logic.{⊎-elim}
@@ -161,8 +161,9 @@ into i m caller goal kind = eqb caller i && inMask m goal
 abbrev pub Collected : List StepLine → List StepLine → List ℕ → Type 0
 Collected all left masks = (i m : ℕ) → i < 64 → (meets (getD masks i 0) m || someStep (into i m) left) ≡ someStep (into i m) all
 
-pub collected-none : (all : List StepLine) → Collected all all (replicate 64 0)
-collected-none all i m h = ap (λ (x : Bool). x || someStep (into i m) all) (ap (λ (a : ℕ). meets a m) (only 0 64 i) ∙ meets-none m)
+pub collected-none : (all left : List StepLine) → left ≡ all → Collected all left (replicate 64 0)
+collected-none all left e i m h =
+    ap₂ (λ (x : Bool) (ss : List StepLine). x || someStep (into i m) ss) (ap (λ (a : ℕ). meets a m) (only 0 64 i) ∙ meets-none m) e
 
 pub collected-more : (all : List StepLine) (step : Bool) (s : StepLine) (left : List StepLine) (masks masks′ : List ℕ) → Collected all (consIf step s left) masks
     → ((i m : ℕ) → i < 64 → meets (getD masks′ i 0) m ≡ (meets (getD masks i 0) m || (step && (eqb (s .caller) i && inMask m (s .goal)))))
@@ -209,3 +210,16 @@ module _ (masks : List ℕ) (s : Seen) where
       go (no n) =
           ap (λ (a : ℕ). meets a m) (getD-set-other masks (s .caller) i r 0 n)
           ∙ kept i m (ap (λ (x : Bool). s .step && (x && inMask m (s .goal))) (ne-eqb (s .caller) i (λ z. n (sym z))) ∙ and-false (s .step))
+
+-- ---- callers that are goals of the book
+abbrev pub beyond : ℕ → ℕ → ℕ → PathKind → Bool
+beyond goals caller goal kind = leb goals caller
+
+pub caller-near : (goals n : ℕ) (s : Seen) (rest : List StepLine) → someStep (beyond goals) (consIf (s .step) (stepAt n s) rest) ≡ false
+    → (s .step ≡ true → s .caller < goals) × (someStep (beyond goals) rest ≡ false)
+caller-near goals n s rest e = go (s .step) (leb goals (s .caller)) refl (someStep (beyond goals) rest) (sym (some-cons (beyond goals) (s .step) (stepAt n s) rest) ∙ e)
+  where
+    go : (x y : Bool) → leb goals (s .caller) ≡ y → (z : Bool) → ((x && y) || z) ≡ false → (x ≡ true → s .caller < goals) × (z ≡ false)
+    go true true f z e = let w : _≡_ {A = ℕ} 0 1 = cc in absurd (omega arith)
+    go true false f z e = (λ t. leb-false goals (s .caller) f, e)
+    go false y f z e = (λ t. absurd (let w : _≡_ {A = ℕ} 0 1 = cc in omega arith), e)

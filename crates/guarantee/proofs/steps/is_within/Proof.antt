@@ -9,20 +9,23 @@ use Rattle.bits.proofs.has.Reads as has-reads
 use Rattle.definition.proofs.paths.PathKind.same.Reads as same-reads
 
 returns : tie.Need-returns
-returns c = stop _ _ (not-true _ (c .if1 .taken))
+returns c = let a = c .before .before .args in stop (a .s .step) _ (not-true (a .s .step) (c .if1 .taken))
 
 same-requires : tie.Need-same-requires
 same-requires c κs = search needs
 
 returns-2 : tie.Need-returns-2
-returns-2 c = pass _ _ _ (not-false _ (c .before .before .if1 .left)) (stop _ _ (refused (c .before .same .ensures) (c .if2 .taken)))
+returns-2 c =
+    let s = c .before .before .before .before .args .s in
+    pass (s .step) _ _ (not-false (s .step) (c .before .before .if1 .left)) (stop _ _ (refused (c .before .same .ensures) (c .if2 .taken)))
 
 has-requires : tie.Need-has-requires
 has-requires c κs = search needs
 
 returns-3 : tie.Need-returns-3
 returns-3 c =
-    pass _ _ _ (not-false _ (c .before .before .before .before .if1 .left))
+    let s = c .before .before .before .before .before .before .args .s in
+    pass (s .step) _ _ (not-false (s .step) (c .before .before .before .before .if1 .left))
     (pass _ _ _ (held (c .before .before .before .same .ensures) (c .before .before .if2 .left))
     (stop _ _ (refused (c .before .has .ensures) (c .if3 .taken))))
 
@@ -31,7 +34,8 @@ has-requires-2 c κs = search needs
 
 returns-4 : tie.Need-returns-4
 returns-4 c =
-    pass _ _ _ (not-false _ (c .before .before .before .before .before .if1 .left))
+    let s = c .before .before .before .before .before .before .before .args .s in
+    pass (s .step) _ _ (not-false (s .step) (c .before .before .before .before .before .if1 .left))
     (pass _ _ _ (held (c .before .before .before .before .same .ensures) (c .before .before .before .if2 .left))
     (pass _ _ _ (held (c .before .before .has .ensures) (c .before .if3 .left)) (c .has2 .ensures)))
 
