@@ -4,3 +4,4 @@ pub mod Rounds
 pub mod Accepted
 pub mod Numbers
 pub mod Conflicts
+pub mod Books

@@ -1,4 +1,4 @@
-use mathlib.Core.Path.{_≡_, ap, _∙_, sym, subst}
+use mathlib.Core.Path.{_≡_, subst}
 use Prim.Native.Nat.{ℕ, _-_, _≤_}
 use native.Mathlib.Omega.{arith}
 use Rattle.definition.specs.Part.{Book}
@@ -28,7 +28,8 @@ loop-holds c =
     let a = c .before .before .args in
     (
       λ b masks e.
-          subst (λ (n : ℕ). Rounds b (a .goal) n (c .with .result)) (e ∙ omega arith)
+          let all : b .header .goals ≡ a .goals - 0 = omega arith in
+          subst (λ (n : ℕ). Rounds b (a .goal) n (c .with .result)) all
           (rounds-start b (a .goal) (c .with .result) (mask-one (c .with .result) (a .goal) (c .before .before .pre .1) (c .with .ensures))),
       omega arith,
     )
