@@ -11,6 +11,7 @@ use Rattle.definition.specs.declared.replies.Response.{Response}
 use Rattle.definition.specs.declared.replies.Response.the-variants.{Answered, Refused}
 use Rattle.definition.specs.Query.{Reply, query, zeros}
 use Rattle.soundness.specs.Sets.{Goals, least, greatest}
+use Rattle.soundness.specs.Groups.{grouped}
 use Rattle.soundness.specs.Statement.{RightReply}
 use Rattle.definition.proofs.Lists.{part-from}
 use Rattle.query.specs.Replies.{replied, responseCode}
@@ -135,6 +136,9 @@ module _ (bytes cache work questions codes : List ℕ) where
         no-inductive-step = λ b ls e f g.
             all-right (greatest b)
             (λ cache work goal depth c. right-query bytes cache work goal depth _ refl c .right .no-inductive-step b ls e f g);
+        by-groups = λ b e choice chosen.
+            all-right (grouped b choice)
+            (λ cache work goal depth c. right-query bytes cache work goal depth _ refl c .right .by-groups b e choice chosen);
       }
 
   codes-table : CodesOfTable questions written

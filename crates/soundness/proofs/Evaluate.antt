@@ -26,15 +26,16 @@ use Rattle.soundness.specs.Always.{Apart, Distinct, Every, FrameInOrder,
 use Rattle.soundness.specs.Sets.{holds}
 use Rattle.soundness.proofs.Logic.{clash, inside, nobody, of-false, outside}
 use Rattle.soundness.proofs.Support.{step}
-use Rattle.soundness.proofs.World.{CallOk, Calls, EveryPart, World}
+use Rattle.soundness.proofs.Calls.{Calls, calls-both, calls-map, part-is}
+use Rattle.soundness.proofs.World.{CallOk, World, anyKind}
 use Rattle.soundness.proofs.Counters.{Reads, nothing}
 use Rattle.soundness.proofs.Assumed.{A, A-mono, A-none, A-under, Base, baseOf, basesOf, length-bases}
-use Rattle.soundness.proofs.Inv.{After, BasesOk, EntryOk, Gain, State, distinct-goals, goals-here, readsOf}
+use Rattle.soundness.proofs.Inv.{After, BasesOk, CalledBy, EntryOk, Gain, State, distinct-goals, goals-here, goalsIn, readsOf}
 use Rattle.soundness.proofs.Changes.{after-map, every-map, gain-known}
 use Rattle.soundness.proofs.HeadLaws.{absent-noHeads, empty-heads, head-or-unused, not-empty}
 use Rattle.soundness.proofs.Update.{childReads, update-gains, update-inv, update-known}
 use Rattle.soundness.proofs.Candidates.{overflow-change}
-use Rattle.soundness.proofs.Parts.{Claims, EvalOk, RightAt, RightGoal, part-ok}
+use Rattle.soundness.proofs.Parts.{Callable, Claims, EvalOk, RightAt, RightGoal, part-ok}
 use Rattle.soundness.proofs.Runs.{ComputesGoal, Finished, TaskAfter, task-ok}
 use Rattle.soundness.proofs.Lookups.{Found, cycle-or, depth-ok, find-at, global-found, provisional-found}
 use Rattle.soundness.proofs.Slots.{Kept, insert-ok}
@@ -46,7 +47,7 @@ every-append P (d ∷ es) e v p = (v .0, every-append P es e (v .1) p)
 
 module _ (W : World) (xs : List Base) (bases : BasesOk W xs) (g₀ : Graph) (v : State W xs g₀) (small : length (g₀ .stack) ≤ W .book .header .goals)
     (goal : ℕ) (inside : goal < W .book .header .goals) (step : PathKind) (available : ℕ) (deep : available ≤ W .book .header .top)
-    (call : 0 < length xs → T (W .allowed step)) where
+    (call : CalledBy W xs goal step) where
   abbrev h : Header
   h = W .book .header
 
@@ -253,19 +254,25 @@ part-there [] g l e = omega arith
 part-there (p ∷ ps) zero l e = clash (cc)
 part-there (p ∷ ps) (suc g) l e = part-there ps g (omega arith) e
 
-pub part-is : (P : Part → Type 0) (ps : List Part) → EveryPart P ps → (g : ℕ) (p : Part) → partAt ps g ≡ some p → P p
-part-is P [] v g p e = clash (cc)
-part-is P (q ∷ ps) v zero p e = let z : q ≡ p = cc in rw z at (v .0)
-part-is P (q ∷ ps) v (suc g) p e = part-is P ps (v .1) g p e
-
 -- the goal of the frame on top is one of the book's
 pub top-goal : (h : Header) (s : Stack) (x : Base) (xs : List Base) → basesOf s ≡ x ∷ xs → FramesInOrder h s
     → x .goal < h .goals
 top-goal h [] x xs e v = clash (cc)
 top-goal h (f ∷ fs) x xs e v = let z : baseOf f ≡ x = cc in subst (λ (y : Base). y .goal < h .goals) z (v .0 .goal)
 
+-- the calls of the part of the goal on top
+pub callable : (W : World) (x : Base) (xs : List Base) (p : Part) → partAt (W .book .parts) (x .goal) ≡ some p
+    → Calls (Callable W (x ∷ xs)) p
+callable W x xs p e =
+    let InBook : ℕ → PathKind → Type 0 = CallOk anyKind (W .book .header .goals) in
+    let Step : ℕ → PathKind → Type 0 = λ y k. T (W .step (x .goal) y k) in
+    calls-map (λ y k. InBook y k × Step y k) (Callable W (x ∷ xs)) (λ y k c. (c .0 .0, c .1)) p
+    (calls-both InBook Step p (part-is (Calls InBook) (W .book .parts) (W .read .calls) (x .goal) p e)
+    (W .steps (x .goal) p e))
+
 module _ (W : World) (xs : List Base) (evaluate : Evaluator) (ok : EvalOk W xs evaluate) (g : Graph) (v : State W xs g) (goal : ℕ)
-    (inside : goal < W .book .header .goals) where
+    (inside : goal < W .book .header .goals)
+    (calls : (p : Part) → partAt (W .book .parts) goal ≡ some p → Calls (Callable W xs) p) where
   own-part : (p : Part) → partAt (W .book .parts) goal ≡ some p → (d : Reads) (a : Answer) → RightAt W xs p d a → RightGoal W xs goal d a
   own-part p e d a r =
       record {
@@ -281,13 +288,13 @@ module _ (W : World) (xs : List Base) (evaluate : Evaluator) (ok : EvalOk W xs e
   compute-by none e = absurd (part-there (W .book .parts) goal (omega (arith, W .read .whole)) e)
   compute-by (some p) e =
       after-map W xs g (RightAt W xs p) (RightGoal W xs goal) (own-part p e) (evalPart evaluate (W .book .header .goals) p g)
-      (part-ok W xs evaluate ok p (part-is (Calls (CallOk (W .allowed) (W .book .header .goals))) (W .book .parts) (W .read .calls) goal p e) g v)
+      (part-ok W xs evaluate ok p (calls p e) g v)
 
 pub compute-ok : (W : World) (xs : List Base) (evaluate : Evaluator) → ((x : Base) → BasesOk W (x ∷ xs) → EvalOk W (x ∷ xs) evaluate)
     → ComputesGoal W xs (computeGoal evaluate (W .book))
 compute-ok W xs evaluate ok x s g v =
     compute-by W (x ∷ xs) evaluate (ok x s) g v (x .goal) (top-goal (W .book .header) (g .stack) x xs (v .here) (v .frames))
-    (partAt (W .book .parts) (x .goal)) refl
+    (callable W x xs) (partAt (W .book .parts) (x .goal)) refl
 
 -- with every goal on the stack nothing is computed
 pub none-left : (W : World) (xs : List Base) → length xs ≡ W .book .header .goals
@@ -305,7 +312,7 @@ none-left W xs e x s g v =
 module _ (W : World) (xs : List Base) (bases : BasesOk W xs) (small : length xs ≤ W .book .header .goals) (compute : ℕ → Graph → Outcome)
     (ok : ComputesGoal W xs compute) where
   from-depth : (g : Graph) (v : State W xs g) (goal : ℕ) → goal < W .book .header .goals → (step : PathKind) (lower : Bool)
-      → (0 < length xs → T (W .allowed step))
+      → CalledBy W xs goal step
       → (o : Option ℕ) → allowedDepthForNested (W .book .header) (g .rootDepth) (g .stack) lower ≡ o
       → After W xs g (Claims W xs goal)
       (elim o [

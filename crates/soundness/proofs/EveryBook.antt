@@ -31,10 +31,10 @@ use Rattle.soundness.specs.Statement.{EveryLine}
 use Rattle.definition.proofs.Tests.{and-left, and-right}
 use Rattle.soundness.proofs.Logic.{clash, of-true}
 use Rattle.soundness.proofs.Support.{step}
-use Rattle.soundness.proofs.World.{BookOk, World}
+use Rattle.soundness.proofs.World.{BookOk, World, anyKind}
 use Rattle.soundness.proofs.Counters.{Reads}
 use Rattle.soundness.proofs.Assumed.{Base, basesOf, length-bases}
-use Rattle.soundness.proofs.Inv.{After, BasesOk, EntryOk, State, goals-here, goalsIn, in-order, known-bound}
+use Rattle.soundness.proofs.Inv.{After, BasesOk, CalledBy, EntryOk, State, goals-here, goalsIn, in-order, known-bound}
 use Rattle.soundness.proofs.Parts.{Claims}
 use Rattle.soundness.proofs.Runs.{TaskAfter}
 use Rattle.soundness.proofs.Lookups.{find-at}
@@ -43,7 +43,7 @@ use Rattle.soundness.proofs.Evaluate.{compute-ok, evaluate-ok, frame-ok
 use Rattle.soundness.proofs.Meets.{evaluate-meets}
 use Rattle.soundness.proofs.Refusals.{evaluate-run}
 use Rattle.soundness.proofs.Reading.{Early, book-read, book-rejected}
-use Rattle.soundness.proofs.Books.{any-book, anyKind}
+use Rattle.soundness.proofs.Books.{any-book}
 use Rattle.soundness.proofs.Queries.{Passed, passed}
 
 -- ---- a state in order is one of the invariant
@@ -54,10 +54,15 @@ module _ (b : Book) (ok : BookOk anyKind b) where
   abbrev W : World
   W = any-book b ok
 
+  anyone : (xs : List Base) (goal : ℕ) (kind : PathKind) → CalledBy W xs goal kind
+  unfolding any-book
+  anyone [] goal kind = tt
+  anyone (x ∷ xs) goal kind = tt
+
   bases-ok : (s : Stack) → Distinct (goalsOf s) → BasesOk W (basesOf s)
   unfolding any-book
   bases-ok [] d = tt
-  bases-ok (f ∷ fs) d = (record { result = λ a e n. tt; byCall = λ l. tt; apart = apart-bases (f .input) fs (d .0) }, bases-ok fs (d .1))
+  bases-ok (f ∷ fs) d = (record { result = λ a e n. tt; byCall = anyone (basesOf fs) (f .input) (f .stepKindFromParent); apart = apart-bases (f .input) fs (d .0) }, bases-ok fs (d .1))
 
   entries-ok : (xs : List Base) (L : ℕ → Type 0) (es : List Entry) → Every (EntryInOrder (b .header) L) es → Every (EntryOk W xs L) es
   unfolding any-book
@@ -93,7 +98,7 @@ module _ (b : Book) (ok : BookOk anyKind b) where
   keeps-order off g goal step lower v e l =
       after-keeps g v (Claims W (basesOf (g .stack)) goal) (evaluateGoal b off g goal step lower)
       (evaluate-ok W off (basesOf (g .stack)) (bases-ok (g .stack) (v .distinct)) (omega (arith, length-bases (g .stack))) g goal step lower
-      (inv-of g v) l (λ z. tt))
+      (inv-of g v) l (anyone (basesOf (g .stack)) goal step))
 
   meets-in-order : (off : ℕ) (g : Graph) (goal : ℕ) (step : PathKind) (lower : Bool) → InOrder (b .header) g
       → length (g .stack) + off ≡ b .header .goals → goal < b .header .goals
@@ -102,7 +107,7 @@ module _ (b : Book) (ok : BookOk anyKind b) where
   meets-in-order off g goal step lower v e l =
       evaluate-run b off g goal step lower
       (evaluate-meets W off (basesOf (g .stack)) (bases-ok (g .stack) (v .distinct))
-      (omega (arith, length-bases (g .stack))) g goal step lower (inv-of g v) l (λ z. tt))
+      (omega (arith, length-bases (g .stack))) g goal step lower (inv-of g v) l (anyone (basesOf (g .stack)) goal step))
 
   -- ---- a frame
   entries-on : (n : ℕ) (xs : List Base) (L : ℕ → Type 0) → ((i : ℕ) → L i → i < n) → (es : List Entry) → Every (EntryOk W xs L) es
@@ -135,7 +140,7 @@ module _ (b : Book) (ok : BookOk anyKind b) where
       finished-frame (basesOf (g .stack)) (g .stack) goal available
       (evaluateGoalInTask (computeGoal (evaluateGoal b off) b goal) left false
       (withStack g (newFrame (b .header .goals) goal step available ∷ g .stack)))
-      (frame-ok W (basesOf (g .stack)) (bases-ok (g .stack) (v .distinct)) g (inv-of g v) (omega arith) goal l step available deep (λ y. tt)
+      (frame-ok W (basesOf (g .stack)) (bases-ok (g .stack) (v .distinct)) g (inv-of g v) (omega arith) goal l step available deep (anyone (basesOf (g .stack)) goal step)
       (computeGoal (evaluateGoal b off) b)
       (compute-ok W (basesOf (g .stack)) (evaluateGoal b off)
       (λ x s. evaluate-ok W off (x ∷ basesOf (g .stack)) s (omega (arith, length-bases (g .stack)))))

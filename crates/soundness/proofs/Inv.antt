@@ -5,7 +5,7 @@ use mathlib.Core.Option.{Option, none, some}
 use mathlib.Core.Path.{_∙_, _≡_, ap, refl, subst, sym}
 use Prim.Native.Nat.{_*_, _+_, _<_, _≤_, min, ℕ}
 use native.Mathlib.Omega.{arith}
-use lib.Dec.{T}
+use lib.Dec.{T, eqb, eqb→eq}
 use lib.ListN.{getD, length}
 use Rattle.definition.specs.GlobalCache.{slotAt, slotHeld, slotResult}
 use Rattle.definition.specs.Graph.{Done, Entry, Graph, Outcome, Stopped}
@@ -17,10 +17,11 @@ use Rattle.definition.specs.declared.answers.Answer.{Answer}
 use Rattle.definition.specs.declared.paths.PathKind.{PathKind}
 use Rattle.definition.specs.declared.usages.HeadUsages.{HeadUsages}
 use Rattle.soundness.specs.Always.{Apart, CacheInOrder, Distinct, EntryInOrder, Every, Expected, FramesInOrder, HasHead, InOrder, IsHead, Known, goalsOf}
-use Rattle.soundness.proofs.Logic.{nobody}
+use Rattle.definition.proofs.Tests.{and-left}
+use Rattle.soundness.proofs.Logic.{nobody, or-cases}
 use Rattle.soundness.proofs.World.{World}
 use Rattle.soundness.proofs.Counters.{Reads, counter}
-use Rattle.soundness.proofs.Assumed.{A, Base, baseOf, basesOf}
+use Rattle.soundness.proofs.Assumed.{A, Base, assumes, baseOf, basesOf, own}
 
 abbrev pub readsOf : CycleHeads → Reads
 readsOf hs i k = counter (usagesAt hs i) k
@@ -44,15 +45,36 @@ goals-here s xs e = ap goalsIn (sym e) ∙ goals-bases s
 
 -- ---- the parts of the invariant
 
+-- the frame on top calls the goal by a step of that kind; the root is called by none
+abbrev pub CalledBy : World → List Base → ℕ → PathKind → Type 0
+CalledBy W [] goal kind = Unit {0}
+CalledBy W (x ∷ xs) goal kind = T (W .step (x .goal) goal kind)
+
 -- a provisional result other than the start answer rests on nothing
 pub record BaseOk (W : World) (under : List Base) (x : Base) : Type 0 where
   pub result : (a : Answer) → x .provisional ≡ some a → a ≢ W .start (x .goal) → T (W .claim a nobody (x .goal))
-  pub byCall : 0 < length under → T (W .allowed (x .step))
+  pub byCall : CalledBy W under (x .goal) (x .step)
   pub apart : Apart (x .goal) (goalsIn under)
 
 abbrev pub BasesOk : World → List Base → Type 0
 BasesOk W [] = Unit {0}
 BasesOk W (x ∷ xs) = BaseOk W xs x × BasesOk W xs
+
+itself : (W : World) (x : Base) (u : PathKind → ℕ) (y : ℕ) → T (own W x u y) → T (W .reach y (x .goal))
+itself W x u y t =
+    rw (eqb→eq y (x .goal) (and-left (eqb y (x .goal)) (assumes (W .start (x .goal)) (x .provisional) u) t)) (W .here (x .goal))
+
+-- every goal assumed is on the stack, so that it reaches the goal on top
+pub under-above : (W : World) (x : Base) (xs : List Base) → BasesOk W (x ∷ xs) → (d : Reads) (y : ℕ) → T (A W xs d y) → T (W .reach y (x .goal))
+under-above W x [] v d y t = absurd t
+under-above W x (z ∷ zs) v d y t =
+    W .onward y (z .goal) (x .goal) (x .step)
+    (or-cases (own W z (d (length zs)) y) (A W zs d y) (λ s. itself W z (d (length zs)) y s) (λ s. under-above W z zs (v .1) d y s) t)
+    (v .0 .byCall)
+
+pub all-above : (W : World) (x : Base) (xs : List Base) → BasesOk W (x ∷ xs) → (d : Reads) (y : ℕ) → T (A W (x ∷ xs) d y) → T (W .reach y (x .goal))
+all-above W x xs v d y =
+    or-cases (own W x (d (length xs)) y) (A W xs d y) (itself W x (d (length xs)) y) (under-above W x xs v d y)
 
 pub record EntryOk (W : World) (xs : List Base) (L : ℕ → Type 0) (e : Entry) : Type 0 where
   pub order : EntryInOrder (W .book .header) L e

@@ -24,21 +24,22 @@ use Rattle.definition.specs.declared.replies.Refusal.the-variants.{Unreachable}
 use Rattle.soundness.specs.Always.{Apart, EventInOrder, InOrder, goalsOf}
 use Rattle.soundness.specs.Trace.{Answers, InsertsEntry, InsertsInSlot, Trace, Tracer, after, met, traceAfterTask, traceAtDepth, traceCompute, traceGoal, traceGoalWith, traceNewFrame, tracePart, tracePick, traceTask, traceUntil, unlessMet}
 use Rattle.soundness.proofs.Traces.{only-append}
-use Rattle.soundness.proofs.World.{AllCalls, CallOk, Calls, World}
+use Rattle.soundness.proofs.Calls.{AllCalls, Calls}
+use Rattle.soundness.proofs.World.{World}
 use Rattle.soundness.proofs.Counters.{Reads}
 use Rattle.soundness.proofs.Assumed.{Base, baseOf, length-bases}
-use Rattle.soundness.proofs.Inv.{After, BasesOk, State, in-order}
+use Rattle.soundness.proofs.Inv.{After, BasesOk, CalledBy, State, in-order}
 use Rattle.soundness.proofs.Candidates.{enter-change, finish-change}
-use Rattle.soundness.proofs.Parts.{Claims, EvalOk, RightAt, part-ok}
+use Rattle.soundness.proofs.Parts.{Callable, Claims, EvalOk, RightAt, part-ok}
 use Rattle.soundness.proofs.Runs.{ComputesGoal, Ordered, TaskAfter, TracesGoal, task-meets}
 use Rattle.soundness.proofs.Lookups.{FindPost, depth-ok, find-at}
-use Rattle.soundness.proofs.Evaluate.{compute-ok, evaluate-ok, frame-ok, new-bases, none-left, part-is, pushed, top-goal, updated, with-ok}
+use Rattle.soundness.proofs.Evaluate.{callable, compute-ok, evaluate-ok, frame-ok, new-bases, none-left, pushed, top-goal, updated, with-ok}
 
 -- what `traceGoal` promises
 abbrev pub TraceOk : World → List Base → Tracer → Type 0
 TraceOk W xs trace =
     (g : Graph) (goal : ℕ) (step : PathKind) (lower : Bool) → State W xs g → goal < W .book .header .goals
-    → (0 < length xs → T (W .allowed step))
+    → CalledBy W xs goal step
     → Ordered W (trace g goal step lower)
 
 module _ (W : World) (xs : List Base) where
@@ -65,15 +66,15 @@ module _ (W : World) (xs : List Base) where
     G = W .book .header .goals
 
     mutual
-      part-meets : (p : Part) → Calls (CallOk (W .allowed) G) p → (g : Graph) → State W xs g
+      part-meets : (p : Part) → Calls (Callable W xs) p → (g : Graph) → State W xs g
           → Ordered W (tracePart evaluate trace G p g)
-      part-meets (Call goal kind lower) c g v = meets g goal kind lower v (c .0) (λ h. c .1)
+      part-meets (Call goal kind lower) c g v = meets g goal kind lower v (c .0) (c .1)
       part-meets (Node All ps) c g v = until-meets No ps c g v
       part-meets (Node Any ps) c g v = until-meets Yes ps c g v
       part-meets (Node Pick ps) c g v = pick-meets ps c g v
       part-meets UndecidedLine c g v = tt
 
-      until-meets : (stop : Answer) (ps : Parts) → AllCalls (CallOk (W .allowed) G) ps → (g : Graph) → State W xs g
+      until-meets : (stop : Answer) (ps : Parts) → AllCalls (Callable W xs) ps → (g : Graph) → State W xs g
           → Ordered W (traceUntil evaluate trace G stop ps g)
       until-meets stop End c g v = tt
       until-meets stop (Then p ps) c g v =
@@ -81,7 +82,7 @@ module _ (W : World) (xs : List Base) where
           (after-meets (RightAt W xs p) g (evalPart evaluate G p g) _ (part-ok W xs evaluate ok p (c .0) g v) λ g1 a w.
           unless-stop (sameAnswer a stop) _ (until-meets stop ps (c .1) g1 w))
 
-      pick-meets : (ps : Parts) → AllCalls (CallOk (W .allowed) G) ps → (g : Graph) → State W xs g
+      pick-meets : (ps : Parts) → AllCalls (Callable W xs) ps → (g : Graph) → State W xs g
           → Ordered W (tracePick evaluate trace G ps g)
       pick-meets End c g v = tt
       pick-meets (Then p ps) c g v =
@@ -92,11 +93,10 @@ module _ (W : World) (xs : List Base) where
           (part-ok W xs evaluate ok p (c .0) (enterSingleCandidate G g) w) λ g1 a u.
           pick-meets ps (c .1) (finishSingleCandidate g1) (finish-change W xs g1 u .inv))
 
-    own-meets : (goal : ℕ) (g : Graph) → State W xs g → (o : Option Part) → partAt (W .book .parts) goal ≡ o
+    own-meets : (g : Graph) → State W xs g → (o : Option Part) → ((p : Part) → o ≡ some p → Calls (Callable W xs) p)
         → Ordered W (elim o [ none ↦ [] | some p ↦ tracePart evaluate trace G p g ])
-    own-meets goal g v none e = tt
-    own-meets goal g v (some p) e =
-        part-meets p (part-is (Calls (CallOk (W .allowed) G)) (W .book .parts) (W .read .calls) goal p e) g v
+    own-meets g v none calls = tt
+    own-meets g v (some p) calls = part-meets p (calls p refl) g v
 
 compute-meets : (W : World) (xs : List Base) (evaluate : Evaluator)
     → ((x : Base) → BasesOk W (x ∷ xs) → EvalOk W (x ∷ xs) evaluate)
@@ -104,7 +104,7 @@ compute-meets : (W : World) (xs : List Base) (evaluate : Evaluator)
     → TracesGoal W xs (traceCompute evaluate trace (W .book))
 compute-meets W xs evaluate ok trace meets x s g v = (
   (in-order W (x ∷ xs) s g v, top-goal (W .book .header) (g .stack) x xs (v .here) (v .frames)),
-  own-meets W (x ∷ xs) evaluate (ok x s) trace (meets x s) (x .goal) g v (partAt (W .book .parts) (x .goal)) refl,
+  own-meets W (x ∷ xs) evaluate (ok x s) trace (meets x s) g v (partAt (W .book .parts) (x .goal)) (callable W x xs),
 )
 
 -- ---- evaluate_goal
@@ -112,7 +112,7 @@ module _ (W : World) (xs : List Base) (bases : BasesOk W xs) (g₀ : Graph) (v :
     (small : length (g₀ .stack) ≤ W .book .header .goals)
     (goal : ℕ) (inside : goal < W .book .header .goals) (step : PathKind) (available : ℕ)
     (deep : available ≤ W .book .header .top)
-    (call : 0 < length xs → T (W .allowed step)) where
+    (call : CalledBy W xs goal step) where
   abbrev h : Header
   h = W .book .header
 
@@ -166,7 +166,7 @@ module _ (W : World) (xs : List Base) (bases : BasesOk W xs) (small : length xs 
     (ok : ComputesGoal W xs compute) (trace : ℕ → Graph → Trace) (meets : TracesGoal W xs trace) where
   from-depth-meets : (g : Graph) (v : State W xs g) (goal : ℕ) → goal < W .book .header .goals
       → (step : PathKind) (lower : Bool)
-      → (0 < length xs → T (W .allowed step)) → (t : Trace) → Ordered W t → (o : Option ℕ)
+      → CalledBy W xs goal step → (t : Trace) → Ordered W t → (o : Option ℕ)
       → allowedDepthForNested (W .book .header) (g .rootDepth) (g .stack) lower ≡ o
       → Ordered W (elim o [
         | none ↦ []

@@ -22,10 +22,11 @@ use Rattle.soundness.specs.Sets.{Goals, _⊆_, everyHolds, holds, someHo
 use Rattle.soundness.proofs.Logic.{both, not-and-left, not-and-right, not-or, of-true, or-left, or-right, outside, twice}
 use Rattle.soundness.proofs.Support.{step}
 use Rattle.soundness.proofs.Certain.{no-holds-mono, noHolds, yes-holds-mono, yesHolds}
-use Rattle.soundness.proofs.World.{AllCalls, CallOk, Calls, Right, RightOf, World}
+use Rattle.soundness.proofs.Calls.{AllCalls, Calls}
+use Rattle.soundness.proofs.World.{Right, RightOf, World}
 use Rattle.soundness.proofs.Counters.{Reads, counter, nothing, plus}
 use Rattle.soundness.proofs.Assumed.{A, A-mono, Base, Within}
-use Rattle.soundness.proofs.Inv.{After, State, Change}
+use Rattle.soundness.proofs.Inv.{After, CalledBy, State, Change}
 use Rattle.soundness.proofs.Changes.{after-from, after-map, after-then, change-nothing, change-trans}
 use Rattle.soundness.proofs.Candidates.{Untracked, can-be-ignored, enter-change, finish-change, finish-untracked, ignore-change, merged, no-candidate, tracked-since}
 use Rattle.soundness.proofs.Answers.{both-no, both-yes, differ, neither, same→≡}
@@ -42,10 +43,14 @@ RightAt W xs p d = Right (W .claim Yes (A W xs d)) (W .claim No (A W xs d)) p
 abbrev pub RightGoal : World → List Base → ℕ → Reads → Answer → Type 0
 RightGoal W xs goal d = RightOf (W .book) (W .claim Yes (A W xs d)) (W .claim No (A W xs d)) goal
 
+-- a call from the frame on top, of a goal of the book
+abbrev pub Callable : World → List Base → ℕ → PathKind → Type 0
+Callable W xs goal kind = (goal < W .book .header .goals) × CalledBy W xs goal kind
+
 abbrev pub EvalOk : World → List Base → Evaluator → Type 0
 EvalOk W xs evaluate =
     (g : Graph) (goal : ℕ) (step : PathKind) (lower : Bool) → State W xs g → goal < W .book .header .goals
-    → (0 < length xs → T (W .allowed step))
+    → CalledBy W xs goal step
     → After W xs g (Claims W xs goal) (evaluate g goal step lower)
 
 module _ (W : World) (xs : List Base) where
@@ -302,11 +307,11 @@ module _ (W : World) (xs : List Base) where
     met-end combined others g₀ g D O F s a f u false e = absurd (rw e at (can-be-ignored others O F (s .gain) a f))
 
     mutual
-      pub part-ok : (p : Part) → Calls (CallOk (W .allowed) G) p → (g : Graph) → State W xs g
+      pub part-ok : (p : Part) → Calls (Callable W xs) p → (g : Graph) → State W xs g
           → After W xs g (RightAt W xs p) (evalPart evaluate G p g)
       part-ok (Call goal kind lower) c g v =
           after-map W xs g (Claims W xs goal) (RightAt W xs (Call goal kind lower)) (right-call goal kind lower) (evaluate g goal kind lower)
-          (ok g goal kind lower v (c .0) (λ h. c .1))
+          (ok g goal kind lower v (c .0) (c .1))
       part-ok (Node All ps) c g v =
           after-map W xs g (ForAll Yes ps) (RightAt W xs (Node All ps)) (right-all ps) (evalAll evaluate G ps Yes g) (all-ok ps c Yes g v)
       part-ok (Node Any ps) c g v =
@@ -318,25 +323,25 @@ module _ (W : World) (xs : List Base) where
           (λ i k. omega arith))
       part-ok UndecidedLine c g v = (nothing, change-nothing W xs g v, right-undecided nothing)
 
-      all-ok : (ps : Parts) → AllCalls (CallOk (W .allowed) G) ps → (combined : Answer) (g : Graph) → State W xs g
+      all-ok : (ps : Parts) → AllCalls (Callable W xs) ps → (combined : Answer) (g : Graph) → State W xs g
           → After W xs g (ForAll combined ps) (evalAll evaluate G ps combined g)
       all-ok End c combined g v = (nothing, change-nothing W xs g v, all-end combined nothing)
       all-ok (Then p ps) c combined g v =
           all-then p ps combined g (evalPart evaluate G p g) (part-ok p (c .0) g v) (λ w g′ v′. all-ok ps (c .1) w g′ v′)
 
-      any-ok : (ps : Parts) → AllCalls (CallOk (W .allowed) G) ps → (combined : Answer) (g : Graph) → State W xs g
+      any-ok : (ps : Parts) → AllCalls (Callable W xs) ps → (combined : Answer) (g : Graph) → State W xs g
           → After W xs g (ForAny combined ps) (evalAny evaluate G ps combined g)
       any-ok End c combined g v = (nothing, change-nothing W xs g v, any-end combined nothing)
       any-ok (Then p ps) c combined g v =
           any-then p ps combined g (evalPart evaluate G p g) (part-ok p (c .0) g v) (λ w g′ v′. any-ok ps (c .1) w g′ v′)
 
-      met-ok : (ps : Parts) → AllCalls (CallOk (W .allowed) G) ps → MetOk ps
+      met-ok : (ps : Parts) → AllCalls (Callable W xs) ps → MetOk ps
       met-ok End c combined others g₀ g D O F s a f u = met-end combined others g₀ g D O F s a f u (canIgnore others (g .stack)) refl
       met-ok (Then p ps) c combined others g₀ g D O F s a f u =
           met-then p ps (λ g′ v′. part-ok p (c .0) g′ v′)
           (λ w o h₀ h D′ O′ F′ s′ a′ f′ u′. met-ok ps (c .1) w o h₀ h D′ O′ F′ s′ a′ f′ u′) combined others g₀ g D O F s a f u
 
-      pick-ok : (ps : Parts) → AllCalls (CallOk (W .allowed) G) ps → PickOk ps
+      pick-ok : (ps : Parts) → AllCalls (Callable W xs) ps → PickOk ps
       pick-ok End c combined others g₀ g D O s a f = (D, s, pick-end D combined)
       pick-ok (Then p ps) c combined others g₀ g D O s a f =
           pick-then p ps (λ g′ v′. part-ok p (c .0) g′ v′) (λ w o h₀ h D′ O′ F′ s′ a′ f′ u′. met-ok ps (c .1) w o h₀ h D′ O′ F′ s′ a′ f′ u′)

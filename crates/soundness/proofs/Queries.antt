@@ -138,7 +138,7 @@ module _ (W : World) where
         live = omega arith;
         cache = record { order = p .order; claims = v .fits (p .order .size) };
       })
-      (p .inside) (λ l. absurd (omega arith))
+      (p .inside) tt
 
   module _ (set : Bool → Goals) (judged : Judges W set) where
     record Replied (goal : ℕ) (r : Reply) : Type 0 where

@@ -21,7 +21,8 @@ use Rattle.definition.specs.declared.replies.Refusal.the-variants.{BookBody, Bo
 use Rattle.soundness.specs.Statement.{EveryLine}
 use Rattle.definition.proofs.Tests.{and-left, and-right}
 use Rattle.soundness.proofs.Logic.{clash, of-true}
-use Rattle.soundness.proofs.World.{AllCalls, BookOk, CallOk, Calls, EveryPart}
+use Rattle.soundness.proofs.Calls.{AllCalls, Calls, EveryPart}
+use Rattle.soundness.proofs.World.{BookOk, CallOk}
 
 -- what holds of every line gives what holds of every call
 module _ (n : ℕ) (P : Line → Type 0) (Q : ℕ → PathKind → Type 0)

@@ -26,7 +26,7 @@ use Rattle.soundness.proofs.Traces.{only-append}
 use Rattle.soundness.proofs.World.{World}
 use Rattle.soundness.proofs.Counters.{Reads, counter, counter-none, limit-positive}
 use Rattle.soundness.proofs.Assumed.{A, Base, Within, assumes-none, baseOf, basesOf, length-bases}
-use Rattle.soundness.proofs.Inv.{After, BasesOk, CacheOk, EntryOk, Gain, Inv, State, Change, readsOf, top-gains}
+use Rattle.soundness.proofs.Inv.{After, BasesOk, CacheOk, EntryOk, Gain, Inv, State, Change, all-above, readsOf, top-gains, under-above}
 use Rattle.soundness.proofs.Changes.{every-map}
 use Rattle.soundness.proofs.Parts.{RightGoal}
 use Rattle.soundness.proofs.Settle.{Turn, Why, again, ends, mixed, settled, turn, without}
@@ -113,7 +113,7 @@ module _ (W : World) (xs : List Base) (fs : Stack) (goal available : ℕ) (here 
       → Finished W xs fs goal available (withStack g fs) (finalize f o a)
   not-a-head x f g a o v e =
       finish x f g a v o a (g .provisionalCache)
-      (without W x xs (v .reads) (readsOf (f .heads)) noUsages a (v .under) (rw e at (v .top)) (v .right)
+      (without W x xs (v .reads) (readsOf (f .heads)) noUsages a (v .under) (rw e at (v .top)) (under-above W x xs (v .bases) (readsOf (f .heads))) (v .right)
       (assumes-none (W .start (x .goal)) (x .provisional) (counter noUsages) counter-none))
       (every-map _ _ (λ y w. finished W x xs f fs len y w e) (g .provisionalCache) (v .entries)) (omega arith)
 
@@ -170,7 +170,8 @@ module _ (W : World) (xs : List Base) (fs : Stack) (goal available : ℕ) (here 
         let z : f .provisionalResult ≡ x .provisional = ap (λ (y : Base). y .provisional) (v .same) in
         let w′ : Why (x .provisional) u a reason = rw z at w in
         rw (e, endIteration)
-        (rebase x f g a o v u reason a w′ (settled W x xs (v .reads) (readsOf (f .heads)) u a (v .under) (rw h at (v .top)) (v .right) w′))
+        (rebase x f g a o v u reason a w′ (settled W x xs (v .reads) (readsOf (f .heads)) u a (v .under) (rw h at (v .top))
+        (under-above W x xs (v .bases) (readsOf (f .heads))) (v .right) w′))
     turn-ok x f g a o v u h Rerun again e = rw (e, endIteration) (ok o x f g a v)
 
     next-ok : (x : Base) (f : Frame) (g : Graph) (a : Answer) (o : Bool) → Ran x f g a → (u : Option HeadUsages) → f .usages ≡ u
@@ -204,7 +205,7 @@ module _ (W : World) (xs : List Base) (fs : Stack) (goal available : ℕ) (here 
       result = λ b e n.
           let z : a ≡ b = cc in
           rw z at (W .free a (x .goal) (λ y. n (sym z ∙ y)) (A W (x ∷ xs) (v .reads)) nobody
-          (W .pop a (A W (x ∷ xs) (v .reads)) (x .goal) (v .right)));
+          (W .pop a (A W (x ∷ xs) (v .reads)) (x .goal) (all-above W x xs (v .bases) (v .reads)) (v .right)));
       byCall = v .bases .0 .byCall;
       apart = v .bases .0 .apart;
     },

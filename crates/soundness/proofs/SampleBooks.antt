@@ -14,7 +14,7 @@ use Rattle.soundness.specs.Statement.{Query}
 abbrev field : ℕ → List ℕ
 field d = 32 ∷ 32 ∷ (48 + d) ∷ []
 
-abbrev digits : ℕ → ℕ → ℕ → ℕ → ℕ → List ℕ
+abbrev pub digits : ℕ → ℕ → ℕ → ℕ → ℕ → List ℕ
 digits a b c d e = field a ++ (field b ++ (field c ++ (field d ++ (field e ++ (10 ∷ [])))))
 
 abbrev pub line : ℕ → ℕ → ℕ → ℕ → ℕ → Line
