@@ -6,8 +6,10 @@ use mathlib.Core.List.{List, [], _∷_}
 use Prim.Native.Nat.{ℕ, _≤_, _<_}
 use native.Mathlib.Decide.{decLt}
 use native.Mathlib.Omega.{arith}
+use lib.Dec.{T}
 use lib.ListN.{length, getD, List·getD-eq-default}
 use Rattle.definition.specs.declared.format.Line.{Line}
+use Rattle.definition.specs.declared.paths.PathKind.{PathKind}
 use Rattle.definition.specs.declared.replies.Refusal.the-variants.{BookLength, BookLine}
 use Rattle.definition.specs.Part.{Book}
 use Rattle.definition.specs.Reader.{BookRead, Accepted, Rejected, readHeader, lengthInRange, linesOf, readBook}
@@ -15,10 +17,18 @@ use Rattle.book.specs.Lines.{linesIn, linesIf, allFit}
 use Rattle.book.proofs.Lines.{lines-of}
 use Rattle.book.specs.Read.{bookIn}
 use Rattle.book.proofs.Books.{length-fits, accepted-range}
-use Rattle.soundness.specs.Groups.{stepLines, callsSome, linked}
+use Rattle.soundness.specs.Groups.{stepLines, callsSome, hasStep, linked}
+use Rattle.soundness.proofs.World.{BookOk, CallOk, anyKind}
+use Rattle.soundness.proofs.EveryBook.{any-read}
+use Rattle.soundness.proofs.Calls.{step-is}
+use Rattle.soundness.proofs.Reach.{calls-inside, reaches-inside, linked-to}
 use Rattle.guarantee.specs.Engine.{IsAccepted, inMask, meets, CallMasks}
 use Rattle.guarantee.proofs.Lines.{someStep, into, beyond}
 use Rattle.guarantee.proofs.Masks.{meets-none}
+
+is-false : (x : Bool) → (T x → ⊥) → x ≡ false
+is-false true h = absurd (h tt)
+is-false false h = refl
 
 module _ (b : Book) where
   abbrev byLength : Bool → Option (List Line) → BookRead
@@ -49,16 +59,26 @@ module _ (bytes : List ℕ) (is : IsAccepted bytes) where
   pub few-goals : bookIn bytes .header .goals ≤ 64
   few-goals = accepted-range (bookIn bytes) bytes is .few-goals
 
+  ok : BookOk anyKind (bookIn bytes)
+  ok = any-read bytes (bookIn bytes) is
+
+  known : (c y : ℕ) (k : PathKind) → T (hasStep (bookIn bytes) c y k) → y < bookIn bytes .header .goals
+  known c y k t = step-is (CallOk anyKind (bookIn bytes .header .goals)) (bookIn bytes) (ok .calls) c y k t .0
+
   -- a goal of the book is linked to goals of the book only
   pub outside : (g k : ℕ) → g < bookIn bytes .header .goals → bookIn bytes .header .goals ≤ k → linked (bookIn bytes) g k ≡ false
-  outside g k near far = ?
+  outside g k near far =
+      is-false (linked (bookIn bytes) g k)
+      (λ t. omega (arith, reaches-inside (bookIn bytes) (ok .whole) known g k near (linked-to (bookIn bytes) (ok .whole) g k t)))
 
   -- ---- the lines' steps are the calls of the parts
   calls-by-lines : (i m : ℕ) → someStep (into i m) (stepLines (linesIn bytes)) ≡ callsSome (bookIn bytes) (λ g kind. inMask m g) i
   calls-by-lines i m = ?
 
   no-calls : (i m : ℕ) → 64 ≤ i → callsSome (bookIn bytes) (λ g kind. inMask m g) i ≡ false
-  no-calls i m far = ?
+  no-calls i m far =
+      is-false (callsSome (bookIn bytes) (λ g kind. inMask m g) i)
+      (λ t. omega (arith, few-goals, calls-inside (bookIn bytes) (ok .whole) (λ g kind. inMask m g) i t))
 
   pub callers-near : someStep (beyond (bookIn bytes .header .goals)) (stepLines (linesIn bytes)) ≡ false
   callers-near = ?

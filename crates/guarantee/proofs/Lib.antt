@@ -5,3 +5,4 @@ pub mod Accepted
 pub mod Numbers
 pub mod Conflicts
 pub mod Books
+pub mod Inside
