@@ -10,15 +10,14 @@ use Rattle.definition.specs.declared.answers.Answer.the-variants.{No, Yes, Unde
 use Rattle.definition.specs.declared.replies.Response.{Response}
 use Rattle.definition.specs.declared.replies.Response.the-variants.{Answered, Refused}
 use Rattle.definition.specs.Query.{Reply, query, zeros}
-use Rattle.soundness.specs.Sets.{Goals, least, greatest}
-use Rattle.soundness.specs.Groups.{grouped}
-use Rattle.soundness.specs.Statement.{RightReply}
+use Rattle.soundness.specs.Sets.{Goals}
+use Rattle.soundness.specs.Statement.{Query, RightReply, replyTo}
 use Rattle.definition.proofs.Lists.{part-from}
 use Rattle.query.specs.Replies.{replied, responseCode}
 use Rattle.query.specs.Carried.{Carried}
 use Rattle.query.specs.Lists.{Replies, repliedAll, withCode, askEach, askAll, EachAsked, CodesOfTable, RightCode, EveryCodeRight}
 use Rattle.query.specs.Table.{CodeOfTable}
-use Rattle.query.proofs.Carries.{right-query, new-cache}
+use Rattle.query.proofs.Carries.{new-cache, of-set-each, of-set-map, right-query, right-reply}
 use Rattle.query.proofs.Table.{some-refusal, query-table, code-table}
 
 -- codes that were written before
@@ -117,29 +116,25 @@ module _ (bytes cache work questions codes : List ℕ) where
   abbrev written : List ℕ
   written = askAll bytes cache work questions codes .codes
 
-  -- where every query with a cache that was carried is right
-  all-right : (set : Bool → Goals)
-      → ((cache work : List ℕ) (goal depth : ℕ) → Carried bytes cache → RightReply set goal (query bytes cache work goal depth))
-      → EachAsked questions written (RightCode set)
+  -- a query with a cache that was carried, and that its reply is right
+  abbrev Asked : Type 0
+  Asked = (q : Query) × (cache : List ℕ) × Carried bytes cache
+
+  abbrev Right : Asked → (Bool → Goals) → Type 0
+  Right (q, cache, c) set = RightReply set (q .goal) (replyTo bytes cache q)
+
+  all-right : (set : Bool → Goals) → ((a : Asked) → Right a set) → EachAsked questions written (RightCode set)
   all-right set right =
       each-asked bytes (Carried bytes) (RightCode set)
       (λ cache work goal depth c. right-query bytes cache work goal depth _ refl c .carried)
-      (λ cache work goal depth c. right-code set goal (query bytes cache work goal depth) (right cache work goal depth c))
+      (λ cache work goal depth c. right-code set goal (query bytes cache work goal depth)
+      (right (record { goal = goal; depth = depth; work = work }, cache, c)))
       (zeros cache) work questions codes (new-cache bytes cache)
 
   every-code : EveryCodeRight bytes questions written
   every-code =
-      record {
-        no-coinductive-step = λ b ls e f g.
-            all-right (least b)
-            (λ cache work goal depth c. right-query bytes cache work goal depth _ refl c .right .no-coinductive-step b ls e f g);
-        no-inductive-step = λ b ls e f g.
-            all-right (greatest b)
-            (λ cache work goal depth c. right-query bytes cache work goal depth _ refl c .right .no-inductive-step b ls e f g);
-        by-groups = λ b e choice chosen.
-            all-right (grouped b choice)
-            (λ cache work goal depth c. right-query bytes cache work goal depth _ refl c .right .by-groups b e choice chosen);
-      }
+      of-set-map bytes (λ set. (a : Asked) → Right a set) (λ set. EachAsked questions written (RightCode set)) all-right
+      (of-set-each bytes Right (λ a. right-reply bytes (a .0) (a .1) (a .2) .right))
 
   codes-table : CodesOfTable questions written
   codes-table =

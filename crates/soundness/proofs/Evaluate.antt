@@ -26,8 +26,8 @@ use Rattle.soundness.specs.Always.{Apart, Distinct, Every, FrameInOrder,
 use Rattle.soundness.specs.Sets.{holds}
 use Rattle.soundness.proofs.Logic.{clash, inside, nobody, of-false, outside}
 use Rattle.soundness.proofs.Support.{step}
-use Rattle.soundness.proofs.Calls.{Calls, calls-both, calls-map, part-is}
-use Rattle.soundness.proofs.World.{CallOk, World, anyKind}
+use Rattle.soundness.proofs.Calls.{Calls, steps-of}
+use Rattle.soundness.proofs.World.{World}
 use Rattle.soundness.proofs.Counters.{Reads, nothing}
 use Rattle.soundness.proofs.Assumed.{A, A-mono, A-none, A-under, Base, baseOf, basesOf, length-bases}
 use Rattle.soundness.proofs.Inv.{After, BasesOk, CalledBy, EntryOk, Gain, State, distinct-goals, goals-here, goalsIn, readsOf}
@@ -264,11 +264,8 @@ top-goal h (f ∷ fs) x xs e v = let z : baseOf f ≡ x = cc in subst (λ (y : B
 pub callable : (W : World) (x : Base) (xs : List Base) (p : Part) → partAt (W .book .parts) (x .goal) ≡ some p
     → Calls (Callable W (x ∷ xs)) p
 callable W x xs p e =
-    let InBook : ℕ → PathKind → Type 0 = CallOk anyKind (W .book .header .goals) in
-    let Step : ℕ → PathKind → Type 0 = λ y k. T (W .step (x .goal) y k) in
-    calls-map (λ y k. InBook y k × Step y k) (Callable W (x ∷ xs)) (λ y k c. (c .0 .0, c .1)) p
-    (calls-both InBook Step p (part-is (Calls InBook) (W .book .parts) (W .read .calls) (x .goal) p e)
-    (W .steps (x .goal) p e))
+    steps-of (Callable W (x ∷ xs)) (W .book) (x .goal) p e
+    (λ y k t. (W .read .inside (x .goal) y k t, W .steps (x .goal) y k t))
 
 module _ (W : World) (xs : List Base) (evaluate : Evaluator) (ok : EvalOk W xs evaluate) (g : Graph) (v : State W xs g) (goal : ℕ)
     (inside : goal < W .book .header .goals)

@@ -31,7 +31,8 @@ use Rattle.soundness.specs.Statement.{EveryLine}
 use Rattle.definition.proofs.Tests.{and-left, and-right}
 use Rattle.soundness.proofs.Logic.{clash, of-true}
 use Rattle.soundness.proofs.Support.{step}
-use Rattle.soundness.proofs.World.{BookOk, World, anyKind}
+use Rattle.soundness.proofs.Calls.{BookOk}
+use Rattle.soundness.proofs.World.{World}
 use Rattle.soundness.proofs.Counters.{Reads}
 use Rattle.soundness.proofs.Assumed.{Base, basesOf, length-bases}
 use Rattle.soundness.proofs.Inv.{After, BasesOk, CalledBy, EntryOk, State, goals-here, goalsIn, in-order, known-bound}
@@ -42,7 +43,7 @@ use Rattle.soundness.proofs.Pigeons.{all-on-stack}
 use Rattle.soundness.proofs.Evaluate.{compute-ok, evaluate-ok, frame-ok}
 use Rattle.soundness.proofs.Meets.{evaluate-meets}
 use Rattle.soundness.proofs.Refusals.{evaluate-run}
-use Rattle.soundness.proofs.Reading.{Early, book-read, book-rejected}
+use Rattle.soundness.proofs.Reading.{Early, any-read, rejected-early}
 use Rattle.soundness.proofs.Books.{any-book}
 use Rattle.soundness.proofs.Queries.{Passed, passed}
 
@@ -50,7 +51,7 @@ use Rattle.soundness.proofs.Queries.{Passed, passed}
 apart-bases : (y : ℕ) (s : Stack) → Apart y (goalsOf s) → Apart y (goalsIn (basesOf s))
 apart-bases y s v = subst (λ (l : List ℕ). Apart y l) (sym (goals-here s (basesOf s) refl)) v
 
-module _ (b : Book) (ok : BookOk anyKind b) where
+module _ (b : Book) (ok : BookOk b) where
   abbrev W : World
   W = any-book b ok
 
@@ -202,7 +203,7 @@ ends-of h g₀ e (Done g a) (v, same) = let z : g .stack ≡ [] = no-frames (g .
     no-frames [] q = refl
     no-frames (f ∷ fs) q = clash (cc)
 
-pub always-in-order : (b : Book) → BookOk anyKind b → Always b
+pub always-in-order : (b : Book) → BookOk b → Always b
 always-in-order b ok =
     record {
       starts = starts-in-order b ok;
@@ -219,13 +220,6 @@ always-in-order b ok =
     }
 
 -- ---- the query
-any-line : (ls : List Line) → EveryLine (λ l. Unit {0}) ls
-any-line [] = tt
-any-line (l ∷ ls) = (tt, any-line ls)
-
-pub any-read : (bytes : List ℕ) (b : Book) → readBook bytes ≡ Accepted b → BookOk anyKind b
-any-read bytes b e = book-read anyKind (λ l. Unit {0}) (λ n l p c i. (i, tt)) bytes b e (λ ls f. any-line ls)
-
 -- a refusal that is not early comes of the evaluation
 abbrev AllEarly : List Check → Type 0
 AllEarly [] = Unit {0}
@@ -265,8 +259,7 @@ module _ (r : Refusal) (late : Early r → ⊥) (cache work : List ℕ) (goal de
       let (p, s) = of-checks b (firstFailed (checks b cache work goal depth)) refl z in (b, e, p, s)
   of-book bytes (Rejected q) e z =
       let w : q ≡ r = cc in
-      absurd (late
-      (rw w at (book-rejected anyKind (λ l. Unit {0}) (λ n l p c i. (i, tt)) bytes q e (λ ls f. any-line ls))))
+      absurd (late (rw w at (rejected-early bytes q e)))
 
 not-expected : (r : Refusal) → Expected r → r ≢ Unreachable
 not-expected r (inl e) z = clash (cc)

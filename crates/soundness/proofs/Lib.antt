@@ -36,6 +36,7 @@ pub mod SampleStatement
 pub mod SampleTrace
 pub mod Settle
 pub mod Slots
+pub mod StepLines
 pub mod Support
 pub mod Theorems
 pub mod Traces

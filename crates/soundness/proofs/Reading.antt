@@ -1,144 +1,209 @@
--- A book that was read: what holds of its lines gives what holds of its calls.
-use mathlib.Core.Bool.{Bool, _&&_, false, true}
+-- A book that was read: every call is of one of its goals, and the calls of its parts are those of its lines.
+use mathlib.Core.Bool.{Bool, _&&_, _||_, false, true}
 use mathlib.Core.List.{List, [], _∷_}
 use mathlib.Core.Option.{Option, none, some}
-use mathlib.Core.Path.{_≡_, ap, refl}
+use mathlib.Core.Path.{_∙_, _≡_, ap, refl, sym}
 use Prim.Native.Nat.{_/_, _<_, suc, zero, ℕ}
 use native.Mathlib.Nat.{div-add-mod', mod-lt}
 use native.Mathlib.Omega.{arith}
-use lib.Dec.{T, eqb, leb, leb→le, ltb, ltb→lt}
+use lib.Dec.{T, eqb, eqb→eq, leb, leb→le, ltb, ltb→lt}
 use lib.ListN.{drop, length, take}
 use Rattle.definition.specs.Answers.{refusalNumber}
 use Rattle.definition.specs.Line.{readLine, readLines}
-use Rattle.definition.specs.Part.{All, Any, Book, Call, Op, Part, Pick, Then, UndecidedLine}
-use Rattle.definition.specs.Paths.{kindOf}
+use Rattle.definition.specs.Part.{All, Any, Book, Call, Op, Part, Pick, Then, UndecidedLine, partAt}
+use Rattle.definition.specs.Paths.{kindOf, sameKind}
 use Rattle.definition.specs.Reader.{Accepted, BookRead, Rejected, TakenGoals, TakenPart, TakenParts, endOfBody, headerInRange, headerOf, isGoalLine, lengthInRange, linesOf, nestingLimit, nodeOf, readBody, readBook, readByCode, readFirst, readGoal, readGoals, readHeader, readNode, readPart, readParts, readPick, usesFirst}
 use Rattle.definition.specs.declared.format.Header.{Header}
 use Rattle.definition.specs.declared.format.Line.{Line}
 use Rattle.definition.specs.declared.paths.PathKind.{PathKind}
 use Rattle.definition.specs.declared.replies.Refusal.{Refusal}
 use Rattle.definition.specs.declared.replies.Refusal.the-variants.{BookBody, BookHeader, BookLength, BookLine}
-use Rattle.soundness.specs.Statement.{EveryLine}
+use Rattle.soundness.specs.Groups.{hasStep, someCall, someCallIn}
 use Rattle.definition.proofs.Tests.{and-left, and-right}
 use Rattle.soundness.proofs.Logic.{clash, of-true}
-use Rattle.soundness.proofs.Calls.{AllCalls, Calls, EveryPart}
-use Rattle.soundness.proofs.World.{BookOk, CallOk}
+use Rattle.soundness.proofs.Calls.{AllCalls, BookOk, Calls, exactly, some-call}
 
--- what holds of every line gives what holds of every call
-module _ (n : ℕ) (P : Line → Type 0) (Q : ℕ → PathKind → Type 0)
-    (one : (l : Line) → P l → l .code ≡ 2 → l .first < n → Q (l .first) (kindOf (l .second))) where
-  abbrev One : Option TakenPart → Type 0
-  One none = Unit {0}
-  One (some t) = Calls Q (t .part) × EveryLine P (t .rest)
+or-assoc : (a b c : Bool) → (a || (b || c)) ≡ ((a || b) || c)
+or-assoc true b c = refl
+or-assoc false b c = refl
 
-  abbrev Several : Option TakenParts → Type 0
-  Several none = Unit {0}
-  Several (some t) = AllCalls Q (t .parts) × EveryLine P (t .rest)
+-- a wanted call stands in the lines, or in the parts: its caller, its goal and its kind
+module _ (wanted : ℕ → ℕ → PathKind → Bool) where
+  -- the goal line before these lines is the caller's
+  abbrev pub inLines : ℕ → List Line → Bool
+  inLines caller [] = false
+  inLines caller (l ∷ ls) =
+      elim (eqb (l .code) 1) [
+        | true ↦ inLines (l .first) ls
+        | false ↦ (eqb (l .code) 2 && wanted caller (l .first) (kindOf (l .second))) || inLines caller ls
+      ]
 
-  -- m goals
-  abbrev SomeGoals : ℕ → Option TakenGoals → Type 0
-  SomeGoals m none = Unit {0}
-  SomeGoals m (some t) = (length (t .parts) ≡ m) × EveryPart (Calls Q) (t .parts) × EveryLine P (t .rest)
+  -- the parts are of goal g and those after it
+  abbrev pub inParts : ℕ → List Part → Bool
+  inParts g [] = false
+  inParts g (p ∷ ps) = someCall (wanted g) p || inParts (suc g) ps
 
-  abbrev Reader : (List Line → Option TakenPart) → Type 0
-  Reader read = (ls : List Line) → EveryLine P ls → One (read ls)
+-- what is taken off the lines: each call is of a goal below n, and a wanted call stands in what is taken or in the lines left
+module _ (n : ℕ) (wanted : ℕ → ℕ → PathKind → Bool) where
+  abbrev Below : ℕ → PathKind → Type 0
+  Below goal kind = goal < n
 
-  call-ok : (l : Line) → P l → l .code ≡ 2 → (rest : List Line) → EveryLine P rest → (t : Bool)
+  abbrev One : ℕ → List Line → Option TakenPart → Type 0
+  One c ls none = Unit {0}
+  One c ls (some t) =
+      Calls Below (t .part) × (inLines wanted c ls ≡ (someCall (wanted c) (t .part) || inLines wanted c (t .rest)))
+
+  abbrev Several : ℕ → List Line → Option TakenParts → Type 0
+  Several c ls none = Unit {0}
+  Several c ls (some t) =
+      AllCalls Below (t .parts) × (inLines wanted c ls ≡ (someCallIn (wanted c) (t .parts) || inLines wanted c (t .rest)))
+
+  -- m goals from goal g on, where no line is left
+  pub record Goals (g m c : ℕ) (ls : List Line) (t : TakenGoals) : Type 0 where
+    pub whole : length (t .parts) ≡ m
+    pub below : (y : ℕ) (p : Part) → partAt (t .parts) y ≡ some p → Calls Below p
+    pub calls : t .rest ≡ [] → inLines wanted c ls ≡ inParts wanted g (t .parts)
+
+  abbrev SomeGoals : ℕ → ℕ → ℕ → List Line → Option TakenGoals → Type 0
+  SomeGoals g m c ls none = Unit {0}
+  SomeGoals g m c ls (some t) = Goals g m c ls t
+
+  abbrev Reader : ℕ → (List Line → Option TakenPart) → Type 0
+  Reader c read = (ls : List Line) → One c ls (read ls)
+
+  call-line : (c : ℕ) (l : Line) (rest : List Line) → l .code ≡ 2
+      → inLines wanted c (l ∷ rest) ≡ (wanted c (l .first) (kindOf (l .second)) || inLines wanted c rest)
+  call-line c l rest e = rw e refl
+
+  -- a line that is neither a goal's nor a call
+  abbrev Other : Line → Type 0
+  Other l = (eqb (l .code) 1 ≡ false) × (eqb (l .code) 2 ≡ false)
+
+  other-line : (c : ℕ) (l : Line) (rest : List Line) → Other l → inLines wanted c (l ∷ rest) ≡ inLines wanted c rest
+  other-line c l rest o = rw (o .0, inLines) (rw (o .1) refl)
+
+  call-ok : (c : ℕ) (l : Line) → l .code ≡ 2 → (rest : List Line) (t : Bool)
       → (ltb (l .first) n && leb (l .second) 3 && leb (l .third) 1 && eqb (l .fourth) 0) ≡ t
-      → One (elim t [ true ↦ some (record { part = Call (l .first) (kindOf (l .second)) (eqb (l .third) 1); rest = rest }) | false ↦ none ])
-  call-ok l p c rest v true e = (one l p c (ltb→lt (l .first) n (first-ok (of-true _ e))), v)
+      → One c (l ∷ rest) (elim t [ true ↦ some (record { part = Call (l .first) (kindOf (l .second)) (eqb (l .third) 1); rest = rest }) | false ↦ none ])
+  call-ok c l e rest true f = (ltb→lt (l .first) n (first-ok (of-true _ f)), call-line c l rest e)
     where
       first-ok : T (ltb (l .first) n && leb (l .second) 3 && leb (l .third) 1 && eqb (l .fourth) 0) → T (ltb (l .first) n)
       first-ok t = search (and-left, and-right)
-  call-ok l p c rest v false e = tt
+  call-ok c l e rest false f = tt
 
-  unsure-ok : (rest : List Line) → EveryLine P rest → (t : Bool)
-      → One (elim t [ true ↦ some (record { part = UndecidedLine; rest = rest }) | false ↦ none ])
-  unsure-ok rest v true = (tt, v)
-  unsure-ok rest v false = tt
+  unsure-ok : (c : ℕ) (l : Line) → Other l → (rest : List Line) (t : Bool)
+      → One c (l ∷ rest) (elim t [ true ↦ some (record { part = UndecidedLine; rest = rest }) | false ↦ none ])
+  unsure-ok c l e rest true = (tt, other-line c l rest e)
+  unsure-ok c l e rest false = tt
 
-  then-ok : (p : Part) → Calls Q p → (o : Option TakenParts) → Several o
-      → Several (elim o [ none ↦ none | some ps ↦ some (record { parts = Then p (ps .parts); rest = ps .rest }) ])
-  then-ok p h none s = tt
-  then-ok p h (some ps) s = ((h, s .0), s .1)
+  then-ok : (c : ℕ) (ls : List Line) (p : TakenPart) → One c ls (some p) → (o : Option TakenParts) → Several c (p .rest) o
+      → Several c ls (elim o [ none ↦ none | some ps ↦ some (record { parts = Then (p .part) (ps .parts); rest = ps .rest }) ])
+  then-ok c ls p h none s = tt
+  then-ok c ls p h (some ps) s = (
+    (h .0, s .0),
+    h .1 ∙ (ap (_||_ (someCall (wanted c) (p .part))) (s .1) ∙ or-assoc (someCall (wanted c) (p .part)) (someCallIn (wanted c) (ps .parts)) (inLines wanted c (ps .rest))),
+  )
 
-  more-ok : (read : List Line → Option TakenPart) (m : ℕ) → ((ls : List Line) → EveryLine P ls → Several (readParts read m ls))
-      → (o : Option TakenPart) → One o
-      → Several (elim o [
+  more-ok : (c : ℕ) (read : List Line → Option TakenPart) (m : ℕ) → ((ls : List Line) → Several c ls (readParts read m ls))
+      → (ls : List Line) (o : Option TakenPart) → One c ls o
+      → Several c ls (elim o [
         | none ↦ none
         | some p ↦
             elim (readParts read m (p .rest)) [ none ↦ none | some ps ↦ some (record { parts = Then (p .part) (ps .parts); rest = ps .rest }) ]
       ])
-  more-ok read m ih none h = tt
-  more-ok read m ih (some p) h = then-ok (p .part) (h .0) (readParts read m (p .rest)) (ih (p .rest) (h .1))
+  more-ok c read m ih ls none h = tt
+  more-ok c read m ih ls (some p) h = then-ok c ls p h (readParts read m (p .rest)) (ih (p .rest))
 
-  several-ok : (read : List Line → Option TakenPart) → Reader read → (m : ℕ) (ls : List Line) → EveryLine P ls → Several (readParts read m ls)
-  several-ok read r zero ls v = (tt, v)
-  several-ok read r (suc m) ls v = more-ok read m (λ ls′ v′. several-ok read r m ls′ v′) (read ls) (r ls v)
+  several-ok : (c : ℕ) (read : List Line → Option TakenPart) → Reader c read → (m : ℕ) (ls : List Line) → Several c ls (readParts read m ls)
+  several-ok c read r zero ls = (tt, refl)
+  several-ok c read r (suc m) ls = more-ok c read m (λ ls′. several-ok c read r m ls′) ls (read ls) (r ls)
 
-  nodeOf-ok : (op : Op) (o : Option TakenParts) → Several o → One (nodeOf op o)
-  nodeOf-ok op none s = tt
-  nodeOf-ok op (some ps) s = s
+  node-one : (op : Op) (c : ℕ) (l : Line) → Other l → (rest : List Line) (o : Option TakenParts) → Several c rest o → (t : Bool)
+      → One c (l ∷ rest) (elim t [ true ↦ nodeOf op o | false ↦ none ])
+  node-one op c l e rest (some ps) s true = (s .0, other-line c l rest e ∙ s .1)
+  node-one op c l e rest none s true = tt
+  node-one op c l e rest o s false = tt
 
-  group-one : (op : Op) (o : Option TakenParts) → Several o → (t : Bool) → One (elim t [ true ↦ nodeOf op o | false ↦ none ])
-  group-one op o s true = nodeOf-ok op o s
-  group-one op o s false = tt
+  node-ok : (op : Op) (c : ℕ) (read : List Line → Option TakenPart) → Reader c read → (l : Line) → Other l → (rest : List Line)
+      → One c (l ∷ rest) (readNode op read l rest)
+  node-ok op c read r l e rest = node-one op c l e rest (readParts read (l .first) rest) (several-ok c read r (l .first) rest) (usesFirst l)
 
-  group-ok : (op : Op) (read : List Line → Option TakenPart) → Reader read → (l : Line) (rest : List Line) → EveryLine P rest
-      → One (readNode op read l rest)
-  group-ok op read r l rest v = group-one op (readParts read (l .first) rest) (several-ok read r (l .first) rest v) (usesFirst l)
+  pick-ok : (c : ℕ) (inPick : Bool) (read : List Line → Option TakenPart) → Reader c read → (l : Line) → Other l
+      → (rest : List Line) → One c (l ∷ rest) (readPick inPick read l rest)
+  pick-ok c true read r l e rest = tt
+  pick-ok c false read r l e rest = node-ok Pick c read r l e rest
 
-  pick-ok : (inPick : Bool) (read : List Line → Option TakenPart) → Reader read → (l : Line) (rest : List Line) → EveryLine P rest
-      → One (readPick inPick read l rest)
-  pick-ok true read r l rest v = tt
-  pick-ok false read r l rest v = group-ok Pick read r l rest v
+  code-ok : (c code : ℕ) (inPick : Bool) (inner : Bool → List Line → Option TakenPart) → ((b : Bool) → Reader c (inner b)) → (l : Line)
+      → l .code ≡ code → (rest : List Line) → One c (l ∷ rest) (readByCode n code inPick inner l rest)
+  code-ok c zero inPick inner r l e rest = tt
+  code-ok c (suc zero) inPick inner r l e rest = tt
+  code-ok c (suc (suc zero)) inPick inner r l e rest = call-ok c l e rest _ refl
+  code-ok c (suc (suc (suc zero))) inPick inner r l e rest = node-ok All c (inner inPick) (r inPick) l (rw e (refl, refl)) rest
+  code-ok c (suc (suc (suc (suc zero)))) inPick inner r l e rest = node-ok Any c (inner inPick) (r inPick) l (rw e (refl, refl)) rest
+  code-ok c (suc (suc (suc (suc (suc zero))))) inPick inner r l e rest = pick-ok c inPick (inner true) (r true) l (rw e (refl, refl)) rest
+  code-ok c (suc (suc (suc (suc (suc (suc zero)))))) inPick inner r l e rest =
+      unsure-ok c l (rw e (refl, refl)) rest (eqb (l .first) 0 && eqb (l .second) 0 && eqb (l .third) 0 && eqb (l .fourth) 0)
+  code-ok c (suc (suc (suc (suc (suc (suc (suc k))))))) inPick inner r l e rest = tt
 
-  code-ok : (code : ℕ) (inPick : Bool) (inner : Bool → List Line → Option TakenPart) → ((b : Bool) → Reader (inner b)) → (l : Line) → l .code ≡ code
-      → P l → (rest : List Line) → EveryLine P rest
-      → One (readByCode n code inPick inner l rest)
-  code-ok zero inPick inner r l e p rest v = tt
-  code-ok (suc zero) inPick inner r l e p rest v = tt
-  code-ok (suc (suc zero)) inPick inner r l e p rest v = call-ok l p e rest v _ refl
-  code-ok (suc (suc (suc zero))) inPick inner r l e p rest v = group-ok All (inner inPick) (r inPick) l rest v
-  code-ok (suc (suc (suc (suc zero)))) inPick inner r l e p rest v = group-ok Any (inner inPick) (r inPick) l rest v
-  code-ok (suc (suc (suc (suc (suc zero))))) inPick inner r l e p rest v = pick-ok inPick (inner true) (r true) l rest v
-  code-ok (suc (suc (suc (suc (suc (suc zero)))))) inPick inner r l e p rest v =
-      unsure-ok rest v (eqb (l .first) 0 && eqb (l .second) 0 && eqb (l .third) 0 && eqb (l .fourth) 0)
-  code-ok (suc (suc (suc (suc (suc (suc (suc c))))))) inPick inner r l e p rest v = tt
+  front-ok : (c : ℕ) (inPick : Bool) (inner : Bool → List Line → Option TakenPart) → ((b : Bool) → Reader c (inner b))
+      → Reader c (readFirst n inPick inner)
+  front-ok c inPick inner r [] = tt
+  front-ok c inPick inner r (l ∷ ls) = code-ok c (l .code) inPick inner r l refl ls
 
-  front-ok : (inPick : Bool) (inner : Bool → List Line → Option TakenPart) → ((b : Bool) → Reader (inner b)) → Reader (readFirst n inPick inner)
-  front-ok inPick inner r [] v = tt
-  front-ok inPick inner r (l ∷ ls) v = code-ok (l .code) inPick inner r l refl (v .0) ls (v .1)
+  part-read : (c deep : ℕ) (inPick : Bool) → Reader c (readPart n deep inPick)
+  part-read c zero inPick ls = tt
+  part-read c (suc deep) inPick ls = front-ok c inPick (readPart n deep) (λ b ls′. part-read c deep b ls′) ls
 
-  part-read : (deep : ℕ) (inPick : Bool) → Reader (readPart n deep inPick)
-  part-read zero inPick ls v = tt
-  part-read (suc deep) inPick ls v = front-ok inPick (readPart n deep) (λ b ls′ v′. part-read deep b ls′ v′) ls v
+  -- a goal line is none of the goal before
+  goal-line : (c g : ℕ) (l : Line) (rest : List Line) → T (isGoalLine g l) → inLines wanted c (l ∷ rest) ≡ inLines wanted g rest
+  goal-line c g l rest t =
+      let code : l .code ≡ 1 = eqb→eq (l .code) 1 (search (and-left, and-right)) in
+      let first : l .first ≡ g = eqb→eq (l .first) g (search (and-left, and-right)) in
+      rw code (rw first refl)
 
-  goal-one : (o : Option TakenPart) → One o → (t : Bool) → One (elim t [ true ↦ o | false ↦ none ])
-  goal-one o h true = h
-  goal-one o h false = tt
+  -- the part of goal g, with the goal line before it
+  abbrev Own : ℕ → ℕ → List Line → Option TakenPart → Type 0
+  Own g c ls none = Unit {0}
+  Own g c ls (some t) =
+      Calls Below (t .part) × (inLines wanted c ls ≡ (someCall (wanted g) (t .part) || inLines wanted g (t .rest)))
 
-  goal-ok : (g : ℕ) → Reader (readGoal n g)
-  goal-ok g [] v = tt
-  goal-ok g (l ∷ ls) v = goal-one (readPart n nestingLimit false ls) (part-read nestingLimit false ls (v .1)) (isGoalLine g l)
+  goal-one : (c g : ℕ) (l : Line) (rest : List Line) (o : Option TakenPart) → One g rest o → (t : Bool) → isGoalLine g l ≡ t
+      → Own g c (l ∷ rest) (elim t [ true ↦ o | false ↦ none ])
+  goal-one c g l rest (some p) h true e = (h .0, goal-line c g l rest (of-true _ e) ∙ h .1)
+  goal-one c g l rest none h true e = tt
+  goal-one c g l rest o h false e = tt
 
-  next-ok : (m : ℕ) (p : Part) → Calls Q p → (o : Option TakenGoals) → SomeGoals m o
-      → SomeGoals (suc m) (elim o [ none ↦ none | some ps ↦ some (record { parts = p ∷ ps .parts; rest = ps .rest }) ])
-  next-ok m p h none s = tt
-  next-ok m p h (some ps) s = (ap suc (s .0), (h, s .1), s .2)
+  goal-ok : (c g : ℕ) (ls : List Line) → Own g c ls (readGoal n g ls)
+  goal-ok c g [] = tt
+  goal-ok c g (l ∷ ls) = goal-one c g l ls (readPart n nestingLimit false ls) (part-read g nestingLimit false ls) (isGoalLine g l) refl
 
-  goals-more : (g m : ℕ) → ((ls : List Line) → EveryLine P ls → SomeGoals m (readGoals n (suc g) m ls)) → (o : Option TakenPart) → One o
-      → SomeGoals (suc m) (elim o [
+  next-ok : (g m c : ℕ) (ls : List Line) (p : TakenPart) → Own g c ls (some p) → (o : Option TakenGoals) → SomeGoals (suc g) m g (p .rest) o
+      → SomeGoals g (suc m) c ls (elim o [ none ↦ none | some ps ↦ some (record { parts = p .part ∷ ps .parts; rest = ps .rest }) ])
+  next-ok g m c ls p h none s = tt
+  next-ok g m c ls p h (some ps) s =
+      record {
+        whole = ap suc (s .whole);
+        below = own;
+        calls = λ e. h .1 ∙ ap (_||_ (someCall (wanted g) (p .part))) (s .calls e);
+      }
+    where
+      own : (y : ℕ) (q : Part) → partAt (p .part ∷ ps .parts) y ≡ some q → Calls Below q
+      own zero q e = let z : p .part ≡ q = cc in rw z at (h .0)
+      own (suc y) q e = s .below y q e
+
+  goals-more : (g m c : ℕ) → ((ls : List Line) → SomeGoals (suc g) m g ls (readGoals n (suc g) m ls))
+      → (ls : List Line) (o : Option TakenPart) → Own g c ls o
+      → SomeGoals g (suc m) c ls (elim o [
         | none ↦ none
         | some p ↦
             elim (readGoals n (suc g) m (p .rest)) [ none ↦ none | some ps ↦ some (record { parts = p .part ∷ ps .parts; rest = ps .rest }) ]
       ])
-  goals-more g m ih none h = tt
-  goals-more g m ih (some p) h = next-ok m (p .part) (h .0) (readGoals n (suc g) m (p .rest)) (ih (p .rest) (h .1))
+  goals-more g m c ih ls none h = tt
+  goals-more g m c ih ls (some p) h = next-ok g m c ls p h (readGoals n (suc g) m (p .rest)) (ih (p .rest))
 
-  goals-ok : (m g : ℕ) (ls : List Line) → EveryLine P ls → SomeGoals m (readGoals n g m ls)
-  goals-ok zero g ls v = (refl, tt, v)
-  goals-ok (suc m) g ls v = goals-more g m (λ ls′ v′. goals-ok m (suc g) ls′ v′) (readGoal n g ls) (goal-ok g ls v)
+  goals-ok : (m g c : ℕ) (ls : List Line) → SomeGoals g m c ls (readGoals n g m ls)
+  goals-ok zero g c ls = record { whole = refl; below = λ y p e. clash (cc); calls = λ e. rw e refl }
+  goals-ok (suc m) g c ls = goals-more g m c (λ ls′. goals-ok m (suc g) g ls′) ls (readGoal n g ls) (goal-ok c g ls)
 
 -- a book of the right length has lines
 some-line : (n : ℕ) (s : List ℕ) (o : Option Line) (ls : Option (List Line))
@@ -163,49 +228,72 @@ enough n t = omega (arith, leb→le 48 n long, div-add-mod' n 16, mod-lt n {m = 
 abbrev pub Early : Refusal → Type 0
 Early r = T (leb (refusalNumber r) 9)
 
-module _ (allowed : PathKind → Bool) (P : Line → Type 0)
-    (one : (n : ℕ) (l : Line) → P l → l .code ≡ 2 → l .first < n → CallOk allowed n (l .first) (kindOf (l .second))) where
-  abbrev ReadOk : BookRead → Type 0
-  ReadOk (Accepted b) = BookOk allowed b
-  ReadOk (Rejected r) = Early r
+module _ (wanted : ℕ → ℕ → PathKind → Bool) where
+  -- the first line is the header
+  abbrev pub inBook : List Line → Bool
+  inBook [] = false
+  inBook (header ∷ ls) = inLines wanted 0 ls
 
-  end-ok : (h : Header) (ps : TakenGoals) → length (ps .parts) ≡ h .goals → EveryPart (Calls (CallOk allowed (h .goals))) (ps .parts)
-      → (ls : List Line) → ReadOk (endOfBody h ps ls)
-  end-ok h ps e v [] = record { whole = e; calls = v }
-  end-ok h ps e v (l ∷ ls) = tt
+  pub record Read (b : Book) (ls : List Line) : Type 0 where
+    pub whole : length (b .parts) ≡ b .header .goals
+    pub below : (y : ℕ) (p : Part) → partAt (b .parts) y ≡ some p → Calls (λ goal kind. goal < b .header .goals) p
+    pub calls : inBook ls ≡ inParts wanted 0 (b .parts)
 
-  body-one : (h : Header) (o : Option TakenGoals) → SomeGoals (h .goals) P (CallOk allowed (h .goals)) (one (h .goals)) (h .goals) o
-      → ReadOk (elim o [ none ↦ Rejected BookBody | some ps ↦ endOfBody h ps (ps .rest) ])
-  body-one h none v = tt
-  body-one h (some ps) v = end-ok h ps (v .0) (v .1) (ps .rest)
+  abbrev ReadOk : Option (List Line) → BookRead → Type 0
+  ReadOk o (Accepted b) = (ls : List Line) × (o ≡ some ls) × Read b ls
+  ReadOk o (Rejected r) = Early r
 
-  header-one : (l : Line) (ls : List Line) → EveryLine P ls → (t : Bool)
-      → ReadOk (elim t [ true ↦ readBody (headerOf l) ls | false ↦ Rejected BookHeader ])
-  header-one l ls v true =
-      body-one (headerOf l) (readGoals (l .first) 0 (l .first) ls)
-      (goals-ok (l .first) P (CallOk allowed (l .first)) (one (l .first)) (l .first) 0 ls v)
-  header-one l ls v false = tt
+  module _ (l : Line) (ls : List Line) where
+    abbrev h : Header
+    h = headerOf l
+
+    end-ok : (ps : TakenGoals) → Goals (h .goals) wanted 0 (h .goals) 0 ls ps → (rest : List Line) → ps .rest ≡ rest
+        → ReadOk (some (l ∷ ls)) (endOfBody h ps rest)
+    end-ok ps v [] e = (l ∷ ls, refl, record { whole = v .whole; below = v .below; calls = v .calls e })
+    end-ok ps v (l ∷ rest) e = tt
+
+    body-one : (o : Option TakenGoals) → SomeGoals (h .goals) wanted 0 (h .goals) 0 ls o
+        → ReadOk (some (l ∷ ls)) (elim o [ none ↦ Rejected BookBody | some ps ↦ endOfBody h ps (ps .rest) ])
+    body-one none v = tt
+    body-one (some ps) v = end-ok ps v (ps .rest) refl
+
+    header-one : (t : Bool) → ReadOk (some (l ∷ ls)) (elim t [ true ↦ readBody h ls | false ↦ Rejected BookHeader ])
+    header-one true = body-one (readGoals (h .goals) 0 (h .goals) ls) (goals-ok (h .goals) wanted (h .goals) 0 0 ls)
+    header-one false = tt
 
   lines-ok : (bytes : List ℕ) → T (lengthInRange (length bytes)) → (o : Option (List Line)) → linesOf bytes ≡ o
-      → ((ls : List Line) → o ≡ some ls → EveryLine P ls)
-      → ReadOk (elim o [ none ↦ Rejected BookLine | some ls ↦ readHeader ls ])
-  lines-ok bytes t none e v = tt
-  lines-ok bytes t (some []) e v = absurd (has-lines (length bytes / 16) bytes (enough (length bytes) t) e)
-  lines-ok bytes t (some (l ∷ ls)) e v = header-one l ls (v (l ∷ ls) refl .1) (headerInRange l)
+      → ReadOk o (elim o [ none ↦ Rejected BookLine | some ls ↦ readHeader ls ])
+  lines-ok bytes t none e = tt
+  lines-ok bytes t (some []) e = absurd (has-lines (length bytes / 16) bytes (enough (length bytes) t) e)
+  lines-ok bytes t (some (l ∷ ls)) e = header-one l ls (headerInRange l)
 
-  length-ok : (bytes : List ℕ) → ((ls : List Line) → linesOf bytes ≡ some ls → EveryLine P ls) → (t : Bool) → lengthInRange (length bytes) ≡ t
-      → ReadOk (elim t [ false ↦ Rejected BookLength | true ↦ elim (linesOf bytes) [ none ↦ Rejected BookLine | some ls ↦ readHeader ls ] ])
-  length-ok bytes v false e = tt
-  length-ok bytes v true e = lines-ok bytes (of-true _ e) (linesOf bytes) refl v
+  length-ok : (bytes : List ℕ) (t : Bool) → lengthInRange (length bytes) ≡ t
+      → ReadOk (linesOf bytes)
+      (elim t [ false ↦ Rejected BookLength | true ↦ elim (linesOf bytes) [ none ↦ Rejected BookLine | some ls ↦ readHeader ls ] ])
+  length-ok bytes false e = tt
+  length-ok bytes true e = lines-ok bytes (of-true _ e) (linesOf bytes) refl
 
-  read-ok : (bytes : List ℕ) → ((ls : List Line) → linesOf bytes ≡ some ls → EveryLine P ls) → ReadOk (readBook bytes)
-  read-ok bytes v = length-ok bytes v (lengthInRange (length bytes)) refl
+  read-ok : (bytes : List ℕ) → ReadOk (linesOf bytes) (readBook bytes)
+  read-ok bytes = length-ok bytes (lengthInRange (length bytes)) refl
 
-  -- what holds of every line of an accepted book gives what holds of every call of it
-  pub book-read : (bytes : List ℕ) (b : Book) → readBook bytes ≡ Accepted b → ((ls : List Line) → linesOf bytes ≡ some ls → EveryLine P ls)
-      → BookOk allowed b
-  book-read bytes b e v = rw e at (read-ok bytes v)
+  pub lines-read : (bytes : List ℕ) (b : Book) → readBook bytes ≡ Accepted b → (ls : List Line) × (linesOf bytes ≡ some ls) × Read b ls
+  lines-read bytes b e = rw e at (read-ok bytes)
 
-  pub book-rejected : (bytes : List ℕ) (r : Refusal) → readBook bytes ≡ Rejected r
-      → ((ls : List Line) → linesOf bytes ≡ some ls → EveryLine P ls) → Early r
-  book-rejected bytes r e v = rw e at (read-ok bytes v)
+abbrev unwanted : ℕ → ℕ → PathKind → Bool
+unwanted caller goal kind = false
+
+pub rejected-early : (bytes : List ℕ) (r : Refusal) → readBook bytes ≡ Rejected r → Early r
+rejected-early bytes r e = rw e at (read-ok unwanted bytes)
+
+step-below : (b : Book) → ((y : ℕ) (p : Part) → partAt (b .parts) y ≡ some p → Calls (λ goal kind. goal < b .header .goals) p)
+    → (y : ℕ) (k : PathKind) (c : ℕ) (o : Option Part) → partAt (b .parts) c ≡ o
+    → T (elim o [ none ↦ false | some p ↦ someCall (exactly y k) p ]) → y < b .header .goals
+step-below b h y k c none e t = absurd t
+step-below b h y k c (some p) e t =
+    some-call (λ goal kind. goal < b .header .goals) (exactly y k)
+    (λ g j s l. rw (eqb→eq g y (and-left (eqb g y) (sameKind j k) s)) at l) p (h c p e) t
+
+pub any-read : (bytes : List ℕ) (b : Book) → readBook bytes ≡ Accepted b → BookOk b
+any-read bytes b e =
+    let read : Read unwanted b (lines-read unwanted bytes b e .0) = lines-read unwanted bytes b e .2 in
+    record { whole = read .whole; inside = λ c y k t. step-below b (read .below) y k c (partAt (b .parts) c) refl t }

@@ -1,35 +1,30 @@
 -- The theorems used: books of one goal that calls itself, by an inductive step and by a coinductive one, and a mixed book.
 use mathlib.Core.Bool.{Bool, false, not, true}
-use mathlib.Core.List.{List, [], _++_, _∷_}
 use mathlib.Core.Path.{_≡_, refl}
-use Prim.Native.Nat.{suc, zero, ℕ}
 use native.Mathlib.Omega.{arith}
 use lib.Dec.{T}
 use lib.ListN.{replicate}
-use Rattle.definition.specs.Part.{Any, Book, Call, End, Node, Then}
-use Rattle.definition.specs.Query.{query, workLength}
+use Rattle.definition.specs.Query.{query}
 use Rattle.definition.specs.Reader.{Accepted, readBook}
 use Rattle.definition.specs.Usages.{counterLimit}
 use Rattle.definition.specs.declared.answers.Answer.the-variants.{Yes}
 use Rattle.definition.specs.declared.paths.PathKind.the-variants.{Coinductive, Inductive}
 use Rattle.definition.specs.declared.replies.Response.the-variants.{Answered}
-use Rattle.soundness.specs.Groups.{Choice, Chosen, Greatest, Least, grouped, reaches}
+use Rattle.soundness.specs.Groups.{GroupsFit, Mixed, grouped, reaches}
 use Rattle.soundness.specs.Sets.{greatest, least}
-use Rattle.soundness.specs.Statement.{AllRight, Query}
-use Rattle.soundness.proofs.SampleBooks.{book, bytes, digits, lines, queries, workspace}
-use Rattle.soundness.proofs.World.{BookOk, anyKind}
-use Rattle.soundness.proofs.Choices.{test-chosen}
-use Rattle.soundness.proofs.Mixed.{known}
-use Rattle.soundness.proofs.EveryBook.{any-read}
-use Rattle.soundness.proofs.Theorems.{mixed-books, no-coinductive-step, no-inductive-step}
+use Rattle.soundness.specs.Statement.{AllRight}
+use Rattle.soundness.proofs.SampleBooks.{book, bytes, lines, mixedBook, mixedBytes, mixedQueries, queries, tornBook, tornBytes, workspace}
+use Rattle.soundness.proofs.Reading.{any-read}
+use Rattle.soundness.proofs.Choices.{test-mixed}
+use Rattle.soundness.proofs.Theorems.{demand-3, mixed-books, mixed-groups}
 
 inductive-right : AllRight (least (book Inductive)) (bytes 0) (replicate 28 0) queries
 inductive-right =
-    no-coinductive-step (bytes 0) (book Inductive) (lines 0) refl refl (λ e h. omega arith, (λ e h. omega arith, (λ e h. omega arith, tt))) 28 queries
+    demand-3 .no-coinductive-step (bytes 0) (book Inductive) (lines 0) refl refl (λ e h. omega arith, (λ e h. omega arith, (λ e h. omega arith, tt))) 28 queries
 
 coinductive-right : AllRight (greatest (book Coinductive)) (bytes 2) (replicate 28 0) queries
 coinductive-right =
-    no-inductive-step (bytes 2) (book Coinductive) (lines 2) refl refl (λ e h. omega arith, (λ e h. omega arith, (λ e h. omega arith, tt))) 28 queries
+    demand-3 .no-inductive-step (bytes 2) (book Coinductive) (lines 2) refl refl (λ e h. omega arith, (λ e h. omega arith, (λ e h. omega arith, tt))) 28 queries
 
 -- the first is answered No, so the goal is outside the least set; the second Yes, so it is in the greatest
 pub outside-least : (reading : Bool) → T (not (least (book Inductive) reading 0))
@@ -44,60 +39,32 @@ in-greatest = coinductive-right .0 .whenYes refl
 pub sets-differ : T (not (least (book Inductive) true 0)) × T (greatest (book Inductive) false 0)
 sets-differ = (tt, tt)
 
--- ---- two groups: goal 0 calls itself by an inductive step, goal 1 itself by a coinductive one, and goal 0 by an inductive one
-abbrev mixed-bytes : List ℕ
-mixed-bytes =
-    digits 1 2 5 2 1
-    ++ (digits 1 0 0 0 0 ++ (digits 2 0 0 1 0 ++ (digits 1 1 0 0 0 ++ (digits 4 2 0 0 0 ++ (digits 2 0 0 1 0 ++ digits 2 1 2 1 0)))))
-
-abbrev mixed-book : Book
-mixed-book =
-    record {
-      header = record { provisional = true; goals = 2; top = 5; limit = 2; divisor = 1 };
-      parts = Call 0 Inductive true ∷ Node Any (Then (Call 0 Inductive true) (Then (Call 1 Coinductive true) End)) ∷ [];
-    }
-
-abbrev mixed-choice : ℕ → Choice
-mixed-choice zero = Least
-mixed-choice (suc g) = Greatest
-
-mixed-read : readBook mixed-bytes ≡ Accepted mixed-book
+-- ---- a mixed book, its choice and its order
+mixed-read : readBook mixedBytes ≡ Accepted mixedBook
 mixed-read = refl
 
-mixed-chosen : Chosen mixed-book mixed-choice
+pub condition : Mixed mixedBook
 unfolding reaches
-mixed-chosen =
-    let ok : BookOk anyKind mixed-book = any-read mixed-bytes mixed-book mixed-read in
-    test-chosen mixed-book (ok .whole) (known mixed-book ok) mixed-choice tt
+condition = test-mixed mixedBook (any-read mixedBytes mixedBook mixed-read) tt
 
-abbrev mixed-queries : List Query
-mixed-queries =
-    record { goal = 1; depth = 5; work = replicate (workLength 2) 7 } ∷ record { goal = 0; depth = 5; work = replicate (workLength 2) 7 } ∷ []
+pub fit : GroupsFit mixedBook
+fit = mixed-groups mixedBytes mixedBook mixed-read
 
-mixed-right : AllRight (grouped mixed-book mixed-choice) mixed-bytes (replicate 70 0) mixed-queries
-mixed-right = mixed-books mixed-bytes mixed-book mixed-read mixed-choice mixed-chosen 70 mixed-queries
+mixed-right : AllRight (grouped mixedBook (fit .choice condition .0) (fit .order .0)) mixedBytes (replicate 70 0) mixedQueries
+mixed-right =
+    mixed-books mixedBytes mixedBook mixed-read (fit .choice condition .0) (fit .choice condition .1) (fit .order .0) (fit .order .1) 70 mixedQueries
 
 -- the first is answered Yes and the second No, so goal 1 is in the set and goal 0 is not
-pub mixed-in : (reading : Bool) → T (grouped mixed-book mixed-choice reading 1)
+pub mixed-in : (reading : Bool) → T (grouped mixedBook (fit .choice condition .0) (fit .order .0) reading 1)
 unfolding counterLimit
 mixed-in = mixed-right .0 .whenYes refl
 
-pub mixed-out : (reading : Bool) → T (not (grouped mixed-book mixed-choice reading 0))
+pub mixed-out : (reading : Bool) → T (not (grouped mixedBook (fit .choice condition .0) (fit .order .0) reading 0))
 unfolding counterLimit
 mixed-out = mixed-right .1 .0 .whenNo refl
 
 -- ---- the condition is needed: a goal that calls itself by a step of either kind is answered Yes, and the least set does not have it
-abbrev both-bytes : List ℕ
-both-bytes = digits 1 1 5 2 1 ++ (digits 1 0 0 0 0 ++ (digits 4 2 0 0 0 ++ (digits 2 0 0 1 0 ++ digits 2 0 2 1 0)))
-
-abbrev both-book : Book
-both-book =
-    record {
-      header = record { provisional = true; goals = 1; top = 5; limit = 2; divisor = 1 };
-      parts = Node Any (Then (Call 0 Inductive true) (Then (Call 0 Coinductive true) End)) ∷ [];
-    }
-
-pub not-for-both : (readBook both-bytes ≡ Accepted both-book) × (query both-bytes (replicate 28 0) workspace 0 1 .response ≡ Answered Yes)
-    × T (not (grouped both-book (λ g. Least) true 0))
-unfolding counterLimit reaches
-not-for-both = (refl, refl, tt)
+pub not-torn : (readBook tornBytes ≡ Accepted tornBook) × (query tornBytes (replicate 28 0) workspace 0 1 .response ≡ Answered Yes)
+    × T (not (least tornBook true 0))
+unfolding counterLimit
+not-torn = (refl, refl, tt)
