@@ -1,42 +1,27 @@
 -- Step lines and steps inside groups: what a verdict means.
 use mathlib.Core.Path.{_≡_, refl, sym, ap, subst, _∙_}
-use mathlib.Core.Bool.{Bool, true, false, _&&_, _||_}
-use mathlib.Core.Logic.{_⊎_, inl, inr, ⊎-elim}
+use mathlib.Core.Bool.{Bool, true, false, _&&_}
+use mathlib.Core.Logic.{_⊎_, inl, inr}
 use mathlib.Core.List.{List, [], _∷_}
 use mathlib.Core.Option.{Option, none, some}
-use Prim.Native.Nat.{ℕ, _<_}
-use native.Mathlib.Omega.{arith}
-use lib.Dec.{T, eqb, eqb→eq, eqb-refl}
-use lib.ListN.{length}
+use Prim.Native.Nat.{ℕ}
+use lib.Dec.{T, eqb-refl}
 use Rattle.definition.specs.declared.paths.PathKind.{PathKind}
 use Rattle.definition.specs.declared.paths.PathKind.the-variants.{Inductive, Coinductive}
 use Rattle.definition.specs.Paths.{kindNumber, sameKind}
 use Rattle.definition.specs.Part.{Book}
 use Rattle.definition.proofs.Tests.{and-left, and-right}
 use Rattle.soundness.specs.Groups.{StepLine, hasStep, linked, Inside, Fits, Least, Greatest, Mixed}
-use Rattle.soundness.proofs.Calls.{same-kind}
-use Rattle.soundness.proofs.Logic.{both, clash, of-true, or-cases, or-left, or-right}
+use Rattle.soundness.proofs.Calls.{BookOk, same-kind}
+use Rattle.soundness.proofs.Logic.{both, clash, of-true}
 use Rattle.soundness.proofs.Reach.{linked-self, linked-sym, linked-trans}
 use Rattle.guarantee.specs.declared.Conflict.{Conflict}
 use Rattle.guarantee.specs.declared.Verdict.{Verdict}
 use Rattle.guarantee.specs.declared.Verdict.the-variants.{Given, Broken}
 use Rattle.guarantee.specs.Guarantee.{stepWithin, firstStep, conflict, conflictWith, firstConflict}
 use Rattle.guarantee.specs.Meaning.{IsOneOf}
-use Rattle.guarantee.proofs.Lines.{someStep}
 
--- ---- one of the steps
-pub some-step : (wanted : ℕ → ℕ → PathKind → Bool) (s : StepLine) (ss : List StepLine) → IsOneOf s ss → T (wanted (s .caller) (s .goal) (s .kind)) → T (someStep wanted ss)
-some-step wanted s [] i t = absurd i
-some-step wanted s (x ∷ ss) (inl e) t =
-    or-left (wanted (x .caller) (x .goal) (x .kind)) (someStep wanted ss) (subst (λ (y : StepLine). T (wanted (y .caller) (y .goal) (y .kind))) e t)
-some-step wanted s (x ∷ ss) (inr i) t = or-right (wanted (x .caller) (x .goal) (x .kind)) (someStep wanted ss) (some-step wanted s ss i t)
-
-pub a-step : (wanted : ℕ → ℕ → PathKind → Bool) (ss : List StepLine) → T (someStep wanted ss) → (s : StepLine) × IsOneOf s ss × T (wanted (s .caller) (s .goal) (s .kind))
-a-step wanted [] t = absurd t
-a-step wanted (x ∷ ss) t =
-    or-cases (wanted (x .caller) (x .goal) (x .kind)) (someStep wanted ss) (λ u. (x, inl refl, u))
-    (λ u. let r = a-step wanted ss u in (r .0, inr (r .1), r .2)) t
-
+-- ---- the first step that is wanted
 module _ (wanted : StepLine → Bool) where
   first-is : (ss : List StepLine) (t : StepLine) → firstStep wanted ss ≡ some t → IsOneOf t ss × T (wanted t)
   first-is [] t e = clash (cc)
@@ -113,9 +98,9 @@ module _ (b : Book) (all : List StepLine) where
       go true (some t) w g e = clash (cc)
 
 -- ---- the lines' steps are the book's
-module _ (b : Book) (whole : length (b .parts) ≡ b .header .goals) (ss : List StepLine)
+module _ (b : Book) (ok : BookOk b) (ss : List StepLine)
     (line-step : (s : StepLine) → IsOneOf s ss → T (hasStep b (s .caller) (s .goal) (s .kind)))
-    (step-line : (c y : ℕ) (k : PathKind) → T (hasStep b c y k) → (s : StepLine) × IsOneOf s ss × (s .caller ≡ c) × (s .goal ≡ y) × (s .kind ≡ k)) where
+    (step-line : (c y : ℕ) (k : PathKind) → T (hasStep b c y k) → (s : StepLine) × IsOneOf s ss × ((s .caller ≡ c) × (s .goal ≡ y) × (s .kind ≡ k))) where
 
   -- a step line with both ends in a group
   pub within-inside : (g : ℕ) (kind : PathKind) (s : StepLine) → IsOneOf s ss → T (stepWithin (linked b g) kind s) → (s .kind ≡ kind) × Inside b g (s .caller) (s .goal) kind
@@ -133,20 +118,20 @@ module _ (b : Book) (whole : length (b .parts) ≡ b .header .goals) (ss : List 
       → (s : StepLine) × IsOneOf s ss × (s .caller ≡ c) × ((h : ℕ) → T (linked b h g) → T (stepWithin (linked b h) kind s))
   inside-within g c y kind i =
       let r = step-line c y kind (i .step) in
-      (r .0, r .1, r .2, λ h l.
+      (r .0, r .1, r .2 .0, λ h l.
           both (sameKind (r .0 .kind) kind) (linked b h (r .0 .caller) && linked b h (r .0 .goal))
-          (subst (λ (k : PathKind). T (sameKind k kind)) (sym (r .4)) (eqb-refl (kindNumber kind)))
+          (subst (λ (k : PathKind). T (sameKind k kind)) (sym (r .2 .2)) (eqb-refl (kindNumber kind)))
           (both (linked b h (r .0 .caller)) (linked b h (r .0 .goal))
-          (subst (λ (x : ℕ). T (linked b h x)) (sym (r .2)) (linked-trans b whole h g c l (i .from)))
-          (subst (λ (x : ℕ). T (linked b h x)) (sym (r .3)) (linked-trans b whole h g y l (i .to)))))
+          (subst (λ (x : ℕ). T (linked b h x)) (sym (r .2 .0)) (linked-trans b ok h g c l (i .from)))
+          (subst (λ (x : ℕ). T (linked b h x)) (sym (r .2 .1)) (linked-trans b ok h g y l (i .to)))))
 
   pub mixed-given : Mixed b → firstConflict b ss ss ≡ Given
   mixed-given mixed = none-given b ss ss (λ s i. go s i (conflictWith b ss s) refl)
     where
       apart : (s : StepLine) (c y : ℕ) → Inside b (s .caller) (s .caller) (s .goal) Inductive → Inside b (s .caller) c y Coinductive
           → Fits b Least (s .caller) ⊎ Fits b Greatest (s .caller) → ⊥
-      apart s c y i j (inl f) = f c y Coinductive j refl
-      apart s c y i j (inr f) = f (s .caller) (s .goal) Inductive i refl
+      apart s c y i j (inl f) = f c y j
+      apart s c y i j (inr f) = f (s .caller) (s .goal) i
 
       go : (s : StepLine) → IsOneOf s ss → (x : Option Conflict) → conflictWith b ss s ≡ x → conflictWith b ss s ≡ none
       go s i none e = e
@@ -159,14 +144,14 @@ module _ (b : Book) (whole : length (b .parts) ≡ b .header .goals) (ss : List 
   given-mixed e g = go (firstStep (stepWithin (linked b g) Coinductive) ss) refl
     where
       go : (x : Option StepLine) → firstStep (stepWithin (linked b g) Coinductive) ss ≡ x → Fits b Least g ⊎ Fits b Greatest g
-      go none f = inl (λ c y kind i z.
-          let r = inside-within g c y Coinductive (subst (Inside b g c y) z i) in
-          is-first (stepWithin (linked b g) Coinductive) ss (r .0) (r .1) (r .3 g (linked-self b whole g)) f)
-      go (some t) f = inr (λ c y kind i z.
+      go none f = inl (λ c y i.
+          let r = inside-within g c y Coinductive i in
+          is-first (stepWithin (linked b g) Coinductive) ss (r .0) (r .1) (r .3 g (linked-self b ok g)) f)
+      go (some t) f = inr (λ c y i.
           let found = first-is (stepWithin (linked b g) Coinductive) ss t f in
-          let r = inside-within g c y Inductive (subst (Inside b g c y) z i) in
+          let r = inside-within g c y Inductive i in
           let s = r .0 in
-          let l : T (linked b (s .caller) g) = subst (λ (x : ℕ). T (linked b x g)) (sym (r .2)) (linked-sym b whole g c (i .from)) in
+          let l : T (linked b (s .caller) g) = subst (λ (x : ℕ). T (linked b x g)) (sym (r .2)) (linked-sym b ok g c (i .from)) in
           let j = within-inside g Coinductive t (found .0) (found .1) in
           let q = inside-within g (t .caller) (t .goal) Coinductive (j .1) in
           has-conflict b ss s (q .0) (r .3 (s .caller) l) (q .1) (q .3 (s .caller) l) (given-none b ss ss e s (r .1)))

@@ -1,8 +1,9 @@
 pub mod Masks
 pub mod Lines
 pub mod Rounds
-pub mod Accepted
 pub mod Numbers
+pub mod Members
+pub mod Accepted
 pub mod Conflicts
 pub mod Books
 pub mod Inside

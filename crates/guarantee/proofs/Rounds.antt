@@ -10,8 +10,8 @@ use lib.ListN.{length, getD, set, List·getD-eq-default}
 use lib.Seq.{getD-set-same, getD-set-other}
 use borrow.Author.Tests.{ne-eqb, lt-ltb, le-ltb}
 use Rattle.definition.specs.Part.{Book}
-use Rattle.soundness.specs.Sets.{Goals}
-use Rattle.soundness.specs.Groups.{callsSome, iter, towards, reaches, linked}
+use Rattle.soundness.specs.Sets.{Goals, iter}
+use Rattle.soundness.specs.Groups.{callsSome, towards, reaches, linked}
 use Rattle.guarantee.specs.Engine.{inMask, IsMask, meets, CallMasks, ReachMasks, IsGroup}
 use Rattle.guarantee.proofs.Masks.{meets-none, mask-past, Upto, upto-all}
 

@@ -1,23 +1,21 @@
 -- What the verdict on a book says of its groups.
 use mathlib.Core.Path.{_≡_}
-use mathlib.Core.Logic.{_⊎_}
 use mathlib.Core.Option.{some}
-use mathlib.Core.List.{List, [], _∷_}
+use mathlib.Core.List.{List}
 use Prim.Native.Nat.{ℕ}
 use Rattle.definition.specs.declared.paths.PathKind.the-variants.{Inductive, Coinductive}
 use Rattle.definition.specs.declared.format.Line.{Line}
 use Rattle.definition.specs.declared.replies.Refusal.{Refusal}
 use Rattle.definition.specs.Part.{Book}
 use Rattle.definition.specs.Reader.{Accepted, Rejected, linesOf, readBook}
-use Rattle.soundness.specs.Groups.{StepLine, stepLines, linked, Inside, Mixed}
+use Rattle.soundness.specs.Groups.{StepLine, stepLines, SomeStep, linked, Inside, Mixed}
 use Rattle.guarantee.specs.declared.Conflict.{Conflict}
 use Rattle.guarantee.specs.declared.Verdict.the-variants.{Refused, Given, Broken}
 use Rattle.guarantee.specs.Guarantee.{guaranteeOf}
 use Rattle.guarantee.specs.Engine.{inMask}
 
 abbrev pub IsOneOf : StepLine → List StepLine → Type 0
-IsOneOf s [] = ⊥
-IsOneOf s (x ∷ xs) = (s ≡ x) ⊎ IsOneOf s xs
+IsOneOf s = SomeStep (λ x. s ≡ x)
 
 -- two step lines of the book, at the conflict's numbers, both inside one group, whose goals the mask has
 pub record Conflicting (b : Book) (ss : List StepLine) (c : Conflict) : Type 0 where
