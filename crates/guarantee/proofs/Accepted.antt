@@ -1,13 +1,14 @@
 -- A book that was accepted: its lines, its header, and where its steps lead.
 use mathlib.Core.Path.{_≡_, refl, sym, ap, subst, _∙_}
-use mathlib.Core.Bool.{Bool, true, false}
+use mathlib.Core.Bool.{Bool, true, false, _&&_}
 use mathlib.Core.Option.{Option, none, some}
 use mathlib.Core.List.{List, [], _∷_}
 use Prim.Native.Nat.{ℕ, _≤_, _<_}
 use native.Mathlib.Decide.{decLt}
 use native.Mathlib.Omega.{arith}
-use lib.Dec.{T, eqb, eqb→eq, eqb-refl, leb→le}
+use lib.Dec.{T, eqb, eqb→eq, eqb-refl, leb→le, ltb}
 use lib.ListN.{length, getD, List·getD-eq-default}
+use borrow.Author.Tests.{lt-ltb, le-ltb}
 use Rattle.definition.specs.declared.format.Line.{Line}
 use Rattle.definition.specs.declared.paths.PathKind.{PathKind}
 use Rattle.definition.specs.declared.replies.Refusal.the-variants.{BookLength, BookLine}
@@ -24,10 +25,12 @@ use Rattle.soundness.proofs.Logic.{both}
 use Rattle.soundness.proofs.Reading.{any-read}
 use Rattle.soundness.proofs.StepLines.{steps-are-lines}
 use Rattle.soundness.proofs.Reach.{calls-inside, reaches-inside, linked-to}
+use Rattle.guarantee.specs.Guarantee.{maskOf}
 use Rattle.guarantee.specs.Engine.{IsAccepted, inMask, meets, CallMasks}
 use Rattle.guarantee.specs.Meaning.{IsOneOf}
 use Rattle.guarantee.proofs.Lines.{someStep, into, beyond}
 use Rattle.guarantee.proofs.Masks.{meets-none}
+use Rattle.guarantee.proofs.Numbers.{mask-goals}
 use Rattle.guarantee.proofs.Members.{some-step, a-step, every-at, some-at}
 
 same-bool : (x y : Bool) → (T x → T y) → (T y → T x) → x ≡ y
@@ -114,11 +117,14 @@ module _ (bytes : List ℕ) (is : IsAccepted bytes) where
       is-false (callsSome (bookIn bytes) (λ g kind. inMask m g) i)
       (λ t. omega (arith, few-goals, calls-inside (bookIn bytes) ok (λ g kind. inMask m g) i t))
 
+  pub caller-in : (s : StepLine) → IsOneOf s (stepLines (linesIn bytes)) → s .caller < bookIn bytes .header .goals
+  caller-in s i = calls-inside (bookIn bytes) ok (exactly (s .goal) (s .kind)) (s .caller) (line-step s i)
+
   pub callers-near : someStep (beyond (bookIn bytes .header .goals)) (stepLines (linesIn bytes)) ≡ false
   callers-near =
       is-false (someStep (beyond (bookIn bytes .header .goals)) (stepLines (linesIn bytes))) λ t.
       let r = a-step (beyond (bookIn bytes .header .goals)) (stepLines (linesIn bytes)) t in
-      omega (arith, calls-inside (bookIn bytes) ok (exactly (r .0 .goal) (r .0 .kind)) (r .0 .caller) (line-step (r .0) (r .1)), leb→le (bookIn bytes .header .goals) (r .0 .caller) (r .2))
+      omega (arith, caller-in (r .0) (r .1), leb→le (bookIn bytes .header .goals) (r .0 .caller) (r .2))
 
   pub call-masks : (masks : List ℕ) → length masks ≡ 64 → ((i m : ℕ) → i < 64 → meets (getD masks i 0) m ≡ someStep (into i m) (stepLines (linesIn bytes)))
       → CallMasks (bookIn bytes) masks
@@ -129,3 +135,13 @@ module _ (bytes : List ℕ) (is : IsAccepted bytes) where
       go (no n) =
           let past : getD masks i 0 ≡ 0 = List·getD-eq-default masks 0 (omega arith) in
           ap (λ (a : ℕ). meets a m) past ∙ meets-none m ∙ sym (no-calls i m (omega arith))
+
+  -- the number of a group has its goals as bits
+  pub group-goals : (g k : ℕ) → g < bookIn bytes .header .goals → inMask (maskOf (bookIn bytes .header .goals) (linked (bookIn bytes) g)) k ≡ linked (bookIn bytes) g k
+  group-goals g k near = mask-goals (bookIn bytes .header .goals) (linked (bookIn bytes) g) few-goals k ∙ go (decLt k (bookIn bytes .header .goals))
+    where
+      go : Dec (k < bookIn bytes .header .goals) → (ltb k (bookIn bytes .header .goals) && linked (bookIn bytes) g k) ≡ linked (bookIn bytes) g k
+      go (yes l) = ap (λ (t : Bool). t && linked (bookIn bytes) g k) (lt-ltb k (bookIn bytes .header .goals) l)
+      go (no n) =
+          ap (λ (t : Bool). t && linked (bookIn bytes) g k) (le-ltb k (bookIn bytes .header .goals) (omega arith))
+          ∙ sym (outside g k near (omega arith))

@@ -7,3 +7,4 @@ pub mod Accepted
 pub mod Conflicts
 pub mod Books
 pub mod Inside
+pub mod Theorems
