@@ -8,3 +8,4 @@ pub mod Conflicts
 pub mod Books
 pub mod Inside
 pub mod Theorems
+pub mod Examples
