@@ -7,6 +7,7 @@ pub mod steps;
 use book::BookRead;
 use definition::paths::PathKind;
 use definition::replies::Refusal;
+use definition::replies::Response;
 use steps::Found;
 use steps::Seen;
 ghost use mathlib.Core.Path.{_≡_};
@@ -16,6 +17,7 @@ ghost use Rattle.book.specs.Lines.{linesIn};
 ghost use Rattle.book.specs.Read.{bookIn};
 ghost use Rattle.soundness.specs.Groups.{stepLines};
 ghost use Rattle.guarantee.specs.Guarantee.{firstConflict, guaranteeOf};
+ghost use Rattle.guarantee.specs.Codes.{verdictCode, verdictNumbers};
 ghost use Rattle.guarantee.specs.Engine.{IsAccepted, Ready, verdictOf, conflictAt};
 
 // An inductive and a coinductive step inside one group: their lines, the header being
@@ -30,6 +32,30 @@ pub enum Verdict {
     Refused(Refusal),
     Given,
     Broken(Conflict),
+}
+
+impl Verdict {
+    // 256 * refusal.
+    pub fn code(self) -> u32
+        ensures { λ r. ⌜ r ≡ verdictCode self ⌝ }
+    {
+        match self {
+            Verdict::Refused(r) => Response::Refused(r).code(),
+            Verdict::Given => 0,
+            Verdict::Broken(_) => 0,
+        }
+    }
+
+    // The two lines and the group, zeros where nothing is broken.
+    pub fn numbers(self) -> [u64; 3]
+        ensures { λ r. ⌜ r ≡ verdictNumbers self ⌝ }
+    {
+        match self {
+            Verdict::Refused(_) => [0, 0, 0],
+            Verdict::Given => [0, 0, 0],
+            Verdict::Broken(c) => [c.inductive as u64, c.coinductive as u64, c.group],
+        }
+    }
 }
 
 // The conflict of an inductive step inside its caller's group with the first
