@@ -2,7 +2,7 @@
 use mathlib.Core.Bool.{Bool, _&&_, _||_, false, true}
 use mathlib.Core.List.{List, [], _∷_}
 use mathlib.Core.Option.{Option, none, some}
-use mathlib.Core.Path.{_∙_, _≡_, ap, refl, sym}
+use mathlib.Core.Path.{_∙_, _≡_, ap, refl}
 use Prim.Native.Nat.{_/_, _<_, suc, zero, ℕ}
 use native.Mathlib.Nat.{div-add-mod', mod-lt}
 use native.Mathlib.Omega.{arith}
@@ -18,7 +18,7 @@ use Rattle.definition.specs.declared.format.Line.{Line}
 use Rattle.definition.specs.declared.paths.PathKind.{PathKind}
 use Rattle.definition.specs.declared.replies.Refusal.{Refusal}
 use Rattle.definition.specs.declared.replies.Refusal.the-variants.{BookBody, BookHeader, BookLength, BookLine}
-use Rattle.soundness.specs.Groups.{hasStep, someCall, someCallIn}
+use Rattle.soundness.specs.Groups.{someCall, someCallIn}
 use Rattle.definition.proofs.Tests.{and-left, and-right}
 use Rattle.soundness.proofs.Logic.{clash, of-true}
 use Rattle.soundness.proofs.Calls.{AllCalls, BookOk, Calls, exactly, some-call}

@@ -3,7 +3,7 @@ use mathlib.Core.Bool.{Bool, _&&_, _||_, false, true}
 use mathlib.Core.List.{List, [], _∷_}
 use mathlib.Core.Logic.{inl, inr}
 use mathlib.Core.Option.{none, some}
-use mathlib.Core.Path.{_≡_, sym}
+use mathlib.Core.Path.{_≡_}
 use Prim.Native.Nat.{_+_, suc, zero, ℕ}
 use native.Mathlib.Omega.{arith}
 use lib.Dec.{T, eqb, eqb-refl, eqb→eq}
@@ -16,7 +16,7 @@ use Rattle.soundness.specs.Groups.{EveryStep, SomeStep, StepLine, StepsA
 use Rattle.definition.proofs.Tests.{and-left, and-right}
 use Rattle.soundness.proofs.Logic.{both, or-cases, or-left, or-right}
 use Rattle.soundness.proofs.Calls.{calls-mono, calls-step, exactly, same-kind}
-use Rattle.soundness.proofs.Reading.{Read, inBook, inLines, inParts, lines-read}
+use Rattle.soundness.proofs.Reading.{inBook, inLines, inParts, lines-read}
 
 -- ---- a step of a goal is one of the parts
 abbrev exactStep : ℕ → ℕ → PathKind → ℕ → ℕ → PathKind → Bool
