@@ -47,7 +47,8 @@ reaching = refl
 
 -- each reaches the other
 linking : row (linked four 0) ∷ row (linked four 2) ∷ row (linked four 3) ∷ []
-    ≡ (true ∷ true ∷ false ∷ false ∷ []) ∷ (false ∷ false ∷ true ∷ false ∷ []) ∷ (false ∷ false ∷ false ∷ true ∷ []) ∷ []
+    ≡ (true ∷ true ∷ false ∷ false ∷ []) ∷ (false ∷ false ∷ true ∷ false ∷ []) ∷ (false ∷ false ∷ false ∷ true ∷ [])
+    ∷ []
 unfolding reaches
 linking = refl
 
@@ -149,7 +150,9 @@ abbrev tower : Book
 tower =
     record {
       header = header 3 5;
-      parts = Node All End ∷ Call 0 Inductive true ∷ Node All (Then (Call 2 Coinductive true) (Then (Call 1 Inductive true) End)) ∷ [];
+      parts =
+          Node All End ∷ Call 0 Inductive true ∷ Node All
+          (Then (Call 2 Coinductive true) (Then (Call 1 Inductive true) End)) ∷ [];
     }
 
 module _ (reading : Bool) where
@@ -196,7 +199,8 @@ module _ (reading : Bool) where
   unfolding reaches
   is-least v = v .least 0 refl noGoals without 0 tt tt
     where
-      without : (k : ℕ) → T (linked four 0 k) → T (groupRound four reading 0 (among (true ∷ true ∷ true ∷ reading ∷ [])) noGoals k) → T (noGoals k)
+      without : (k : ℕ) → T (linked four 0 k)
+          → T (groupRound four reading 0 (among (true ∷ true ∷ true ∷ reading ∷ [])) noGoals k) → T (noGoals k)
       without zero l t = t
       without (suc zero) l t = t
       without (suc (suc zero)) l t = l
@@ -219,7 +223,8 @@ module _ (reading : Bool) where
 -- ---- the claims
 
 -- of every choice that fits, every order, every list and every length of the cache
-module _ (right : RightByGroups) (choice : ℕ → Choice) (c : Chosen mixedBook choice) (order : List ℕ) (o : CallsFirst mixedBook noGoals order) where
+module _ (right : RightByGroups) (choice : ℕ → Choice) (c : Chosen mixedBook choice) (order : List ℕ)
+    (o : CallsFirst mixedBook noGoals order) where
   yes-of-the-set : (reading : Bool) → T (grouped mixedBook choice order reading 1)
   unfolding counterLimit
   yes-of-the-set = right mixedBytes mixedBook refl choice c order o 70 mixedQueries .0 .whenYes refl
@@ -229,10 +234,12 @@ module _ (right : RightByGroups) (choice : ℕ → Choice) (c : Chosen mixedBook
   no-of-the-set = right mixedBytes mixedBook refl choice c order o 70 mixedQueries .1 .0 .whenNo refl
 
 module _ (b : Book) (fit : GroupsFit b) where
-  reaching-is : (from goal : ℕ) → (T (reaches b from goal) → Way b goal from) × (Way b goal from → T (reaches b from goal))
+  reaching-is : (from goal : ℕ) → (T (reaches b from goal) → Way b goal from)
+      × (Way b goal from → T (reaches b from goal))
   reaching-is from goal = (fit .way from goal, fit .reached from goal)
 
-  condition-is : (Mixed b → (choice : ℕ → Choice) × Chosen b choice) × ((choice : ℕ → Choice) → Chosen b choice → Mixed b)
+  condition-is : (Mixed b → (choice : ℕ → Choice) × Chosen b choice)
+      × ((choice : ℕ → Choice) → Chosen b choice → Mixed b)
   condition-is = (fit .choice, fit .condition)
 
   module _ (order : List ℕ) (o : CallsFirst b noGoals order) (reading : Bool) where
@@ -241,12 +248,14 @@ module _ (b : Book) (fit : GroupsFit b) where
         × ((s : Goals) → ByGroups b choice reading s → s ≡ grouped b choice order reading)
     the-set choice c = (fit .set choice c order o reading, fit .only choice c order o reading)
 
-    one-choice-for-all : (grouped b (λ g. Least) order reading ≡ least b reading) × (grouped b (λ g. Greatest) order reading ≡ greatest b reading)
+    one-choice-for-all : (grouped b (λ g. Least) order reading ≡ least b reading)
+        × (grouped b (λ g. Greatest) order reading ≡ greatest b reading)
     one-choice-for-all = (fit .allLeast order o reading, fit .allGreatest order o reading)
 
 -- ---- the lines: the header is line 0, a line's caller is that of the goal line before it
 lines-of-mixed : stepLines mixedLines
-    ≡ record { line = 2; caller = 0; goal = 0; kind = Inductive } ∷ record { line = 5; caller = 1; goal = 0; kind = Inductive }
+    ≡ record { line = 2; caller = 0; goal = 0; kind = Inductive } ∷ record
+    { line = 5; caller = 1; goal = 0; kind = Inductive }
     ∷ record { line = 6; caller = 1; goal = 1; kind = Coinductive } ∷ []
 lines-of-mixed = refl
 
