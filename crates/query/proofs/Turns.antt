@@ -26,50 +26,66 @@ withCodes xs r = repliedAll (xs ++ r .codes) (r .cache) (r .work)
 
 -- what is asked from question `left` and code i on makes the whole
 abbrev pub Rest : List ℕ → List ℕ → List ℕ → List ℕ → List ℕ → ℕ → Replies → Type 0
-Rest bytes cache work left codes i whole = withCodes (take i codes) (askEach bytes cache work left (drop i codes)) ≡ whole
+Rest bytes cache work left codes i whole =
+    withCodes (take i codes) (askEach bytes cache work left (drop i codes)) ≡ whole
 
 module _ (bytes : List ℕ) where
   -- ---- no more questions, or no more room
-  all-stay : (cache work left codes : List ℕ) (i : ℕ) → askEach bytes cache work left (drop i codes) ≡ repliedAll (drop i codes) cache work
+  all-stay : (cache work left codes : List ℕ) (i : ℕ)
+      → askEach bytes cache work left (drop i codes) ≡ repliedAll (drop i codes) cache work
       → withCodes (take i codes) (askEach bytes cache work left (drop i codes)) ≡ repliedAll codes cache work
-  all-stay cache work left codes i e = ap (withCodes (take i codes)) e ∙ ap (λ (xs : List ℕ). repliedAll xs cache work) (take-append-drop i codes)
+  all-stay cache work left codes i e =
+      ap (withCodes (take i codes)) e ∙ ap (λ (xs : List ℕ). repliedAll xs cache work) (take-append-drop i codes)
 
-  none-left : (cache work left : List ℕ) → length left < 2 → (codes : List ℕ) → askEach bytes cache work left codes ≡ repliedAll codes cache work
+  none-left : (cache work left : List ℕ) → length left < 2 → (codes : List ℕ)
+      → askEach bytes cache work left codes ≡ repliedAll codes cache work
   none-left cache work left h [] = refl
   none-left cache work [] h (c ∷ cs) = refl
   none-left cache work (g ∷ []) h (c ∷ cs) = refl
   none-left cache work (g ∷ d ∷ qs) h (c ∷ cs) = absurd (omega arith)
 
-  no-room : (cache work left codes : List ℕ) → codes ≡ [] → askEach bytes cache work left codes ≡ repliedAll codes cache work
+  no-room : (cache work left codes : List ℕ) → codes ≡ []
+      → askEach bytes cache work left codes ≡ repliedAll codes cache work
   no-room cache work left [] e = refl
   no-room cache work left (c ∷ cs) e = let z : _≡_ {A = ℕ} 0 1 = cc in absurd (omega arith)
 
-  pub few-questions : (cache work left codes : List ℕ) (i : ℕ) (whole : Replies) → length left < 2 → Rest bytes cache work left codes i whole → repliedAll codes cache work ≡ whole
-  few-questions cache work left codes i whole h e = sym (all-stay cache work left codes i (none-left cache work left h (drop i codes))) ∙ e
+  pub few-questions : (cache work left codes : List ℕ) (i : ℕ) (whole : Replies) → length left < 2
+      → Rest bytes cache work left codes i whole → repliedAll codes cache work ≡ whole
+  few-questions cache work left codes i whole h e =
+      sym (all-stay cache work left codes i (none-left cache work left h (drop i codes))) ∙ e
 
-  pub few-codes : (cache work left codes : List ℕ) (i : ℕ) (whole : Replies) → length codes ≤ i → Rest bytes cache work left codes i whole → repliedAll codes cache work ≡ whole
-  few-codes cache work left codes i whole h e = sym (all-stay cache work left codes i (no-room cache work left (drop i codes) (drop-of-length-le codes h))) ∙ e
+  pub few-codes : (cache work left codes : List ℕ) (i : ℕ) (whole : Replies) → length codes ≤ i
+      → Rest bytes cache work left codes i whole → repliedAll codes cache work ≡ whole
+  few-codes cache work left codes i whole h e =
+      sym (all-stay cache work left codes i (no-room cache work left (drop i codes) (drop-of-length-le codes h))) ∙ e
 
   -- ---- one question
-  turn : (cache work : List ℕ) (goal depth : ℕ) (rest codes : List ℕ) (i : ℕ) → i < length codes → (r : Reply) → r ≡ query bytes cache work goal depth
+  turn : (cache work : List ℕ) (goal depth : ℕ) (rest codes : List ℕ) (i : ℕ) → i < length codes → (r : Reply)
+      → r ≡ query bytes cache work goal depth
       → withCodes (take (suc i) (set codes i (responseCode (r .response)))) (askEach bytes (r .cache) (r .work) rest (drop (suc i) (set codes i (responseCode (r .response)))))
       ≡ withCodes (take i codes) (askEach bytes cache work (goal ∷ depth ∷ rest) (drop i codes))
   turn cache work goal depth rest [] i h r e = absurd (omega arith)
-  turn cache work goal depth rest (c ∷ cs) zero h r e = ap (λ (x : Reply). withCode (responseCode (x .response)) (askEach bytes (x .cache) (x .work) rest cs)) e
-  turn cache work goal depth rest (c ∷ cs) (suc i) h r e = ap (withCode c) (turn cache work goal depth rest cs i (omega arith) r e)
+  turn cache work goal depth rest (c ∷ cs) zero h r e =
+      ap (λ (x : Reply). withCode (responseCode (x .response)) (askEach bytes (x .cache) (x .work) rest cs)) e
+  turn cache work goal depth rest (c ∷ cs) (suc i) h r e =
+      ap (withCode c) (turn cache work goal depth rest cs i (omega arith) r e)
 
-  two : (cache work left codes : List ℕ) (i : ℕ) → 2 ≤ length left → i < length codes → (r : Reply) → r ≡ query bytes cache work (getD left 0 0) (getD left 1 0)
+  two : (cache work left codes : List ℕ) (i : ℕ) → 2 ≤ length left → i < length codes → (r : Reply)
+      → r ≡ query bytes cache work (getD left 0 0) (getD left 1 0)
       → withCodes (take (suc i) (set codes i (responseCode (r .response)))) (askEach bytes (r .cache) (r .work) (drop 2 left) (drop (suc i) (set codes i (responseCode (r .response)))))
       ≡ withCodes (take i codes) (askEach bytes cache work left (drop i codes))
   two cache work [] codes i l h r e = absurd (omega arith)
   two cache work (g ∷ []) codes i l h r e = absurd (omega arith)
   two cache work (g ∷ d ∷ rest) codes i l h r e = turn cache work g d rest codes i h r e
 
-  pub one-more : (cache work left codes : List ℕ) (i : ℕ) (whole : Replies) → 2 ≤ length left → i < length codes → Rest bytes cache work left codes i whole
-      → (r : Response) (cache′ work′ : List ℕ) → replied r cache′ work′ ≡ query bytes cache work (getD left 0 0) (getD left 1 0) → (x : ℕ) → x ≡ responseCode r
+  pub one-more : (cache work left codes : List ℕ) (i : ℕ) (whole : Replies) → 2 ≤ length left → i < length codes
+      → Rest bytes cache work left codes i whole
+      → (r : Response) (cache′ work′ : List ℕ)
+      → replied r cache′ work′ ≡ query bytes cache work (getD left 0 0) (getD left 1 0) → (x : ℕ) → x ≡ responseCode r
       → Rest bytes cache′ work′ (take (length left - 2) (drop 2 left)) (set codes i x) (i + 1) whole
   one-more cache work left codes i whole l h all r cache′ work′ e x k =
-      subst (λ (n : ℕ). Rest bytes cache′ work′ (take (length left - 2) (drop 2 left)) (set codes i x) n whole) (sym (add-one i))
+      subst (λ (n : ℕ). Rest bytes cache′ work′ (take (length left - 2) (drop 2 left)) (set codes i x) n whole)
+      (sym (add-one i))
       (subst (λ (t : List ℕ). Rest bytes cache′ work′ t (set codes i x) (suc i) whole) (sym (part-from 2 left))
       (subst (λ (y : ℕ). Rest bytes cache′ work′ (drop 2 left) (set codes i y) (suc i) whole) (sym k)
       (two cache work left codes i l h (replied r cache′ work′) e ∙ all)))
@@ -89,9 +105,14 @@ says-no (Answered Undecided) e = absurd (omega arith)
 says-no (Answered Overflow) e = absurd (omega arith)
 says-no (Refused r) e = absurd (omega (arith, some-refusal r))
 
-pub right-code : (set : Bool → Goals) (goal : ℕ) (reply : Reply) → RightReply set goal reply → RightCode set goal (responseCode (reply .response))
+pub right-code : (set : Bool → Goals) (goal : ℕ) (reply : Reply) → RightReply set goal reply
+    → RightCode set goal (responseCode (reply .response))
 right-code set goal reply r =
-    record { whenYes = λ e. r .whenYes (says-yes (reply .response) e); whenNo = λ e. r .whenNo (says-no (reply .response) e) }
+    record {
+      whenYes = λ e. r .whenYes (says-yes (reply .response) e);
+      whenNo = λ e. r .whenNo
+          (says-no (reply .response) e);
+    }
 
 -- ---- every question that is asked
 -- where C holds of the cache, P holds of the goal and the code, and C of the cache afterwards

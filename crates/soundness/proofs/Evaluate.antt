@@ -30,7 +30,7 @@ use Rattle.soundness.proofs.Calls.{Calls, steps-of}
 use Rattle.soundness.proofs.World.{World}
 use Rattle.soundness.proofs.Counters.{Reads, nothing}
 use Rattle.soundness.proofs.Assumed.{A, A-mono, A-none, A-under, Base, baseOf, basesOf, length-bases}
-use Rattle.soundness.proofs.Inv.{After, BasesOk, CalledBy, EntryOk, Gain, State, distinct-goals, goals-here, goalsIn, readsOf}
+use Rattle.soundness.proofs.Inv.{After, BasesOk, CalledBy, EntryOk, Gain, State, distinct-goals, goals-here, readsOf}
 use Rattle.soundness.proofs.Changes.{after-map, every-map, gain-known}
 use Rattle.soundness.proofs.HeadLaws.{absent-noHeads, empty-heads, head-or-unused, not-empty}
 use Rattle.soundness.proofs.Update.{childReads, update-gains, update-inv, update-known}

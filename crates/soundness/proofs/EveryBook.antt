@@ -19,7 +19,6 @@ use Rattle.definition.specs.Stack.{Stack, stackFind}
 use Rattle.definition.specs.Task.{Evaluated, TaskOutcome, TaskStopped, evaluateGoalInTask}
 use Rattle.definition.specs.declared.answers.Answer.{Answer}
 use Rattle.definition.specs.declared.format.Header.{Header}
-use Rattle.definition.specs.declared.format.Line.{Line}
 use Rattle.definition.specs.declared.paths.PathKind.{PathKind}
 use Rattle.definition.specs.declared.paths.PathKind.the-variants.{Inductive}
 use Rattle.definition.specs.declared.replies.Refusal.{Refusal}
@@ -27,7 +26,6 @@ use Rattle.definition.specs.declared.replies.Refusal.the-variants.{CacheConflic
 use Rattle.definition.specs.declared.replies.Response.the-variants.{Refused}
 use Rattle.soundness.specs.Always.{Always, Apart, Conflict, Distinct, Ends, EntryInOrder, Every, Expected, FinishesFrame, Follows, Full, HasHead, HeadsOn, InOrder, Keeps, Known, NeverUnreachable, OnlyUnder, Passes, Run, goalsOf}
 use Rattle.soundness.specs.Trace.{traceGoal}
-use Rattle.soundness.specs.Statement.{EveryLine}
 use Rattle.definition.proofs.Tests.{and-left, and-right}
 use Rattle.soundness.proofs.Logic.{clash, of-true}
 use Rattle.soundness.proofs.Support.{step}

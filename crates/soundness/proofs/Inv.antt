@@ -62,17 +62,21 @@ BasesOk W (x ∷ xs) = BaseOk W xs x × BasesOk W xs
 
 itself : (W : World) (x : Base) (u : PathKind → ℕ) (y : ℕ) → T (own W x u y) → T (W .reach y (x .goal))
 itself W x u y t =
-    rw (eqb→eq y (x .goal) (and-left (eqb y (x .goal)) (assumes (W .start (x .goal)) (x .provisional) u) t)) (W .here (x .goal))
+    rw (eqb→eq y (x .goal) (and-left (eqb y (x .goal)) (assumes (W .start (x .goal)) (x .provisional) u) t))
+    (W .here (x .goal))
 
 -- every goal assumed is on the stack, so that it reaches the goal on top
-pub under-above : (W : World) (x : Base) (xs : List Base) → BasesOk W (x ∷ xs) → (d : Reads) (y : ℕ) → T (A W xs d y) → T (W .reach y (x .goal))
+pub under-above : (W : World) (x : Base) (xs : List Base) → BasesOk W (x ∷ xs) → (d : Reads) (y : ℕ) → T (A W xs d y)
+    → T (W .reach y (x .goal))
 under-above W x [] v d y t = absurd t
 under-above W x (z ∷ zs) v d y t =
     W .onward y (z .goal) (x .goal) (x .step)
-    (or-cases (own W z (d (length zs)) y) (A W zs d y) (λ s. itself W z (d (length zs)) y s) (λ s. under-above W z zs (v .1) d y s) t)
+    (or-cases (own W z (d (length zs)) y) (A W zs d y) (λ s. itself W z (d (length zs)) y s)
+    (λ s. under-above W z zs (v .1) d y s) t)
     (v .0 .byCall)
 
-pub all-above : (W : World) (x : Base) (xs : List Base) → BasesOk W (x ∷ xs) → (d : Reads) (y : ℕ) → T (A W (x ∷ xs) d y) → T (W .reach y (x .goal))
+pub all-above : (W : World) (x : Base) (xs : List Base) → BasesOk W (x ∷ xs) → (d : Reads) (y : ℕ)
+    → T (A W (x ∷ xs) d y) → T (W .reach y (x .goal))
 all-above W x xs v d y =
     or-cases (own W x (d (length xs)) y) (A W xs d y) (itself W x (d (length xs)) y) (under-above W x xs v d y)
 
@@ -131,8 +135,10 @@ trackedBy f = trackedIn (f .candidateUsages)
 -- the top frame at index n gained the reads d
 pub record FrameGain (n : ℕ) (f f′ : Frame) (d : Reads) : Type 0 where
   pub same : baseOf f′ ≡ baseOf f
-  pub heads : (i : ℕ) (k : PathKind) → i < n → min (readsOf (f .heads) i k + d i k) counterLimit ≤ readsOf (f′ .heads) i k
-  pub usages : (k : PathKind) → min (counter (orNoUsages (f .usages)) k + d n k) counterLimit ≤ counter (orNoUsages (f′ .usages)) k
+  pub heads : (i : ℕ) (k : PathKind) → i < n
+      → min (readsOf (f .heads) i k + d i k) counterLimit ≤ readsOf (f′ .heads) i k
+  pub usages : (k : PathKind)
+      → min (counter (orNoUsages (f .usages)) k + d n k) counterLimit ≤ counter (orNoUsages (f′ .usages)) k
   pub tracked : (i : ℕ) (k : PathKind) → trackedBy f′ i k ≤ trackedBy f i k + d i k
   pub keepsHeads : (i : ℕ) → HasHead (f .heads) i → HasHead (f′ .heads) i
   pub keepsUsages : IsHead f → IsHead f′

@@ -31,6 +31,7 @@ pub mod Runs
 pub mod Sample
 pub mod SampleAlways
 pub mod SampleBooks
+pub mod SampleGroups
 pub mod SampleSets
 pub mod SampleStatement
 pub mod SampleTrace

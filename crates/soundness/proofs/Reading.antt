@@ -2,7 +2,7 @@
 use mathlib.Core.Bool.{Bool, _&&_, _||_, false, true}
 use mathlib.Core.List.{List, [], _∷_}
 use mathlib.Core.Option.{Option, none, some}
-use mathlib.Core.Path.{_∙_, _≡_, ap, refl, sym}
+use mathlib.Core.Path.{_∙_, _≡_, ap, refl}
 use Prim.Native.Nat.{_/_, _<_, suc, zero, ℕ}
 use native.Mathlib.Nat.{div-add-mod', mod-lt}
 use native.Mathlib.Omega.{arith}
@@ -18,7 +18,7 @@ use Rattle.definition.specs.declared.format.Line.{Line}
 use Rattle.definition.specs.declared.paths.PathKind.{PathKind}
 use Rattle.definition.specs.declared.replies.Refusal.{Refusal}
 use Rattle.definition.specs.declared.replies.Refusal.the-variants.{BookBody, BookHeader, BookLength, BookLine}
-use Rattle.soundness.specs.Groups.{hasStep, someCall, someCallIn}
+use Rattle.soundness.specs.Groups.{someCall, someCallIn}
 use Rattle.definition.proofs.Tests.{and-left, and-right}
 use Rattle.soundness.proofs.Logic.{clash, of-true}
 use Rattle.soundness.proofs.Calls.{AllCalls, BookOk, Calls, exactly, some-call}
@@ -43,7 +43,8 @@ module _ (wanted : ℕ → ℕ → PathKind → Bool) where
   inParts g [] = false
   inParts g (p ∷ ps) = someCall (wanted g) p || inParts (suc g) ps
 
--- what is taken off the lines: each call is of a goal below n, and a wanted call stands in what is taken or in the lines left
+-- what is taken off the lines: each call is of a goal below n, and a wanted call stands in what is taken or in the
+-- lines left
 module _ (n : ℕ) (wanted : ℕ → ℕ → PathKind → Bool) where
   abbrev Below : ℕ → PathKind → Type 0
   Below goal kind = goal < n
@@ -56,7 +57,8 @@ module _ (n : ℕ) (wanted : ℕ → ℕ → PathKind → Bool) where
   abbrev Several : ℕ → List Line → Option TakenParts → Type 0
   Several c ls none = Unit {0}
   Several c ls (some t) =
-      AllCalls Below (t .parts) × (inLines wanted c ls ≡ (someCallIn (wanted c) (t .parts) || inLines wanted c (t .rest)))
+      AllCalls Below (t .parts) × (inLines wanted c
+      ls ≡ (someCallIn (wanted c) (t .parts) || inLines wanted c (t .rest)))
 
   -- m goals from goal g on, where no line is left
   pub record Goals (g m c : ℕ) (ls : List Line) (t : TakenGoals) : Type 0 where
@@ -87,7 +89,8 @@ module _ (n : ℕ) (wanted : ℕ → ℕ → PathKind → Bool) where
       → One c (l ∷ rest) (elim t [ true ↦ some (record { part = Call (l .first) (kindOf (l .second)) (eqb (l .third) 1); rest = rest }) | false ↦ none ])
   call-ok c l e rest true f = (ltb→lt (l .first) n (first-ok (of-true _ f)), call-line c l rest e)
     where
-      first-ok : T (ltb (l .first) n && leb (l .second) 3 && leb (l .third) 1 && eqb (l .fourth) 0) → T (ltb (l .first) n)
+      first-ok : T (ltb (l .first) n && leb (l .second) 3 && leb (l .third) 1 && eqb (l .fourth) 0)
+          → T (ltb (l .first) n)
       first-ok t = search (and-left, and-right)
   call-ok c l e rest false f = tt
 
@@ -96,53 +99,66 @@ module _ (n : ℕ) (wanted : ℕ → ℕ → PathKind → Bool) where
   unsure-ok c l e rest true = (tt, other-line c l rest e)
   unsure-ok c l e rest false = tt
 
-  then-ok : (c : ℕ) (ls : List Line) (p : TakenPart) → One c ls (some p) → (o : Option TakenParts) → Several c (p .rest) o
+  then-ok : (c : ℕ) (ls : List Line) (p : TakenPart) → One c ls (some p) → (o : Option TakenParts)
+      → Several c (p .rest) o
       → Several c ls (elim o [ none ↦ none | some ps ↦ some (record { parts = Then (p .part) (ps .parts); rest = ps .rest }) ])
   then-ok c ls p h none s = tt
   then-ok c ls p h (some ps) s = (
     (h .0, s .0),
-    h .1 ∙ (ap (_||_ (someCall (wanted c) (p .part))) (s .1) ∙ or-assoc (someCall (wanted c) (p .part)) (someCallIn (wanted c) (ps .parts)) (inLines wanted c (ps .rest))),
+    h .1 ∙ (ap (_||_ (someCall (wanted c) (p .part))) (s .1) ∙ or-assoc (someCall (wanted c) (p .part))
+        (someCallIn (wanted c) (ps .parts)) (inLines wanted c (ps .rest))),
   )
 
-  more-ok : (c : ℕ) (read : List Line → Option TakenPart) (m : ℕ) → ((ls : List Line) → Several c ls (readParts read m ls))
+  more-ok : (c : ℕ) (read : List Line → Option TakenPart) (m : ℕ)
+      → ((ls : List Line) → Several c ls (readParts read m ls))
       → (ls : List Line) (o : Option TakenPart) → One c ls o
       → Several c ls (elim o [
         | none ↦ none
         | some p ↦
-            elim (readParts read m (p .rest)) [ none ↦ none | some ps ↦ some (record { parts = Then (p .part) (ps .parts); rest = ps .rest }) ]
+            elim (readParts read m (p .rest))
+            [ none ↦ none | some ps ↦ some (record { parts = Then (p .part) (ps .parts); rest = ps .rest }) ]
       ])
   more-ok c read m ih ls none h = tt
   more-ok c read m ih ls (some p) h = then-ok c ls p h (readParts read m (p .rest)) (ih (p .rest))
 
-  several-ok : (c : ℕ) (read : List Line → Option TakenPart) → Reader c read → (m : ℕ) (ls : List Line) → Several c ls (readParts read m ls)
+  several-ok : (c : ℕ) (read : List Line → Option TakenPart) → Reader c read → (m : ℕ) (ls : List Line)
+      → Several c ls (readParts read m ls)
   several-ok c read r zero ls = (tt, refl)
   several-ok c read r (suc m) ls = more-ok c read m (λ ls′. several-ok c read r m ls′) ls (read ls) (r ls)
 
-  node-one : (op : Op) (c : ℕ) (l : Line) → Other l → (rest : List Line) (o : Option TakenParts) → Several c rest o → (t : Bool)
+  node-one : (op : Op) (c : ℕ) (l : Line) → Other l → (rest : List Line) (o : Option TakenParts) → Several c rest o
+      → (t : Bool)
       → One c (l ∷ rest) (elim t [ true ↦ nodeOf op o | false ↦ none ])
   node-one op c l e rest (some ps) s true = (s .0, other-line c l rest e ∙ s .1)
   node-one op c l e rest none s true = tt
   node-one op c l e rest o s false = tt
 
-  node-ok : (op : Op) (c : ℕ) (read : List Line → Option TakenPart) → Reader c read → (l : Line) → Other l → (rest : List Line)
+  node-ok : (op : Op) (c : ℕ) (read : List Line → Option TakenPart) → Reader c read → (l : Line) → Other l
+      → (rest : List Line)
       → One c (l ∷ rest) (readNode op read l rest)
-  node-ok op c read r l e rest = node-one op c l e rest (readParts read (l .first) rest) (several-ok c read r (l .first) rest) (usesFirst l)
+  node-ok op c read r l e rest =
+      node-one op c l e rest (readParts read (l .first) rest) (several-ok c read r (l .first) rest) (usesFirst l)
 
   pick-ok : (c : ℕ) (inPick : Bool) (read : List Line → Option TakenPart) → Reader c read → (l : Line) → Other l
       → (rest : List Line) → One c (l ∷ rest) (readPick inPick read l rest)
   pick-ok c true read r l e rest = tt
   pick-ok c false read r l e rest = node-ok Pick c read r l e rest
 
-  code-ok : (c code : ℕ) (inPick : Bool) (inner : Bool → List Line → Option TakenPart) → ((b : Bool) → Reader c (inner b)) → (l : Line)
+  code-ok : (c code : ℕ) (inPick : Bool) (inner : Bool → List Line → Option TakenPart)
+      → ((b : Bool) → Reader c (inner b)) → (l : Line)
       → l .code ≡ code → (rest : List Line) → One c (l ∷ rest) (readByCode n code inPick inner l rest)
   code-ok c zero inPick inner r l e rest = tt
   code-ok c (suc zero) inPick inner r l e rest = tt
   code-ok c (suc (suc zero)) inPick inner r l e rest = call-ok c l e rest _ refl
-  code-ok c (suc (suc (suc zero))) inPick inner r l e rest = node-ok All c (inner inPick) (r inPick) l (rw e (refl, refl)) rest
-  code-ok c (suc (suc (suc (suc zero)))) inPick inner r l e rest = node-ok Any c (inner inPick) (r inPick) l (rw e (refl, refl)) rest
-  code-ok c (suc (suc (suc (suc (suc zero))))) inPick inner r l e rest = pick-ok c inPick (inner true) (r true) l (rw e (refl, refl)) rest
+  code-ok c (suc (suc (suc zero))) inPick inner r l e rest =
+      node-ok All c (inner inPick) (r inPick) l (rw e (refl, refl)) rest
+  code-ok c (suc (suc (suc (suc zero)))) inPick inner r l e rest =
+      node-ok Any c (inner inPick) (r inPick) l (rw e (refl, refl)) rest
+  code-ok c (suc (suc (suc (suc (suc zero))))) inPick inner r l e rest =
+      pick-ok c inPick (inner true) (r true) l (rw e (refl, refl)) rest
   code-ok c (suc (suc (suc (suc (suc (suc zero)))))) inPick inner r l e rest =
-      unsure-ok c l (rw e (refl, refl)) rest (eqb (l .first) 0 && eqb (l .second) 0 && eqb (l .third) 0 && eqb (l .fourth) 0)
+      unsure-ok c l (rw e (refl, refl)) rest
+      (eqb (l .first) 0 && eqb (l .second) 0 && eqb (l .third) 0 && eqb (l .fourth) 0)
   code-ok c (suc (suc (suc (suc (suc (suc (suc k))))))) inPick inner r l e rest = tt
 
   front-ok : (c : ℕ) (inPick : Bool) (inner : Bool → List Line → Option TakenPart) → ((b : Bool) → Reader c (inner b))
@@ -155,7 +171,8 @@ module _ (n : ℕ) (wanted : ℕ → ℕ → PathKind → Bool) where
   part-read c (suc deep) inPick ls = front-ok c inPick (readPart n deep) (λ b ls′. part-read c deep b ls′) ls
 
   -- a goal line is none of the goal before
-  goal-line : (c g : ℕ) (l : Line) (rest : List Line) → T (isGoalLine g l) → inLines wanted c (l ∷ rest) ≡ inLines wanted g rest
+  goal-line : (c g : ℕ) (l : Line) (rest : List Line) → T (isGoalLine g l)
+      → inLines wanted c (l ∷ rest) ≡ inLines wanted g rest
   goal-line c g l rest t =
       let code : l .code ≡ 1 = eqb→eq (l .code) 1 (search (and-left, and-right)) in
       let first : l .first ≡ g = eqb→eq (l .first) g (search (and-left, and-right)) in
@@ -167,7 +184,8 @@ module _ (n : ℕ) (wanted : ℕ → ℕ → PathKind → Bool) where
   Own g c ls (some t) =
       Calls Below (t .part) × (inLines wanted c ls ≡ (someCall (wanted g) (t .part) || inLines wanted g (t .rest)))
 
-  goal-one : (c g : ℕ) (l : Line) (rest : List Line) (o : Option TakenPart) → One g rest o → (t : Bool) → isGoalLine g l ≡ t
+  goal-one : (c g : ℕ) (l : Line) (rest : List Line) (o : Option TakenPart) → One g rest o → (t : Bool)
+      → isGoalLine g l ≡ t
       → Own g c (l ∷ rest) (elim t [ true ↦ o | false ↦ none ])
   goal-one c g l rest (some p) h true e = (h .0, goal-line c g l rest (of-true _ e) ∙ h .1)
   goal-one c g l rest none h true e = tt
@@ -175,9 +193,11 @@ module _ (n : ℕ) (wanted : ℕ → ℕ → PathKind → Bool) where
 
   goal-ok : (c g : ℕ) (ls : List Line) → Own g c ls (readGoal n g ls)
   goal-ok c g [] = tt
-  goal-ok c g (l ∷ ls) = goal-one c g l ls (readPart n nestingLimit false ls) (part-read g nestingLimit false ls) (isGoalLine g l) refl
+  goal-ok c g (l ∷ ls) =
+      goal-one c g l ls (readPart n nestingLimit false ls) (part-read g nestingLimit false ls) (isGoalLine g l) refl
 
-  next-ok : (g m c : ℕ) (ls : List Line) (p : TakenPart) → Own g c ls (some p) → (o : Option TakenGoals) → SomeGoals (suc g) m g (p .rest) o
+  next-ok : (g m c : ℕ) (ls : List Line) (p : TakenPart) → Own g c ls (some p) → (o : Option TakenGoals)
+      → SomeGoals (suc g) m g (p .rest) o
       → SomeGoals g (suc m) c ls (elim o [ none ↦ none | some ps ↦ some (record { parts = p .part ∷ ps .parts; rest = ps .rest }) ])
   next-ok g m c ls p h none s = tt
   next-ok g m c ls p h (some ps) s =
@@ -196,7 +216,8 @@ module _ (n : ℕ) (wanted : ℕ → ℕ → PathKind → Bool) where
       → SomeGoals g (suc m) c ls (elim o [
         | none ↦ none
         | some p ↦
-            elim (readGoals n (suc g) m (p .rest)) [ none ↦ none | some ps ↦ some (record { parts = p .part ∷ ps .parts; rest = ps .rest }) ]
+            elim (readGoals n (suc g) m (p .rest))
+            [ none ↦ none | some ps ↦ some (record { parts = p .part ∷ ps .parts; rest = ps .rest }) ]
       ])
   goals-more g m c ih ls none h = tt
   goals-more g m c ih ls (some p) h = next-ok g m c ls p h (readGoals n (suc g) m (p .rest)) (ih (p .rest))
@@ -269,14 +290,19 @@ module _ (wanted : ℕ → ℕ → PathKind → Bool) where
 
   length-ok : (bytes : List ℕ) (t : Bool) → lengthInRange (length bytes) ≡ t
       → ReadOk (linesOf bytes)
-      (elim t [ false ↦ Rejected BookLength | true ↦ elim (linesOf bytes) [ none ↦ Rejected BookLine | some ls ↦ readHeader ls ] ])
+      (elim t [
+        | false ↦ Rejected BookLength
+        | true ↦ elim (linesOf bytes)
+            [ none ↦ Rejected BookLine | some ls ↦ readHeader ls ]
+      ])
   length-ok bytes false e = tt
   length-ok bytes true e = lines-ok bytes (of-true _ e) (linesOf bytes) refl
 
   read-ok : (bytes : List ℕ) → ReadOk (linesOf bytes) (readBook bytes)
   read-ok bytes = length-ok bytes (lengthInRange (length bytes)) refl
 
-  pub lines-read : (bytes : List ℕ) (b : Book) → readBook bytes ≡ Accepted b → (ls : List Line) × (linesOf bytes ≡ some ls) × Read b ls
+  pub lines-read : (bytes : List ℕ) (b : Book) → readBook bytes ≡ Accepted b → (ls : List Line)
+      × (linesOf bytes ≡ some ls) × Read b ls
   lines-read bytes b e = rw e at (read-ok bytes)
 
 abbrev unwanted : ℕ → ℕ → PathKind → Bool
@@ -285,7 +311,8 @@ unwanted caller goal kind = false
 pub rejected-early : (bytes : List ℕ) (r : Refusal) → readBook bytes ≡ Rejected r → Early r
 rejected-early bytes r e = rw e at (read-ok unwanted bytes)
 
-step-below : (b : Book) → ((y : ℕ) (p : Part) → partAt (b .parts) y ≡ some p → Calls (λ goal kind. goal < b .header .goals) p)
+step-below : (b : Book)
+    → ((y : ℕ) (p : Part) → partAt (b .parts) y ≡ some p → Calls (λ goal kind. goal < b .header .goals) p)
     → (y : ℕ) (k : PathKind) (c : ℕ) (o : Option Part) → partAt (b .parts) c ≡ o
     → T (elim o [ none ↦ false | some p ↦ someCall (exactly y k) p ]) → y < b .header .goals
 step-below b h y k c none e t = absurd t

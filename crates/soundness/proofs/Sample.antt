@@ -1,4 +1,5 @@
--- The theorems used: books of one goal that calls itself, by an inductive step and by a coinductive one, and a mixed book.
+-- The theorems used: books of one goal that calls itself, by an inductive step and by a coinductive one, and a mixed
+-- book.
 use mathlib.Core.Bool.{Bool, false, not, true}
 use mathlib.Core.Path.{_≡_, refl}
 use native.Mathlib.Omega.{arith}
@@ -20,11 +21,13 @@ use Rattle.soundness.proofs.Theorems.{demand-3, mixed-books, mixed-grou
 
 inductive-right : AllRight (least (book Inductive)) (bytes 0) (replicate 28 0) queries
 inductive-right =
-    demand-3 .no-coinductive-step (bytes 0) (book Inductive) (lines 0) refl refl (λ e h. omega arith, (λ e h. omega arith, (λ e h. omega arith, tt))) 28 queries
+    demand-3 .no-coinductive-step (bytes 0) (book Inductive) (lines 0) refl refl
+    (λ e h. omega arith, (λ e h. omega arith, (λ e h. omega arith, tt))) 28 queries
 
 coinductive-right : AllRight (greatest (book Coinductive)) (bytes 2) (replicate 28 0) queries
 coinductive-right =
-    demand-3 .no-inductive-step (bytes 2) (book Coinductive) (lines 2) refl refl (λ e h. omega arith, (λ e h. omega arith, (λ e h. omega arith, tt))) 28 queries
+    demand-3 .no-inductive-step (bytes 2) (book Coinductive) (lines 2) refl refl
+    (λ e h. omega arith, (λ e h. omega arith, (λ e h. omega arith, tt))) 28 queries
 
 -- the first is answered No, so the goal is outside the least set; the second Yes, so it is in the greatest
 pub outside-least : (reading : Bool) → T (not (least (book Inductive) reading 0))
@@ -52,7 +55,8 @@ fit = mixed-groups mixedBytes mixedBook mixed-read
 
 mixed-right : AllRight (grouped mixedBook (fit .choice condition .0) (fit .order .0)) mixedBytes (replicate 70 0) mixedQueries
 mixed-right =
-    mixed-books mixedBytes mixedBook mixed-read (fit .choice condition .0) (fit .choice condition .1) (fit .order .0) (fit .order .1) 70 mixedQueries
+    mixed-books mixedBytes mixedBook mixed-read (fit .choice condition .0) (fit .choice condition .1) (fit .order .0)
+    (fit .order .1) 70 mixedQueries
 
 -- the first is answered Yes and the second No, so goal 1 is in the set and goal 0 is not
 pub mixed-in : (reading : Bool) → T (grouped mixedBook (fit .choice condition .0) (fit .order .0) reading 1)
@@ -63,8 +67,10 @@ pub mixed-out : (reading : Bool) → T (not (grouped mixedBook (fit .choice cond
 unfolding counterLimit
 mixed-out = mixed-right .1 .0 .whenNo refl
 
--- ---- the condition is needed: a goal that calls itself by a step of either kind is answered Yes, and the least set does not have it
-pub not-torn : (readBook tornBytes ≡ Accepted tornBook) × (query tornBytes (replicate 28 0) workspace 0 1 .response ≡ Answered Yes)
+-- ---- the condition is needed: a goal that calls itself by a step of either kind is answered Yes, and the least set
+-- does not have it
+pub not-torn : (readBook tornBytes ≡ Accepted tornBook)
+    × (query tornBytes (replicate 28 0) workspace 0 1 .response ≡ Answered Yes)
     × T (not (least tornBook true 0))
 unfolding counterLimit
 not-torn = (refl, refl, tt)

@@ -39,15 +39,18 @@ lines kind = line 1 1 5 1 1 ∷ line 1 0 0 0 0 ∷ line 2 0 kind 1 0 ∷ []
 abbrev pub emptyAll : List ℕ
 emptyAll = digits 1 1 5 1 1 ++ (digits 1 0 0 0 0 ++ digits 3 0 0 0 0)
 
--- ---- two goals, each a group, T 5, L 2: goal 0 calls itself by an inductive step, goal 1 itself by a coinductive one, and goal 0
+-- ---- two goals, each a group, T 5, L 2: goal 0 calls itself by an inductive step, goal 1 itself by a coinductive
+-- one, and goal 0
 abbrev pub mixedBytes : List ℕ
 mixedBytes =
     digits 1 2 5 2 1
-    ++ (digits 1 0 0 0 0 ++ (digits 2 0 0 1 0 ++ (digits 1 1 0 0 0 ++ (digits 4 2 0 0 0 ++ (digits 2 0 0 1 0 ++ digits 2 1 2 1 0)))))
+    ++ (digits 1 0 0 0 0 ++
+    (digits 2 0 0 1 0 ++ (digits 1 1 0 0 0 ++ (digits 4 2 0 0 0 ++ (digits 2 0 0 1 0 ++ digits 2 1 2 1 0)))))
 
 abbrev pub mixedLines : List Line
 mixedLines =
-    line 1 2 5 2 1 ∷ line 1 0 0 0 0 ∷ line 2 0 0 1 0 ∷ line 1 1 0 0 0 ∷ line 4 2 0 0 0 ∷ line 2 0 0 1 0 ∷ line 2 1 2 1 0 ∷ []
+    line 1 2 5 2 1 ∷ line 1 0 0 0 0 ∷ line 2 0 0 1 0 ∷ line 1 1 0 0 0 ∷ line 4 2 0 0 0 ∷ line 2 0 0 1 0 ∷ line 2 1 2 1 0
+    ∷ []
 
 abbrev pub mixedBook : Book
 mixedBook =
@@ -58,7 +61,8 @@ mixedBook =
 
 abbrev pub mixedQueries : List Query
 mixedQueries =
-    record { goal = 1; depth = 5; work = replicate (workLength 2) 7 } ∷ record { goal = 0; depth = 5; work = replicate (workLength 2) 7 } ∷ []
+    record { goal = 1; depth = 5; work = replicate (workLength 2) 7 } ∷ record
+    { goal = 0; depth = 5; work = replicate (workLength 2) 7 } ∷ []
 
 -- ---- one goal, T 5, L 2, that calls itself by a step of either kind
 abbrev pub tornBytes : List ℕ

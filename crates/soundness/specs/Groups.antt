@@ -1,5 +1,5 @@
--- Mixed books: the groups of linked goals, the sets that are built group by group, and the claim. All of it is made of a book's
--- parts alone; what ties them to its lines is `StepsAreLines`.
+-- Mixed books: the groups of linked goals, the set that is built group by group, and the claim. All of it comes from a
+-- book's parts alone; `StepsAreLines` ties them to its lines.
 use mathlib.Core.Path.{_≡_}
 use mathlib.Core.Logic.{_⊎_}
 use mathlib.Core.Bool.{Bool, true, false, _&&_, _||_}
@@ -119,7 +119,7 @@ CallsFirst b done (g ∷ gs) = ((k : ℕ) → T (reaches b g k) → T (covered b
 abbrev pub grouped : Book → (ℕ → Choice) → List ℕ → Bool → Goals
 grouped b choice order reading = buildGroups b choice reading order noGoals
 
--- ---- the claim: over every list of queries on an accepted book and a cache of n zeros, for every such choice and order
+-- ---- the claim, of every list of queries on an accepted book and a cache of n zeros, for every such choice and order
 abbrev pub RightByGroups : Type 0
 RightByGroups =
     (bytes : List ℕ) (b : Book) → readBook bytes ≡ Accepted b → (choice : ℕ → Choice) → Chosen b choice
@@ -164,7 +164,7 @@ pub record GroupsFit (b : Book) : Type 0 where
 
 -- ---- the steps, by the book's lines
 
--- a call line: its number, the header being line 0, the goal in whose part it stands, the goal that it calls, and its kind
+-- a call line: its number, the header being line 0, the goal in whose part it stands, the goal it calls, and its kind
 pub record StepLine : Type 0 where
   pub line : ℕ
   pub caller : ℕ
@@ -199,7 +199,7 @@ abbrev pub SomeStep : (StepLine → Type 0) → List StepLine → Type 0
 SomeStep P [] = ⊥
 SomeStep P (s ∷ ss) = P s ⊎ SomeStep P ss
 
--- the steps of a book's parts are its call lines: each line is a step of the goal in whose part it stands, and each step has a line
+-- each call line is a step of the goal in whose part it stands, and each step of a part has a line
 pub record StepsAreLines (b : Book) (ls : List Line) : Type 0 where
   pub lines : EveryStep (λ s. T (hasStep b (s .caller) (s .goal) (s .kind))) (stepLines ls)
   pub steps : (caller goal : ℕ) (kind : PathKind) → T (hasStep b caller goal kind)
