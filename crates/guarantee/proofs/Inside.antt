@@ -101,29 +101,34 @@ module _ (b : Book) (all : List StepLine) where
 module _ (b : Book) (ok : BookOk b) (ss : List StepLine)
     (line-step : (s : StepLine) → IsOneOf s ss → T (hasStep b (s .caller) (s .goal) (s .kind)))
     (step-line : (c y : ℕ) (k : PathKind) → T (hasStep b c y k) → (s : StepLine) × IsOneOf s ss × ((s .caller ≡ c) × (s .goal ≡ y) × (s .kind ≡ k))) where
-
   -- a step line with both ends in a group
   pub within-inside : (g : ℕ) (kind : PathKind) (s : StepLine) → IsOneOf s ss → T (stepWithin (linked b g) kind s) → (s .kind ≡ kind) × Inside b g (s .caller) (s .goal) kind
   within-inside g kind s i t =
       let k = same-kind (s .kind) kind (and-left (sameKind (s .kind) kind) (linked b g (s .caller) && linked b g (s .goal)) t) in
-      let ends = and-right (sameKind (s .kind) kind) (linked b g (s .caller) && linked b g (s .goal)) t in
-      (k, record {
-        step = subst (λ (x : PathKind). T (hasStep b (s .caller) (s .goal) x)) k (line-step s i);
-        from = and-left (linked b g (s .caller)) (linked b g (s .goal)) ends;
-        to = and-right (linked b g (s .caller)) (linked b g (s .goal)) ends;
-      })
+      let ends = and-right (sameKind (s .kind) kind) (linked b g (s .caller) && linked b g (s .goal)) t in (
+        k,
+        record {
+          step = subst (λ (x : PathKind). T (hasStep b (s .caller) (s .goal) x)) k (line-step s i);
+          from = and-left (linked b g (s .caller)) (linked b g (s .goal)) ends;
+          to = and-right (linked b g (s .caller)) (linked b g (s .goal)) ends;
+        },
+      )
 
   -- and a step inside a group is a line
   inside-within : (g c y : ℕ) (kind : PathKind) → Inside b g c y kind
       → (s : StepLine) × IsOneOf s ss × (s .caller ≡ c) × ((h : ℕ) → T (linked b h g) → T (stepWithin (linked b h) kind s))
   inside-within g c y kind i =
-      let r = step-line c y kind (i .step) in
-      (r .0, r .1, r .2 .0, λ h l.
-          both (sameKind (r .0 .kind) kind) (linked b h (r .0 .caller) && linked b h (r .0 .goal))
-          (subst (λ (k : PathKind). T (sameKind k kind)) (sym (r .2 .2)) (eqb-refl (kindNumber kind)))
-          (both (linked b h (r .0 .caller)) (linked b h (r .0 .goal))
-          (subst (λ (x : ℕ). T (linked b h x)) (sym (r .2 .0)) (linked-trans b ok h g c l (i .from)))
-          (subst (λ (x : ℕ). T (linked b h x)) (sym (r .2 .1)) (linked-trans b ok h g y l (i .to)))))
+      let r = step-line c y kind (i .step) in (
+        r .0,
+        r .1,
+        r .2 .0,
+        λ h l.
+            both (sameKind (r .0 .kind) kind) (linked b h (r .0 .caller) && linked b h (r .0 .goal))
+            (subst (λ (k : PathKind). T (sameKind k kind)) (sym (r .2 .2)) (eqb-refl (kindNumber kind)))
+            (both (linked b h (r .0 .caller)) (linked b h (r .0 .goal))
+            (subst (λ (x : ℕ). T (linked b h x)) (sym (r .2 .0)) (linked-trans b ok h g c l (i .from)))
+            (subst (λ (x : ℕ). T (linked b h x)) (sym (r .2 .1)) (linked-trans b ok h g y l (i .to)))),
+      )
 
   pub mixed-given : Mixed b → firstConflict b ss ss ≡ Given
   mixed-given mixed = none-given b ss ss (λ s i. go s i (conflictWith b ss s) refl)

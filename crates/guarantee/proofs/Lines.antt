@@ -2,7 +2,7 @@
 use mathlib.Core.Path.{_≡_, refl, sym, ap, ap₂, _∙_}
 use mathlib.Core.Bool.{Bool, true, false, _&&_, _||_, or-assoc, or-false, and-false}
 use mathlib.Core.List.{List, [], _∷_}
-use mathlib.Core.Option.{Option, none, some}
+use mathlib.Core.Option.{some}
 use Prim.Native.Nat.{ℕ, zero, suc, _+_, _-_, _≤_, _<_}
 use native.Mathlib.Decide.{ℕ-discrete}
 use native.Mathlib.Numerals.{add-one}
@@ -31,7 +31,7 @@ use Rattle.book.proofs.code.Code.{the-type}
 use Rattle.soundness.specs.Groups.{StepLine, stepLinesFrom, stepLines}
 use Rattle.guarantee.specs.declared.steps.Seen.{Seen}
 use Rattle.guarantee.specs.Guarantee.{firstStep}
-use Rattle.guarantee.specs.Engine.{inMask, meets, seenIn, stepAt, lineOf, consIf}
+use Rattle.guarantee.specs.Engine.{inMask, meets, seenIn, stepAt, consIf}
 use Rattle.guarantee.proofs.Masks.{meets-none, meets-with}
 
 -- a step, by its caller, goal and kind, is wanted

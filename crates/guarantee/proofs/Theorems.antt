@@ -1,6 +1,5 @@
 -- What the verdict on a book says of its groups, proved.
-use mathlib.Core.Path.{_≡_, sym, ap, ap₂, subst, _∙_}
-use mathlib.Core.Option.{some}
+use mathlib.Core.Path.{_≡_, sym, ap, subst, _∙_}
 use mathlib.Core.List.{List}
 use Prim.Native.Nat.{ℕ}
 use Rattle.definition.specs.declared.paths.PathKind.the-variants.{Inductive, Coinductive}
@@ -9,10 +8,10 @@ use Rattle.definition.specs.Part.{Book}
 use Rattle.definition.specs.Reader.{BookRead, Accepted, linesOf, readBook}
 use Rattle.book.specs.Lines.{linesIn}
 use Rattle.book.specs.Read.{bookOr, bookIn}
-use Rattle.soundness.specs.Groups.{StepLine, stepLines, linked, Mixed}
+use Rattle.soundness.specs.Groups.{stepLines, Mixed}
 use Rattle.guarantee.specs.declared.Conflict.{Conflict}
 use Rattle.guarantee.specs.declared.Verdict.the-variants.{Given, Broken}
-use Rattle.guarantee.specs.Guarantee.{firstConflict, stepsOf, guaranteeOf, guaranteeOfRead}
+use Rattle.guarantee.specs.Guarantee.{stepsOf, guaranteeOf, guaranteeOfRead}
 use Rattle.guarantee.specs.Engine.{IsAccepted, inMask}
 use Rattle.guarantee.specs.Meaning.{Conflicting, Meaning}
 use Rattle.guarantee.proofs.Accepted.{accepted-lines, caller-in, group-goals, ok, line-step, step-line}

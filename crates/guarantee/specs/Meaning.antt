@@ -36,5 +36,5 @@ pub record Meaning : Type 0 where
   -- the guarantee is given exactly where the book is a mixed one
   pub given : (bytes : List ℕ) (b : Book) → readBook bytes ≡ Accepted b → guaranteeOf bytes ≡ Given → Mixed b
   pub only-given : (bytes : List ℕ) (b : Book) → readBook bytes ≡ Accepted b → Mixed b → guaranteeOf bytes ≡ Given
-  pub broken : (bytes : List ℕ) (b : Book) (ls : List Line) (c : Conflict) → readBook bytes ≡ Accepted b → linesOf bytes ≡ some ls
-      → guaranteeOf bytes ≡ Broken c → Conflicting b (stepLines ls) c
+  pub broken : (bytes : List ℕ) (b : Book) (ls : List Line) (c : Conflict) → readBook bytes ≡ Accepted b
+      → linesOf bytes ≡ some ls → guaranteeOf bytes ≡ Broken c → Conflicting b (stepLines ls) c

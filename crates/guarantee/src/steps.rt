@@ -46,9 +46,24 @@ pub fn first(s: &[u8], caller: usize) -> Seen
     let kind = kind(l.second);
     let code = Code::of_number(l.code);
     match code {
-        Code::Goal => Seen { step: false, caller: goal, goal, kind },
-        Code::Call => Seen { step: true, caller, goal, kind },
-        _ => Seen { step: false, caller, goal, kind },
+        Code::Goal => Seen {
+            step: false,
+            caller: goal,
+            goal,
+            kind,
+        },
+        Code::Call => Seen {
+            step: true,
+            caller,
+            goal,
+            kind,
+        },
+        _ => Seen {
+            step: false,
+            caller,
+            goal,
+            kind,
+        },
     }
 }
 

@@ -3,8 +3,6 @@ use lib.Seq.{set-out}
 use borrow.Author.Needs.{needs}
 use Rattle.capi.proofs.put.Statement.{statement}
 use Rattle.capi.proofs.put.Tie as tie
-use Rattle.capi.proofs.put.Reads as reads
-use Rattle.capi.proofs.put.Lts as lts
 
 mul-out : tie.Need-mul-out
 mul-out c = search needs

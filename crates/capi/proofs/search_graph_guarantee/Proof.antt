@@ -3,12 +3,6 @@ use Rattle.capi.proofs.Judging.{judged}
 use borrow.Author.Needs.{needs}
 use Rattle.capi.proofs.search_graph_guarantee.Statement.{statement}
 use Rattle.capi.proofs.search_graph_guarantee.Tie as tie
-use Rattle.capi.proofs.search_graph_guarantee.Reads as reads
-use Rattle.capi.proofs.search_graph_guarantee.Lts as lts
-use Rattle.capi.proofs.put.Reads as put-reads
-use Rattle.guarantee.proofs.Verdict.code.Reads as code-reads
-use Rattle.guarantee.proofs.Verdict.numbers.Reads as numbers-reads
-use Rattle.guarantee.proofs.guarantee.Reads as guarantee-reads
 
 guarantee-requires : tie.Need-guarantee-requires
 guarantee-requires c κs = search needs

@@ -4,11 +4,6 @@ use Rattle.guarantee.proofs.Conflicts.{not-within, none-found, one-foun
 use borrow.Author.Needs.{needs}
 use Rattle.guarantee.proofs.conflict_with.Statement.{statement}
 use Rattle.guarantee.proofs.conflict_with.Tie as tie
-use Rattle.guarantee.proofs.conflict_with.Reads as reads
-use Rattle.guarantee.proofs.conflict_with.Lts as lts
-use Rattle.guarantee.proofs.reach.group.Reads as group-reads
-use Rattle.guarantee.proofs.steps.first_within.Reads as first-within-reads
-use Rattle.guarantee.proofs.steps.is_within.Reads as is-within-reads
 
 group-requires : tie.Need-group-requires
 group-requires c κs = search needs

@@ -1,12 +1,11 @@
 use mathlib.Core.Bool.{false}
-use mathlib.Core.List.{List}
-use mathlib.Core.Path.{_≡_, refl, sym, ap, _∙_}
+use mathlib.Core.Path.{_≡_, sym, ap, _∙_}
 use Prim.Native.Nat.{_+_, _≤_}
 use native.Mathlib.Omega.{arith}
 use lib.ListN.{length}
 use Rattle.book.specs.Lines.{linesIn}
 use Rattle.book.specs.Read.{bookIn}
-use Rattle.soundness.specs.Groups.{StepLine, stepLines}
+use Rattle.soundness.specs.Groups.{stepLines}
 use Rattle.guarantee.specs.Guarantee.{firstConflict}
 use Rattle.guarantee.proofs.Lines.{stepsIn, someStep, beyond, rest-length, steps-start, steps-turn, steps-none, caller-near}
 use Rattle.guarantee.proofs.Accepted.{accepted-long, callers-near}
@@ -14,10 +13,6 @@ use Rattle.guarantee.proofs.Conflicts.{conflict-here, conflict-later}
 use borrow.Author.Needs.{needs}
 use Rattle.guarantee.proofs.first_conflict.Statement.{statement}
 use Rattle.guarantee.proofs.first_conflict.Tie as tie
-use Rattle.guarantee.proofs.first_conflict.Reads as reads
-use Rattle.guarantee.proofs.first_conflict.Lts as lts
-use Rattle.guarantee.proofs.conflict_with.Reads as conflict-with-reads
-use Rattle.guarantee.proofs.steps.first.Reads as first-reads
 
 abbrev Inv-loop : tie.InvT-loop
 Inv-loop book reach t₀ caller₀ line₀ t caller line =
@@ -43,8 +38,7 @@ loop-holds : tie.Need-loop-holds Inv-loop μ-loop
 loop-holds c =
     let st = c .before .before .before in
     let b = st .args .book .now in
-    let s = steps-start b (long st) in
-    (
+    let s = steps-start b (long st) in (
       ap (firstConflict (bookIn b) (stepLines (linesIn b))) s,
       ap (someStep (beyond (bookIn b .header .goals))) s ∙ callers-near b (st .pre .accepted),
       omega (arith, rest-length b, long st),
@@ -94,11 +88,10 @@ loop-again c =
     let b = st .args .book .now in
     let s = f .first .result in
     let turn = steps-turn (l .line) (l .caller) (l .t .now) s (f .before .loop-test .taken) (f .first .ensures) in
-    let near = caller-near (bookIn b .header .goals) (l .line) s _ (sym (ap (someStep (beyond (bookIn b .header .goals))) turn) ∙ l .inv .1) in
-    (
+    let near = caller-near (bookIn b .header .goals) (l .line) s _ (sym (ap (someStep (beyond (bookIn b .header .goals))) turn) ∙ l .inv .1) in (
       sym (ap (firstConflict (bookIn b) (stepLines (linesIn b))) turn
-      ∙ conflict-later (bookIn b) (stepLines (linesIn b)) (l .line) s _ (c .before .before .conflict-with .result) (c .before .before .conflict-with .ensures (near .0)) (c .before .match .keys2))
-      ∙ l .inv .0,
+          ∙ conflict-later (bookIn b) (stepLines (linesIn b)) (l .line) s _ (c .before .before .conflict-with .result) (c .before .before .conflict-with .ensures (near .0)) (c .before .match .keys2))
+          ∙ l .inv .0,
       near .1,
       omega (arith, rest-length (l .t .now), l .inv .2, f .before .loop-test .taken),
     )

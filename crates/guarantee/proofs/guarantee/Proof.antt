@@ -5,10 +5,6 @@ use Rattle.guarantee.proofs.Books.{of-rejected}
 use borrow.Author.Needs.{needs}
 use Rattle.guarantee.proofs.guarantee.Statement.{statement}
 use Rattle.guarantee.proofs.guarantee.Tie as tie
-use Rattle.guarantee.proofs.guarantee.Reads as reads
-use Rattle.guarantee.proofs.guarantee.Lts as lts
-use Rattle.book.proofs.read.Reads as read-reads
-use Rattle.guarantee.proofs.of_book.Reads as of-book-reads
 
 slice-aggregate-read : tie.Need-slice-aggregate-read
 slice-aggregate-read c = search needs

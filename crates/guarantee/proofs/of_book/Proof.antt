@@ -4,11 +4,6 @@ use Rattle.guarantee.proofs.Books.{of-accepted}
 use borrow.Author.Needs.{needs}
 use Rattle.guarantee.proofs.of_book.Statement.{statement}
 use Rattle.guarantee.proofs.of_book.Tie as tie
-use Rattle.guarantee.proofs.of_book.Reads as reads
-use Rattle.guarantee.proofs.of_book.Lts as lts
-use Rattle.guarantee.proofs.first_conflict.Reads as first-conflict-reads
-use Rattle.guarantee.proofs.reach.calls.Reads as calls-reads
-use Rattle.guarantee.proofs.reach.masks.Reads as masks-reads
 
 calls-requires : tie.Need-calls-requires
 calls-requires c κs = search needs

@@ -2,9 +2,6 @@ use native.Mathlib.Omega.{arith}
 use borrow.Author.Needs.{needs}
 use Rattle.guarantee.proofs.Verdict.code.Statement.{statement}
 use Rattle.guarantee.proofs.Verdict.code.Tie as tie
-use Rattle.guarantee.proofs.Verdict.code.Reads as reads
-use Rattle.guarantee.proofs.Verdict.code.Lts as lts
-use Rattle.definition.proofs.replies.Response.code.Reads as code-reads
 
 enum-known-self : tie.Need-enum-known-self
 enum-known-self c = search needs

@@ -3,8 +3,6 @@ use Rattle.guarantee.specs.Codes.{verdictNumbers}
 use borrow.Author.Needs.{needs}
 use Rattle.guarantee.proofs.Verdict.numbers.Statement.{statement}
 use Rattle.guarantee.proofs.Verdict.numbers.Tie as tie
-use Rattle.guarantee.proofs.Verdict.numbers.Reads as reads
-use Rattle.guarantee.proofs.Verdict.numbers.Lts as lts
 
 enum-told : tie.Need-enum-told
 enum-told c = search needs

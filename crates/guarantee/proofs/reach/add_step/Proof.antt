@@ -3,9 +3,6 @@ use Rattle.guarantee.proofs.Lines.{no-step, far-step, one-step}
 use borrow.Author.Needs.{needs}
 use Rattle.guarantee.proofs.reach.add_step.Statement.{statement}
 use Rattle.guarantee.proofs.reach.add_step.Tie as tie
-use Rattle.guarantee.proofs.reach.add_step.Reads as reads
-use Rattle.guarantee.proofs.reach.add_step.Lts as lts
-use Rattle.bits.proofs.with.Reads as with-reads
 
 returns : tie.Need-returns
 returns c = let a = c .before .before .before .args in no-step (a .masks .now) (a .s) (not-true _ (c .if1 .taken))

@@ -12,10 +12,6 @@ use Rattle.guarantee.proofs.Lines.{Collected, collected-none, collected
 use borrow.Author.Needs.{needs}
 use Rattle.guarantee.proofs.reach.calls.Statement.{statement}
 use Rattle.guarantee.proofs.reach.calls.Tie as tie
-use Rattle.guarantee.proofs.reach.calls.Reads as reads
-use Rattle.guarantee.proofs.reach.calls.Lts as lts
-use Rattle.guarantee.proofs.reach.add_step.Reads as add-step-reads
-use Rattle.guarantee.proofs.steps.first.Reads as first-reads
 
 abbrev Inv-loop : tie.InvT-loop
 Inv-loop book masks₀ t₀ caller₀ masks t caller =
@@ -67,12 +63,11 @@ loop-again c =
     let i = c .before .before .before .before .before in
     let l = i .before .loop in
     let b = i .before .before .before .before .args .book .now in
-    let s = c .before .before .before .before .first .result in
-    (
+    let s = c .before .before .before .before .first .result in (
       l .inv .0 + 1,
       collected-more (stepLines (linesIn b)) (s .step) (stepAt (l .inv .0) s) (stepsIn (l .inv .0 + 1) (s .caller) _) (l .masks) (c .before .before .add-step .last .0)
-      (subst (λ (ss : List StepLine). Collected (stepLines (linesIn b)) ss (l .masks)) (steps-turn (l .inv .0) (l .caller) (l .t .now) s (i .loop-test .taken) (c .before .before .before .before .first .ensures)) (l .inv .1))
-      (c .before .before .add-step .ensures),
+          (subst (λ (ss : List StepLine). Collected (stepLines (linesIn b)) ss (l .masks)) (steps-turn (l .inv .0) (l .caller) (l .t .now) s (i .loop-test .taken) (c .before .before .before .before .first .ensures)) (l .inv .1))
+          (c .before .before .add-step .ensures),
       c .before .before .add-step .kept .0 ∙ l .inv .2,
     )
 

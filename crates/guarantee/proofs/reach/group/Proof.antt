@@ -6,10 +6,6 @@ use Rattle.guarantee.proofs.Rounds.{nobody, together, group-ends}
 use borrow.Author.Needs.{needs}
 use Rattle.guarantee.proofs.reach.group.Statement.{statement}
 use Rattle.guarantee.proofs.reach.group.Tie as tie
-use Rattle.guarantee.proofs.reach.group.Reads as reads
-use Rattle.guarantee.proofs.reach.group.Lts as lts
-use Rattle.guarantee.proofs.reach.linked.Reads as linked-reads
-use Rattle.guarantee.proofs.reach.with_if.Reads as with-if-reads
 
 abbrev Inv-loop : tie.InvT-loop
 Inv-loop reach g m₀ k₀ m k = Upto nobody (together reach g) k m × (k ≤ 64)
@@ -39,8 +35,7 @@ loop-less c = search needs
 loop-again : tie.Need-loop-again Inv-loop μ-loop
 loop-again c =
     let l = c .before .before .before .loop in
-    let a = c .before .before .before .before .before .before .args in
-    (
+    let a = c .before .before .before .before .before .before .args in (
       upto-more nobody (together (a .reach .now) (a .g)) (l .m) (c .with-if .result) (l .k) (c .before .linked .result) (l .inv .0) (sym (c .before .linked .ensures)) (c .with-if .ensures),
       omega arith,
     )

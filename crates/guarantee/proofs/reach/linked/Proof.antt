@@ -2,9 +2,6 @@ use Rattle.book.proofs.Tests.{stop, pass, refused, held}
 use borrow.Author.Needs.{needs}
 use Rattle.guarantee.proofs.reach.linked.Statement.{statement}
 use Rattle.guarantee.proofs.reach.linked.Tie as tie
-use Rattle.guarantee.proofs.reach.linked.Reads as reads
-use Rattle.guarantee.proofs.reach.linked.Lts as lts
-use Rattle.bits.proofs.has.Reads as has-reads
 
 mul-has : tie.Need-mul-has
 mul-has c = search needs

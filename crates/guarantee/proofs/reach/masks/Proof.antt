@@ -8,9 +8,6 @@ use Rattle.guarantee.proofs.Rounds.{ReachBelow, reach-more}
 use borrow.Author.Needs.{needs}
 use Rattle.guarantee.proofs.reach.masks.Statement.{statement}
 use Rattle.guarantee.proofs.reach.masks.Tie as tie
-use Rattle.guarantee.proofs.reach.masks.Reads as reads
-use Rattle.guarantee.proofs.reach.masks.Lts as lts
-use Rattle.guarantee.proofs.reach.reaching.Reads as reaching-reads
 
 abbrev Inv-loop : tie.InvT-loop
 Inv-loop calls goals masks₀ i₀ masks i =
@@ -39,8 +36,7 @@ loop-less c = search needs
 
 loop-again : tie.Need-loop-again Inv-loop μ-loop
 loop-again c =
-    let l = c .before .before .loop in
-    (
+    let l = c .before .before .loop in (
       λ b masks e.
           reach-more b (l .i) (c .reaching .result) (l .masks) (omega arith) (l .inv .0 b masks e) (c .reaching .ensures b masks e),
       omega arith,

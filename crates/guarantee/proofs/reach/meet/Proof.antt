@@ -1,8 +1,6 @@
 use Rattle.guarantee.proofs.Masks.{meets-and}
 use Rattle.guarantee.proofs.reach.meet.Statement.{statement}
 use Rattle.guarantee.proofs.reach.meet.Tie as tie
-use Rattle.guarantee.proofs.reach.meet.Reads as reads
-use Rattle.guarantee.proofs.reach.meet.Lts as lts
 
 returns : tie.Need-returns
 returns c = meets-and (c .args .a) (c .args .b) (c .fits .b .fits)

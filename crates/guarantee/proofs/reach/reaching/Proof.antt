@@ -8,10 +8,6 @@ use Rattle.guarantee.proofs.Rounds.{Rounds, rounds-start, rounds-more, 
 use borrow.Author.Needs.{needs}
 use Rattle.guarantee.proofs.reach.reaching.Statement.{statement}
 use Rattle.guarantee.proofs.reach.reaching.Tie as tie
-use Rattle.guarantee.proofs.reach.reaching.Reads as reads
-use Rattle.guarantee.proofs.reach.reaching.Lts as lts
-use Rattle.bits.proofs.with.Reads as with-reads
-use Rattle.guarantee.proofs.reach.toward.Reads as toward-reads
 
 abbrev Inv-loop : tie.InvT-loop
 Inv-loop calls goals goal m₀ i₀ m i =
@@ -25,8 +21,7 @@ with-requires c κs = search needs
 
 loop-holds : tie.Need-loop-holds Inv-loop μ-loop
 loop-holds c =
-    let a = c .before .before .args in
-    (
+    let a = c .before .before .args in (
       λ b masks e.
           let all : b .header .goals ≡ a .goals - 0 = omega arith in
           subst (λ (n : ℕ). Rounds b (a .goal) n (c .with .result)) all
@@ -46,8 +41,7 @@ loop-less c = search needs
 loop-again : tie.Need-loop-again Inv-loop μ-loop
 loop-again c =
     let a = c .before .before .before .before .before .args in
-    let l = c .before .before .loop in
-    (
+    let l = c .before .before .loop in (
       λ b masks e. rounds-more b (a .goal) (a .goals) (l .i) (l .m) (c .toward .result) (c .before .loop-test .taken) (l .inv .0 b masks e) (c .toward .ensures b masks),
       omega arith,
     )

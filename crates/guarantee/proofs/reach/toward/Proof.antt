@@ -6,11 +6,6 @@ use Rattle.guarantee.proofs.Rounds.{atGoal, callers, round-ends}
 use borrow.Author.Needs.{needs}
 use Rattle.guarantee.proofs.reach.toward.Statement.{statement}
 use Rattle.guarantee.proofs.reach.toward.Tie as tie
-use Rattle.guarantee.proofs.reach.toward.Reads as reads
-use Rattle.guarantee.proofs.reach.toward.Lts as lts
-use Rattle.bits.proofs.with.Reads as with-reads
-use Rattle.guarantee.proofs.reach.meet.Reads as meet-reads
-use Rattle.guarantee.proofs.reach.with_if.Reads as with-if-reads
 
 abbrev Inv-loop : tie.InvT-loop
 Inv-loop calls goal m r₀ i₀ r i = Upto (atGoal goal) (callers calls m) i r × (i ≤ 64)
@@ -47,8 +42,7 @@ loop-less c = search needs
 loop-again : tie.Need-loop-again Inv-loop μ-loop
 loop-again c =
     let l = c .before .before .before .before .loop in
-    let a = c .before .before .before .before .before .before .before .args in
-    (
+    let a = c .before .before .before .before .before .before .before .args in (
       upto-more (atGoal (a .goal)) (callers (a .calls .now) (a .m)) (l .r) (c .with-if .result) (l .i) (c .before .meet .result) (l .inv .0) (sym (c .before .meet .ensures)) (c .with-if .ensures),
       omega arith,
     )

@@ -6,9 +6,6 @@ use Rattle.guarantee.proofs.Masks.{mask-with, mask-still}
 use borrow.Author.Needs.{needs}
 use Rattle.guarantee.proofs.reach.with_if.Statement.{statement}
 use Rattle.guarantee.proofs.reach.with_if.Tie as tie
-use Rattle.guarantee.proofs.reach.with_if.Reads as reads
-use Rattle.guarantee.proofs.reach.with_if.Lts as lts
-use Rattle.bits.proofs.with.Reads as with-reads
 
 with-requires : tie.Need-with-requires
 with-requires c κs = search needs

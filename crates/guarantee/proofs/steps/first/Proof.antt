@@ -6,11 +6,6 @@ use Rattle.guarantee.proofs.Lines.{isCall, other-code, seen-by}
 use borrow.Author.Needs.{needs}
 use Rattle.guarantee.proofs.steps.first.Statement.{statement}
 use Rattle.guarantee.proofs.steps.first.Tie as tie
-use Rattle.guarantee.proofs.steps.first.Reads as reads
-use Rattle.guarantee.proofs.steps.first.Lts as lts
-use Rattle.book.proofs.code.Code.of_number.Reads as of-number-reads
-use Rattle.book.proofs.line.first.Reads as first-reads
-use Rattle.guarantee.proofs.steps.kind.Reads as kind-reads
 
 first-requires : tie.Need-first-requires
 first-requires c κs = search needs

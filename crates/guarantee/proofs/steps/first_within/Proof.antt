@@ -1,5 +1,5 @@
-use mathlib.Core.Path.{_≡_, refl, sym, ap, _∙_}
-use Prim.Native.Nat.{_+_, _-_, _≤_}
+use mathlib.Core.Path.{_≡_, sym, ap, _∙_}
+use Prim.Native.Nat.{_+_, _≤_}
 use native.Mathlib.Omega.{arith}
 use lib.ListN.{length}
 use Rattle.book.specs.Lines.{linesIn}
@@ -10,10 +10,6 @@ use Rattle.guarantee.proofs.Lines.{stepsIn, steps-none, steps-turn, ste
 use borrow.Author.Needs.{needs}
 use Rattle.guarantee.proofs.steps.first_within.Statement.{statement}
 use Rattle.guarantee.proofs.steps.first_within.Tie as tie
-use Rattle.guarantee.proofs.steps.first_within.Reads as reads
-use Rattle.guarantee.proofs.steps.first_within.Lts as lts
-use Rattle.guarantee.proofs.steps.first.Reads as first-reads
-use Rattle.guarantee.proofs.steps.is_within.Reads as is-within-reads
 
 abbrev Inv-loop : tie.InvT-loop
 Inv-loop book group kind t₀ caller₀ line₀ t caller line =
@@ -74,11 +70,10 @@ loop-again c =
     let a = c .before .before .before .before .before .before .before .before .args in
     let l = c .before .before .before .before .before .loop in
     let s = c .before .before .before .first .result in
-    let w = stepWithin (inMask (a .group)) (a .kind) in
-    (
+    let w = stepWithin (inMask (a .group)) (a .kind) in (
       sym (ap (firstStep w) (steps-turn (l .line) (l .caller) (l .t .now) s (c .before .before .before .before .loop-test .taken) (c .before .before .before .first .ensures))
-      ∙ first-later w (s .step) (stepAt (l .line) s) _ (sym (c .before .before .is-within .ensures) ∙ c .before .if1 .left))
-      ∙ l .inv .0,
+          ∙ first-later w (s .step) (stepAt (l .line) s) _ (sym (c .before .before .is-within .ensures) ∙ c .before .if1 .left))
+          ∙ l .inv .0,
       omega (arith, rest-length (l .t .now), l .inv .1, c .before .before .before .before .loop-test .taken),
     )
 

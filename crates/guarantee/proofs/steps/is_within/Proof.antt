@@ -3,10 +3,6 @@ use Rattle.book.proofs.Tests.{stop, pass, refused, held}
 use borrow.Author.Needs.{needs}
 use Rattle.guarantee.proofs.steps.is_within.Statement.{statement}
 use Rattle.guarantee.proofs.steps.is_within.Tie as tie
-use Rattle.guarantee.proofs.steps.is_within.Reads as reads
-use Rattle.guarantee.proofs.steps.is_within.Lts as lts
-use Rattle.bits.proofs.has.Reads as has-reads
-use Rattle.definition.proofs.paths.PathKind.same.Reads as same-reads
 
 returns : tie.Need-returns
 returns c = let a = c .before .before .args in stop (a .s .step) _ (not-true (a .s .step) (c .if1 .taken))

@@ -2,9 +2,6 @@ use Rattle.guarantee.proofs.Lines.{far-kind}
 use borrow.Author.Needs.{needs}
 use Rattle.guarantee.proofs.steps.kind.Statement.{statement}
 use Rattle.guarantee.proofs.steps.kind.Tie as tie
-use Rattle.guarantee.proofs.steps.kind.Reads as reads
-use Rattle.guarantee.proofs.steps.kind.Lts as lts
-use Rattle.definition.proofs.paths.PathKind.from_number.Reads as from-number-reads
 
 returns : tie.Need-returns
 returns c = far-kind (c .before .args .number) (c .if1 .taken)
