@@ -2,7 +2,7 @@
 // coinductive step inside, or no inductive one. If not, a group and two lines that
 // break it.
 pub mod reach;
-pub mod steps;
+mod steps;
 
 use book::BookRead;
 use definition::paths::PathKind;
