@@ -61,6 +61,21 @@ uint32_t search_graph_query(const uint8_t *book, size_t book_len,
                             uint8_t *work, size_t work_len,
                             size_t goal, size_t depth);
 
+/* Tells whether a book's Yes and No are guaranteed to be right: each group of goals that reach each
+   other by calls has no inductive step inside, or no coinductive one. A step is a call line; it is
+   inside a group where the goal in whose part it stands and the goal that it calls are both of the
+   group. Returns 256 * refusal: a refusal 1 to 4 as above, or 0 where the book was accepted.
+
+   book  is only read.
+   out   takes three numbers, as many as there is room for; the others stay as they were:
+         0  the line of the first inductive step inside a group that breaks the condition
+         1  the line of the first coinductive step inside that group
+         2  the goals of that group: bit i is set for goal i
+         Lines are numbered from 0, the header. All three are 0 where the guarantee is given, and
+         where the book is refused; no step is line 0. book and out must not overlap. */
+uint32_t search_graph_guarantee(const uint8_t *book, size_t book_len,
+                                uint64_t *out, size_t out_len);
+
 #ifdef __cplusplus
 }
 #endif
