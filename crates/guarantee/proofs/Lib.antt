@@ -1,0 +1,11 @@
+pub mod Masks
+pub mod Lines
+pub mod Rounds
+pub mod Numbers
+pub mod Members
+pub mod Accepted
+pub mod Conflicts
+pub mod Books
+pub mod Inside
+pub mod Theorems
+pub mod Examples

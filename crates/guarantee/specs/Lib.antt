@@ -1,0 +1,4 @@
+pub mod Guarantee
+pub mod Engine
+pub mod Meaning
+pub mod Codes
