@@ -25,7 +25,7 @@ static void tell(void) {
 }
 
 /* Of every 10,000 queries at least so many: a third of what random inputs give, and less of what is rare. */
-enum { LEAST_GIVEN = 100, LEAST_BROKEN = 100 };
+enum { LEAST_GIVEN = 400, LEAST_BROKEN = 250 };
 static const unsigned long least_answers[ANSWERS] = {250, 250, 250, 400};
 static const unsigned long least_refusals[REFUSALS + 1] = {0, 500, 200, 40, 400, 90, 80, 25, 300, 20, 1, 12};
 
