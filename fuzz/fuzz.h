@@ -50,6 +50,12 @@ unsigned book_refusal(const uint8_t *book, size_t len, unsigned *goals, unsigned
 int cache_is_well_formed(const uint8_t *cache, unsigned goals, unsigned top);
 unsigned expected_refusal(const struct query *q);
 
+/* ---- groups.c: the condition of mixed books, decided apart from the library */
+
+/* Of a good book: the two lines and the group that break the condition, and whether something does. */
+enum { CONFLICT = 3 };
+int expected_conflict(const uint8_t *book, size_t len, uint64_t conflict[CONFLICT]);
+
 /* ---- place.c: copies of a query's buffers where a step past an end is seen */
 
 enum { PLACES = 3 };

@@ -15,15 +15,17 @@ enum { LAST_UNTOUCHED = 9, REFUSALS = 11, ANSWERS = 4, LIMIT_MS = 300 };
 /* ---- what was seen */
 
 static unsigned long inputs, queries, too_long, answers[ANSWERS], refusals[REFUSALS + 1];
+static unsigned long given, broken; /* guarantees */
 
 static void tell(void) {
     printf("%lu inputs, %lu queries of %d calls each; No %lu, Yes %lu, undecided %lu, overflow %lu; refusals 1 to 11:", inputs, queries, PLACES,
            answers[0], answers[1], answers[2], answers[3]);
     for (int i = 1; i <= REFUSALS; i++) printf(" %lu", refusals[i]);
-    printf("; too long %lu\n", too_long);
+    printf("; too long %lu; guarantees given %lu, broken %lu\n", too_long, given, broken);
 }
 
 /* Of every 10,000 queries at least so many: a third of what random inputs give, and less of what is rare. */
+enum { LEAST_GIVEN = 400, LEAST_BROKEN = 250 };
 static const unsigned long least_answers[ANSWERS] = {250, 250, 250, 400};
 static const unsigned long least_refusals[REFUSALS + 1] = {0, 500, 200, 40, 400, 90, 80, 25, 300, 20, 1, 12};
 
@@ -38,6 +40,7 @@ int enough_seen(unsigned long least) {
     if (!enough) fprintf(stderr, "fuzz: %lu queries, fewer than %lu\n", queries, least);
     for (int i = 0; i < ANSWERS; i++) enough &= has("answer", i, answers[i], times * least_answers[i]);
     for (int i = 1; i <= REFUSALS; i++) enough &= has("refusal", i, refusals[i], times * least_refusals[i]);
+    enough &= has("guarantee given", 1, given, times * LEAST_GIVEN) & has("guarantee given", 0, broken, times * LEAST_BROKEN);
     return enough;
 }
 
@@ -172,6 +175,26 @@ static void check_lengths(struct input *in) {
     if (search_graph_cache_len(goals, top) != cache_length(goals, top)) fail(&none, 0, "search_graph_cache_len");
 }
 
+/* Whether the book meets the condition of mixed books, told in room for 0 to 5 numbers, in every placement. */
+static void check_guarantee(struct input *in, const struct bytes *book) {
+    uint64_t want[CONFLICT] = {0}, before[5];
+    uint8_t none = 0;
+    unsigned n = take(in) % 6, goals, top, refusal = book_refusal(book->at, book->len, &goals, &top);
+    struct query q = {*book, {&none, 0}, {(uint8_t *)before, n * sizeof *before}, n, 0}, placed;
+    if (refusal == 0) *(expected_conflict(book->at, book->len, want) ? &broken : &given) += 1;
+    for (int how = 0; how < PLACES; how++) {
+        make_noise(take(in), (uint8_t *)before, sizeof before);
+        place(&q, how, &placed);
+        const uint64_t *out = (const uint64_t *)placed.work.at;
+        uint32_t code = search_graph_guarantee(placed.book.at, placed.book.len, (uint64_t *)placed.work.at, n);
+        if (code != 256 * refusal) fail(&q, code, "search_graph_guarantee refuses otherwise");
+        if (!same(&q.book, &placed.book)) fail(&q, code, "search_graph_guarantee changed the book");
+        for (unsigned i = 0; i < n; i++)
+            if (out[i] != (i < CONFLICT ? want[i] : before[i])) fail(&q, code, "search_graph_guarantee tells other numbers");
+        unplace(&placed, how);
+    }
+}
+
 /* One query; the cache, of the right length, is carried on where this one has it. 0 where it takes too long. */
 static int one_query(struct input *in, struct query *q, unsigned goals, unsigned top) {
     size_t right = q->cache.len;
@@ -199,6 +222,7 @@ int LLVMFuzzerTestOneInput(const uint8_t *data, size_t size) {
     check_lengths(&in);
     make_book(&in, &q.book);
     book_refusal(book, q.book.len, &goals, &top);
+    check_guarantee(&in, &q.book);
     make_cache(&in, goals, top, &q.cache);
     for (unsigned left = 1 + take(&in) % 6; left > 0; left--) {
         if (take(&in) % 32 == 31) make_cache(&in, goals, top, &q.cache);

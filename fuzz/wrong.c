@@ -9,6 +9,7 @@ size_t right_work_len(size_t goals);
 size_t right_cache_len(size_t goals, size_t top_depth);
 uint32_t right_query(const uint8_t *book, size_t book_len, uint8_t *cache, size_t cache_len, uint8_t *work, size_t work_len, size_t goal,
                      size_t depth);
+uint32_t right_guarantee(const uint8_t *book, size_t book_len, uint64_t *out, size_t n);
 
 static int wrong(const char *name) {
     static const char *set;
@@ -55,6 +56,18 @@ static void leave(uint32_t refusal, uint8_t *cache, size_t cache_len, uint8_t *w
     if (wrong("eight-writes-work") && refusal == 8 && work_len > 0) work[0] ^= 1;
     if (wrong("ten-leaves-cache") && refusal == 10) cache[cache_len - 1] = 1;
     if (wrong("eleven-leaves-work") && refusal == 11) work[work_len / 2] = 1;
+}
+
+uint32_t search_graph_guarantee(const uint8_t *book, size_t book_len, uint64_t *out, size_t n) {
+    if (wrong("guarantee-reads-past")) read_byte(book + book_len);
+    uint32_t code = right_guarantee(book, book_len, out, n);
+    if (wrong("guarantee-always-given") && n > 0) out[0] = 0;
+    if (wrong("guarantee-other-line") && n > 1 && out[1] != 0) out[1]++;
+    if (wrong("guarantee-other-group") && n > 2 && out[2] != 0) out[2] ^= (uint64_t)1 << 63;
+    if (wrong("guarantee-writes-fourth") && n > 3) out[3]++;
+    if (wrong("guarantee-writes-past")) ((volatile uint64_t *)out)[n] = 0;
+    if (wrong("guarantee-four-for-three") && code == 3 * 256) return 4 * 256;
+    return code;
 }
 
 /* Faults in the code. */

@@ -1,9 +1,10 @@
-/* The search graph: one query over a book, with a cache that is kept between queries.
+/* The search graph: one query over a book, with a cache that is kept between queries; and whether
+   what it answers of a book is proved right.
 
    The caller owns every buffer. No function keeps a pointer, allocates or has a state of its own.
-   The three buffers of a query must not overlap, and a pointer is not null, also where the
-   length is 0. Any bytes and any lengths are answered: what does not fit is refused. A query
-   needs SEARCH_GRAPH_STACK_LEN bytes of the machine's stack. */
+   The buffers of a call must not overlap, and a pointer is not null, also where the
+   length is 0. Any bytes and any lengths are answered: what does not fit is refused. A call
+   needs at most SEARCH_GRAPH_STACK_LEN bytes of the machine's stack. */
 #ifndef SEARCH_GRAPH_H
 #define SEARCH_GRAPH_H
 
@@ -61,20 +62,22 @@ uint32_t search_graph_query(const uint8_t *book, size_t book_len,
                             uint8_t *work, size_t work_len,
                             size_t goal, size_t depth);
 
-/* Tells whether a book's Yes and No are guaranteed to be right: each group of goals that reach each
-   other by calls has no inductive step inside, or no coinductive one. A step is a call line; it is
-   inside a group where the goal in whose part it stands and the goal that it calls are both of the
-   group. Returns 256 * refusal: a refusal 1 to 4 as above, or 0 where the book was accepted.
+/* Whether every Yes and No that queries on this book answer, with a cache that began with zeros,
+   is proved right. Two goals are linked where each reaches the other by calls; a group is a goal
+   with all that are linked to it, and a call is inside where both of its goals are in the group.
+   The guarantee is given where no group has both an inductive call (kind 0) and a coinductive
+   one (kind 2) inside: Yes and No are then right of the set that is built group by group, least
+   where a group has no coinductive call inside, greatest where it has no inductive one.
+   Elsewhere queries answer as the original does, and nothing is proved of their Yes and No.
 
-   book  is only read.
-   out   takes three numbers, as many as there is room for; the others stay as they were:
-         0  the line of the first inductive step inside a group that breaks the condition
-         1  the line of the first coinductive step inside that group
-         2  the goals of that group: bit i is set for goal i
-         Lines are numbered from 0, the header. All three are 0 where the guarantee is given, and
-         where the book is refused; no step is line 0. book and out must not overlap. */
-uint32_t search_graph_guarantee(const uint8_t *book, size_t book_len,
-                                uint64_t *out, size_t out_len);
+   Returns 256 * refusal, one of the refusals 1 to 4 above, or 0. The first n of these numbers are
+   written to out, at most 3; further ones are left as they were:
+     out[0], out[1]  an inductive and a coinductive call line inside one group, by their numbers
+                     (the header is line 0): the first inductive one that has such a coinductive
+                     one, and the first of those
+     out[2]          the goals of that group, bit i for goal i
+   All three are 0 where the guarantee is given, and where the book is refused. */
+uint32_t search_graph_guarantee(const uint8_t *book, size_t book_len, uint64_t *out, size_t n);
 
 #ifdef __cplusplus
 }
