@@ -9,7 +9,6 @@ use question::Question;
 ghost use mathlib.Core.Path.{_≡_};
 ghost use Rattle.definition.specs.Reader.{readBook};
 ghost use Rattle.definition.specs.Query.{query};
-ghost use Rattle.io.specs.Counts.{Counts};
 ghost use Rattle.query.specs.Carried.{Carried};
 ghost use Rattle.ask.specs.declared.Opened.the-variants.{Open};
 ghost use Rattle.ask.specs.Program.{openedWith, opened, replied, turned, turn, Lent, Ready};
@@ -83,19 +82,6 @@ fn answer_line(book: &[u8], cache: &mut [u8], work: &mut [u8], line: &[u8]) -> T
 
 // ---- files
 
-// Reads the book and answers its length; a file that cannot be opened has none.
-fn read_book(bytes: &mut [u8]) -> usize
-    ensures { λ n. ⌜ Counts n (now (bytes .exit)) ⌝ }
-{
-    let file = os::open_read(b"book.txt");
-    if file < 0 {
-        return 0;
-    }
-    let n = io::read_full(file, bytes);
-    libc::close(file);
-    n
-}
-
 // Reads a question line and prints its reply; false where no more is read.
 fn ask_once(book: &[u8], cache: &mut [u8], work: &mut [u8]) -> bool
     requires { ⌜ Ready (now book) (now cache) (now work) ⌝ }
@@ -141,7 +127,7 @@ fn ask_book(book: &[u8], h: Header)
 
 fn main() {
     let mut bytes = io::large_buffer();
-    let n = read_book(&mut bytes);
+    let n = book_file::read_book(&mut bytes);
     let book = &bytes[..n];
     let o = open(book);
     match o {

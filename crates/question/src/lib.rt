@@ -43,7 +43,7 @@ pub fn read_question(s: &[u8]) -> Question
 // ---- writing
 
 // A number's last column: its last digit.
-fn last_column(n: u16) -> u8
+pub fn last_column(n: u16) -> u8
     ensures { λ r. ⌜ r ≡ lastColumn n ⌝ }
 {
     48 + (n % 10) as u8
@@ -51,7 +51,7 @@ fn last_column(n: u16) -> u8
 
 // A column before the last: the last digit of what is left of the number, or a space
 // where nothing is.
-fn leading_column(n: u16) -> u8
+pub fn leading_column(n: u16) -> u8
     ensures { λ r. ⌜ r ≡ leadingColumn n ⌝ }
 {
     if n == 0 {
