@@ -22,8 +22,10 @@ numbers (Refused r) out = three 0 0 0 out
 numbers Given out = three 0 0 0 out
 numbers (Broken c) out = three (c .inductive) (c .coinductive) (c .group) out
 
-pub judged : (v w : Verdict) (code : ℕ) (ns out first second third : List ℕ) → v ≡ w → code ≡ verdictCode v → ns ≡ verdictNumbers v
-    → first ≡ set out 0 (getD ns 0 0) → second ≡ set first 1 (getD ns 1 0) → third ≡ set second 2 (getD ns 2 0) → Judged code third out w
+pub judged : (v w : Verdict) (code : ℕ) (ns out first second third : List ℕ) → v ≡ w → code ≡ verdictCode v
+    → ns ≡ verdictNumbers v
+    → first ≡ set out 0 (getD ns 0 0) → second ≡ set first 1 (getD ns 1 0) → third ≡ set second 2 (getD ns 2 0)
+    → Judged code third out w
 judged v w code ns out first second third is k n a b c =
     record {
       code-is = k ∙ ap verdictCode is;

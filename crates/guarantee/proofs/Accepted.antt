@@ -21,7 +21,7 @@ use Rattle.book.specs.Read.{bookIn}
 use Rattle.book.proofs.Books.{length-fits, accepted-range}
 use Rattle.soundness.specs.Groups.{StepLine, stepLines, StepsAreLines, callsSome, hasStep, linked}
 use Rattle.soundness.proofs.Calls.{BookOk, calls-step, exactly, step-calls}
-use Rattle.soundness.proofs.Logic.{both}
+use Rattle.soundness.proofs.Logic.{both, same-bool}
 use Rattle.soundness.proofs.Reading.{any-read}
 use Rattle.soundness.proofs.StepLines.{steps-are-lines}
 use Rattle.soundness.proofs.Reach.{calls-inside, reaches-inside, linked-to}
@@ -33,21 +33,16 @@ use Rattle.guarantee.proofs.Masks.{meets-none}
 use Rattle.guarantee.proofs.Numbers.{mask-goals}
 use Rattle.guarantee.proofs.Members.{some-step, a-step, every-at, some-at}
 
-same-bool : (x y : Bool) → (T x → T y) → (T y → T x) → x ≡ y
-same-bool true true f h = refl
-same-bool true false f h = absurd (f tt)
-same-bool false true f h = absurd (h tt)
-same-bool false false f h = refl
-
 is-false : (x : Bool) → (T x → ⊥) → x ≡ false
-is-false true h = absurd (h tt)
-is-false false h = refl
+is-false x h = same-bool x false h (λ t. absurd t)
 
 module _ (b : Book) where
   abbrev byLength : Bool → Option (List Line) → BookRead
-  byLength t x = elim t [ false ↦ Rejected BookLength | true ↦ elim x [ none ↦ Rejected BookLine | some ls ↦ readHeader ls ] ]
+  byLength t x =
+      elim t [ false ↦ Rejected BookLength | true ↦ elim x [ none ↦ Rejected BookLine | some ls ↦ readHeader ls ] ]
 
-  by-length : (t fit : Bool) (ls : List Line) (x : Option (List Line)) → x ≡ elim fit [ true ↦ some ls | false ↦ none ] → byLength t x ≡ Accepted b → (t ≡ true) × (x ≡ some ls)
+  by-length : (t fit : Bool) (ls : List Line) (x : Option (List Line))
+      → x ≡ elim fit [ true ↦ some ls | false ↦ none ] → byLength t x ≡ Accepted b → (t ≡ true) × (x ≡ some ls)
   by-length false fit ls x k e = let z : _≡_ {A = ℕ} 0 1 = cc in absurd (omega arith)
   by-length true true ls x k e = (refl, k)
   by-length true false ls x k e =
@@ -55,8 +50,11 @@ module _ (b : Book) where
       let z : _≡_ {A = ℕ} 0 1 = cc in
       absurd (omega arith)
 
-  accepted : (bytes : List ℕ) → readBook bytes ≡ Accepted b → (lengthInRange (length bytes) ≡ true) × (linesOf bytes ≡ some (linesIn bytes))
-  accepted bytes e = by-length (lengthInRange (length bytes)) (allFit bytes) (linesIn bytes) (linesOf bytes) (lines-of bytes ∙ by (allFit bytes)) e
+  accepted : (bytes : List ℕ) → readBook bytes ≡ Accepted b
+      → (lengthInRange (length bytes) ≡ true) × (linesOf bytes ≡ some (linesIn bytes))
+  accepted bytes e =
+      by-length (lengthInRange (length bytes)) (allFit bytes) (linesIn bytes) (linesOf bytes)
+      (lines-of bytes ∙ by (allFit bytes)) e
     where
       by : (t : Bool) → linesIf t bytes ≡ elim t [ true ↦ some (linesIn bytes) | false ↦ none ]
       by true = refl
@@ -79,29 +77,40 @@ module _ (bytes : List ℕ) (is : IsAccepted bytes) where
   lines = steps-are-lines bytes (bookIn bytes) (linesIn bytes) is (accepted-lines (bookIn bytes) bytes is)
 
   -- each line is a step, and each step has a line
-  pub line-step : (s : StepLine) → IsOneOf s (stepLines (linesIn bytes)) → T (hasStep (bookIn bytes) (s .caller) (s .goal) (s .kind))
-  line-step s = every-at (λ x. T (hasStep (bookIn bytes) (x .caller) (x .goal) (x .kind))) s (stepLines (linesIn bytes)) (lines .lines)
+  pub line-step : (s : StepLine) → IsOneOf s (stepLines (linesIn bytes))
+      → T (hasStep (bookIn bytes) (s .caller) (s .goal) (s .kind))
+  line-step s =
+      every-at (λ x. T (hasStep (bookIn bytes) (x .caller) (x .goal) (x .kind))) s (stepLines (linesIn bytes))
+      (lines .lines)
 
   pub step-line : (c y : ℕ) (k : PathKind) → T (hasStep (bookIn bytes) c y k)
       → (s : StepLine) × IsOneOf s (stepLines (linesIn bytes)) × ((s .caller ≡ c) × (s .goal ≡ y) × (s .kind ≡ k))
-  step-line c y k t = some-at (λ s. (s .caller ≡ c) × (s .goal ≡ y) × (s .kind ≡ k)) (stepLines (linesIn bytes)) (lines .steps c y k t)
+  step-line c y k t =
+      some-at (λ s. (s .caller ≡ c) × (s .goal ≡ y) × (s .kind ≡ k)) (stepLines (linesIn bytes)) (lines .steps c y k t)
 
   -- a goal of the book is linked to goals of the book only
-  pub outside : (g k : ℕ) → g < bookIn bytes .header .goals → bookIn bytes .header .goals ≤ k → linked (bookIn bytes) g k ≡ false
+  pub outside : (g k : ℕ) → g < bookIn bytes .header .goals → bookIn bytes .header .goals ≤ k
+      → linked (bookIn bytes) g k ≡ false
   outside g k near far =
       is-false (linked (bookIn bytes) g k)
       (λ t. omega (arith, reaches-inside (bookIn bytes) ok g k near (linked-to (bookIn bytes) ok g k t)))
 
   -- ---- the lines' steps are the calls of the parts
-  calls-by-lines : (i m : ℕ) → someStep (into i m) (stepLines (linesIn bytes)) ≡ callsSome (bookIn bytes) (λ g kind. inMask m g) i
-  calls-by-lines i m = same-bool (someStep (into i m) (stepLines (linesIn bytes))) (callsSome (bookIn bytes) (λ g kind. inMask m g) i) there back
+  calls-by-lines : (i m : ℕ)
+      → someStep (into i m) (stepLines (linesIn bytes)) ≡ callsSome (bookIn bytes) (λ g kind. inMask m g) i
+  calls-by-lines i m =
+      same-bool (someStep (into i m) (stepLines (linesIn bytes))) (callsSome (bookIn bytes) (λ g kind. inMask m g) i)
+      there back
     where
-      there : T (someStep (into i m) (stepLines (linesIn bytes))) → T (callsSome (bookIn bytes) (λ g kind. inMask m g) i)
+      there : T (someStep (into i m) (stepLines (linesIn bytes)))
+          → T (callsSome (bookIn bytes) (λ g kind. inMask m g) i)
       there t =
           let r = a-step (into i m) (stepLines (linesIn bytes)) t in
           let s = r .0 in
-          subst (λ (c : ℕ). T (callsSome (bookIn bytes) (λ g kind. inMask m g) c)) (eqb→eq (s .caller) i (and-left (eqb (s .caller) i) (inMask m (s .goal)) (r .2)))
-          (step-calls (bookIn bytes) (inMask m) (s .caller) (s .goal) (s .kind) (line-step s (r .1)) (and-right (eqb (s .caller) i) (inMask m (s .goal)) (r .2)))
+          subst (λ (c : ℕ). T (callsSome (bookIn bytes) (λ g kind. inMask m g) c))
+          (eqb→eq (s .caller) i (and-left (eqb (s .caller) i) (inMask m (s .goal)) (r .2)))
+          (step-calls (bookIn bytes) (inMask m) (s .caller) (s .goal) (s .kind) (line-step s (r .1))
+          (and-right (eqb (s .caller) i) (inMask m (s .goal)) (r .2)))
 
       back : T (callsSome (bookIn bytes) (λ g kind. inMask m g) i) → T (someStep (into i m) (stepLines (linesIn bytes)))
       back =
@@ -110,7 +119,8 @@ module _ (bytes : List ℕ) (is : IsAccepted bytes) where
           let s = r .0 in
           some-step (into i m) s (stepLines (linesIn bytes)) (r .1)
           (both (eqb (s .caller) i) (inMask m (s .goal))
-          (subst (λ (c : ℕ). T (eqb c i)) (sym (r .2 .0)) (eqb-refl i)) (subst (λ (g : ℕ). T (inMask m g)) (sym (r .2 .1)) u))
+          (subst (λ (c : ℕ). T (eqb c i)) (sym (r .2 .0)) (eqb-refl i))
+          (subst (λ (g : ℕ). T (inMask m g)) (sym (r .2 .1)) u))
 
   no-calls : (i m : ℕ) → 64 ≤ i → callsSome (bookIn bytes) (λ g kind. inMask m g) i ≡ false
   no-calls i m far =
@@ -126,7 +136,8 @@ module _ (bytes : List ℕ) (is : IsAccepted bytes) where
       let r = a-step (beyond (bookIn bytes .header .goals)) (stepLines (linesIn bytes)) t in
       omega (arith, caller-in (r .0) (r .1), leb→le (bookIn bytes .header .goals) (r .0 .caller) (r .2))
 
-  pub call-masks : (masks : List ℕ) → length masks ≡ 64 → ((i m : ℕ) → i < 64 → meets (getD masks i 0) m ≡ someStep (into i m) (stepLines (linesIn bytes)))
+  pub call-masks : (masks : List ℕ) → length masks ≡ 64
+      → ((i m : ℕ) → i < 64 → meets (getD masks i 0) m ≡ someStep (into i m) (stepLines (linesIn bytes)))
       → CallMasks (bookIn bytes) masks
   call-masks masks long h i m = go (decLt i 64)
     where
@@ -137,10 +148,14 @@ module _ (bytes : List ℕ) (is : IsAccepted bytes) where
           ap (λ (a : ℕ). meets a m) past ∙ meets-none m ∙ sym (no-calls i m (omega arith))
 
   -- the number of a group has its goals as bits
-  pub group-goals : (g k : ℕ) → g < bookIn bytes .header .goals → inMask (maskOf (bookIn bytes .header .goals) (linked (bookIn bytes) g)) k ≡ linked (bookIn bytes) g k
-  group-goals g k near = mask-goals (bookIn bytes .header .goals) (linked (bookIn bytes) g) few-goals k ∙ go (decLt k (bookIn bytes .header .goals))
+  pub group-goals : (g k : ℕ) → g < bookIn bytes .header .goals
+      → inMask (maskOf (bookIn bytes .header .goals) (linked (bookIn bytes) g)) k ≡ linked (bookIn bytes) g k
+  group-goals g k near =
+      mask-goals (bookIn bytes .header .goals) (linked (bookIn bytes) g) few-goals k
+      ∙ go (decLt k (bookIn bytes .header .goals))
     where
-      go : Dec (k < bookIn bytes .header .goals) → (ltb k (bookIn bytes .header .goals) && linked (bookIn bytes) g k) ≡ linked (bookIn bytes) g k
+      go : Dec (k < bookIn bytes .header .goals)
+          → (ltb k (bookIn bytes .header .goals) && linked (bookIn bytes) g k) ≡ linked (bookIn bytes) g k
       go (yes l) = ap (λ (t : Bool). t && linked (bookIn bytes) g k) (lt-ltb k (bookIn bytes .header .goals) l)
       go (no n) =
           ap (λ (t : Bool). t && linked (bookIn bytes) g k) (le-ltb k (bookIn bytes .header .goals) (omega arith))

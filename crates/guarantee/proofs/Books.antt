@@ -16,10 +16,12 @@ use Rattle.guarantee.specs.Guarantee.{firstConflict, stepsOf, guaranteeO
 use Rattle.guarantee.specs.Engine.{IsAccepted}
 use Rattle.guarantee.proofs.Accepted.{accepted-lines}
 
-pub of-accepted : (bytes : List ℕ) → IsAccepted bytes → guaranteeOf bytes ≡ firstConflict (bookIn bytes) (stepLines (linesIn bytes)) (stepLines (linesIn bytes))
+pub of-accepted : (bytes : List ℕ) → IsAccepted bytes
+    → guaranteeOf bytes ≡ firstConflict (bookIn bytes) (stepLines (linesIn bytes)) (stepLines (linesIn bytes))
 of-accepted bytes is = ap₂ guaranteeOfRead is (ap stepsOf (accepted-lines (bookIn bytes) bytes is))
 
-pub of-rejected : (bytes : List ℕ) (x : BookRead) (r : Refusal) → x ≡ Rejected r → x ≡ headerRead (readBook bytes) → Refused r ≡ guaranteeOf bytes
+pub of-rejected : (bytes : List ℕ) (x : BookRead) (r : Refusal) → x ≡ Rejected r → x ≡ headerRead (readBook bytes)
+    → Refused r ≡ guaranteeOf bytes
 of-rejected bytes x r k e = go (readBook bytes) (sym k ∙ e)
   where
     go : (y : reader.BookRead) → Rejected r ≡ headerRead y → Refused r ≡ guaranteeOfRead y (stepsOf (linesOf bytes))

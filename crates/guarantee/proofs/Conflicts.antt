@@ -30,7 +30,8 @@ use Rattle.guarantee.proofs.Numbers.{mask-of}
 use Rattle.guarantee.proofs.Verdict.{the-type}
 
 -- ---- the mask of a group
-module _ (bytes : List ℕ) (accepted : IsAccepted bytes) (g m : ℕ) (near : g < bookIn bytes .header .goals) (is : IsGroup (bookIn bytes) g m) where
+module _ (bytes : List ℕ) (accepted : IsAccepted bytes) (g m : ℕ) (near : g < bookIn bytes .header .goals)
+    (is : IsGroup (bookIn bytes) g m) where
   abbrev b : Book
   b = bookIn bytes
 
@@ -42,7 +43,8 @@ module _ (bytes : List ℕ) (accepted : IsAccepted bytes) (g m : ℕ) (near : g 
       go (yes l) = is k ∙ ap (λ (t : Bool). t && linked b g k) (lt-ltb k 64 l)
       go (no n) =
           let far : b .header .goals ≤ k = (let few = few-goals bytes accepted in omega arith) in
-          is k ∙ ap (λ (t : Bool). t && linked b g k) (le-ltb k 64 (omega arith)) ∙ sym (outside bytes accepted g k near far)
+          is k ∙ ap (λ (t : Bool). t && linked b g k) (le-ltb k 64 (omega arith))
+          ∙ sym (outside bytes accepted g k near far)
 
   group-number : m < 2 ^ 64 → m ≡ maskOf (b .header .goals) (linked b g)
   group-number small = mask-of (b .header .goals) m (linked b g) (few-goals bytes accepted) small below
@@ -58,7 +60,8 @@ module _ (bytes : List ℕ) (accepted : IsAccepted bytes) (g m : ℕ) (near : g 
 
 -- ---- a line's conflict
 module _ (bytes : List ℕ) (accepted : IsAccepted bytes) (n : ℕ) (s : Seen) (m : ℕ) (small : m < 2 ^ 64)
-    (is : s .caller < 64 → IsGroup (bookIn bytes) (s .caller) m) (near : s .step ≡ true → s .caller < bookIn bytes .header .goals) where
+    (is : s .caller < 64 → IsGroup (bookIn bytes) (s .caller) m)
+    (near : s .step ≡ true → s .caller < bookIn bytes .header .goals) where
   abbrev book : Book
   book = bookIn bytes
 
@@ -68,7 +71,11 @@ module _ (bytes : List ℕ) (accepted : IsAccepted bytes) (n : ℕ) (s : Seen) (
   abbrev by : Bool → Bool → Option StepLine → Option Conflict
   by step within first =
       elim step [
-        | true ↦ elim within [ false ↦ none | true ↦ elim first [ none ↦ none | some t ↦ some (conflict book (stepAt n s) t) ] ]
+        | true ↦ elim within [
+          | false ↦ none
+          | true ↦ elim first
+              [ none ↦ none | some t ↦ some (conflict book (stepAt n s) t) ]
+        ]
         | false ↦ none
       ]
 
@@ -76,16 +83,22 @@ module _ (bytes : List ℕ) (accepted : IsAccepted bytes) (n : ℕ) (s : Seen) (
   searched group = firstStep (stepWithin group Coinductive) steps
 
   group : s .step ≡ true → inMask m ≡ linked book (s .caller)
-  group e = let few = few-goals bytes accepted in let l = near e in whole-group bytes accepted (s .caller) m l (is (omega arith))
+  group e =
+      let few = few-goals bytes accepted in
+      let l = near e in whole-group bytes accepted (s .caller) m l (is (omega arith))
 
   -- by what the engine looks at
-  as-seen : s .step ≡ true → conflictAt book steps n s ≡ by true (stepWithin (inMask m) Inductive (stepAt 0 s)) (searched (inMask m))
+  as-seen : s .step ≡ true
+      → conflictAt book steps n s ≡ by true (stepWithin (inMask m) Inductive (stepAt 0 s)) (searched (inMask m))
   as-seen e =
-      ap (λ (x : Bool). by x (stepWithin (linked book (s .caller)) Inductive (stepAt n s)) (searched (linked book (s .caller)))) e
+      ap (λ (x : Bool). by x (stepWithin (linked book (s .caller)) Inductive (stepAt n s))
+      (searched (linked book (s .caller)))) e
       ∙ ap (λ (p : Goals). by true (stepWithin p Inductive (stepAt n s)) (searched p)) (sym (group e))
 
   no-step : s .step ≡ false → conflictAt book steps n s ≡ none
-  no-step e = ap (λ (x : Bool). by x (stepWithin (linked book (s .caller)) Inductive (stepAt n s)) (searched (linked book (s .caller)))) e
+  no-step e =
+      ap (λ (x : Bool). by x (stepWithin (linked book (s .caller)) Inductive (stepAt n s))
+      (searched (linked book (s .caller)))) e
 
   parts : (a b : Bool) → a && b ≡ true → (a ≡ true) × (b ≡ true)
   parts true b e = (refl, e)
@@ -95,7 +108,8 @@ module _ (bytes : List ℕ) (accepted : IsAccepted bytes) (n : ℕ) (s : Seen) (
     pub not-within : not within ≡ true → Given ≡ verdictOf (conflictAt book steps n s)
     not-within e = ap verdictOf (go (s .step) refl (sym told ∙ not-true within e))
       where
-        go : (x : Bool) → s .step ≡ x → (x && stepWithin (inMask m) Inductive (stepAt 0 s)) ≡ false → none ≡ conflictAt book steps n s
+        go : (x : Bool) → s .step ≡ x → (x && stepWithin (inMask m) Inductive (stepAt 0 s)) ≡ false
+            → none ≡ conflictAt book steps n s
         go false e f = sym (no-step e)
         go true e f = sym (as-seen e ∙ ap (λ (y : Bool). by true y (searched (inMask m))) f)
 
@@ -125,7 +139,8 @@ module _ (bytes : List ℕ) (accepted : IsAccepted bytes) (n : ℕ) (s : Seen) (
                 let l = near (f .0) in
                 group-number bytes accepted (s .caller) m l (is (omega arith)) small
 
-            go : (x : Option StepLine) → some other ≡ lineOf x → some (record { inductive = n; coinductive = other; group = m }) ≡ by true true x
+            go : (x : Option StepLine) → some other ≡ lineOf x
+                → some (record { inductive = n; coinductive = other; group = m }) ≡ by true true x
             go none f = let z : _≡_ {A = ℕ} 0 1 = cc in absurd (omega arith)
             go (some t) f =
                 let same : other ≡ t .line = cc in
@@ -137,7 +152,8 @@ module _ (b : Book) (all : List StepLine) where
   orElse x v = elim x [ some c ↦ Broken c | none ↦ v ]
 
   first-cons : (n : ℕ) (s : Seen) (rest : List StepLine)
-      → firstConflict b all (consIf (s .step) (stepAt n s) rest) ≡ orElse (conflictAt b all n s) (firstConflict b all rest)
+      → firstConflict b all (consIf (s .step) (stepAt n s) rest)
+      ≡ orElse (conflictAt b all n s) (firstConflict b all rest)
   first-cons n s rest = go (s .step)
     where
       go : (x : Bool)
@@ -146,7 +162,8 @@ module _ (b : Book) (all : List StepLine) where
       go true = refl
       go false = refl
 
-  pub conflict-here : (n : ℕ) (s : Seen) (rest : List StepLine) (v : Verdict) (c : Conflict) → v ≡ verdictOf (conflictAt b all n s) → v ≡ Broken c
+  pub conflict-here : (n : ℕ) (s : Seen) (rest : List StepLine) (v : Verdict) (c : Conflict)
+      → v ≡ verdictOf (conflictAt b all n s) → v ≡ Broken c
       → Broken c ≡ firstConflict b all (consIf (s .step) (stepAt n s) rest)
   conflict-here n s rest v c e f = go (conflictAt b all n s) (sym f ∙ e) ∙ sym (first-cons n s rest)
     where
@@ -155,11 +172,13 @@ module _ (b : Book) (all : List StepLine) where
       go (some d) e = e
 
   -- not Broken, by the number of its variant
-  pub conflict-later : (n : ℕ) (s : Seen) (rest : List StepLine) (v : Verdict) → v ≡ verdictOf (conflictAt b all n s) → OneOf (0 ∷ 1 ∷ []) (tagOf the-type v)
+  pub conflict-later : (n : ℕ) (s : Seen) (rest : List StepLine) (v : Verdict) → v ≡ verdictOf (conflictAt b all n s)
+      → OneOf (0 ∷ 1 ∷ []) (tagOf the-type v)
       → firstConflict b all (consIf (s .step) (stepAt n s) rest) ≡ firstConflict b all rest
   conflict-later n s rest v e k = first-cons n s rest ∙ go (conflictAt b all n s) v e k
     where
-      go : (x : Option Conflict) (v : Verdict) → v ≡ verdictOf x → OneOf (0 ∷ 1 ∷ []) (tagOf the-type v) → orElse x (firstConflict b all rest) ≡ firstConflict b all rest
+      go : (x : Option Conflict) (v : Verdict) → v ≡ verdictOf x → OneOf (0 ∷ 1 ∷ []) (tagOf the-type v)
+          → orElse x (firstConflict b all rest) ≡ firstConflict b all rest
       go none v e k = refl
       go (some d) (Refused r) e k = let z : _≡_ {A = ℕ} 0 1 = cc in absurd (omega arith)
       go (some d) Given e k = let z : _≡_ {A = ℕ} 0 1 = cc in absurd (omega arith)

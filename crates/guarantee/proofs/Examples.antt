@@ -25,7 +25,7 @@ any n = line 4 n 0 0 0
 abbrev broken : ℕ → ℕ → ℕ → Verdict
 broken s t group = Broken (record { inductive = s; coinductive = t; group = group })
 
--- a goal that calls itself by inductive steps and others, and by coinductive ones and others
+-- a goal that calls itself by an inductive step and an unknown one, or by a coinductive one and a forced one
 pub one-kind : guaranteeOf (book (header 1 ∷ goal 0 ∷ any 2 ∷ call 0 0 ∷ call 0 1 ∷ [])) ≡ Given
 unfolding reaches
 one-kind = refl
@@ -34,8 +34,9 @@ pub other-kind : guaranteeOf (book (header 1 ∷ goal 0 ∷ any 2 ∷ call 0 2 �
 unfolding reaches
 other-kind = refl
 
--- by steps of both kinds: the first line of each, behind two others
-pub both-kinds : guaranteeOf (book (header 1 ∷ goal 0 ∷ any 4 ∷ call 0 2 ∷ call 0 0 ∷ call 0 0 ∷ call 0 2 ∷ [])) ≡ broken 4 3 1
+-- by steps of both kinds: the first line of each kind, whichever stands first
+pub both-kinds : guaranteeOf (book (header 1 ∷ goal 0 ∷ any 4 ∷ call 0 2 ∷ call 0 0 ∷ call 0 0 ∷ call 0 2 ∷ []))
+    ≡ broken 4 3 1
 unfolding reaches
 both-kinds = refl
 
@@ -43,7 +44,8 @@ both-kinds = refl
 abbrev rings : List ℕ → List ℕ
 rings last =
     book
-    (header 4 ∷ goal 0 ∷ call 1 0 ∷ goal 1 ∷ any 3 ∷ call 0 0 ∷ call 2 0 ∷ call 2 2 ∷ goal 2 ∷ call 3 2 ∷ goal 3 ∷ last ∷ [])
+    (header 4 ∷ goal 0 ∷ call 1 0 ∷ goal 1 ∷ any 3 ∷ call 0 0 ∷ call 2 0 ∷ call 2 2
+    ∷ goal 2 ∷ call 3 2 ∷ goal 3 ∷ last ∷ [])
 
 pub bridge : guaranteeOf (rings (call 2 2)) ≡ Given
 unfolding reaches
@@ -55,7 +57,9 @@ unfolding reaches
 closed-bridge = refl
 
 -- goal 0 calls goals 1 and 2, which call each other: its own steps are outside their group, goals 1 and 2 as bits
-pub second-group : guaranteeOf (book (header 3 ∷ goal 0 ∷ any 2 ∷ call 1 0 ∷ call 2 2 ∷ goal 1 ∷ call 2 2 ∷ goal 2 ∷ call 1 0 ∷ [])) ≡ broken 8 6 6
+pub second-group :
+    guaranteeOf (book (header 3 ∷ goal 0 ∷ any 2 ∷ call 1 0 ∷ call 2 2 ∷ goal 1 ∷ call 2 2 ∷ goal 2 ∷ call 1 0 ∷ []))
+    ≡ broken 8 6 6
 unfolding reaches
 second-group = refl
 

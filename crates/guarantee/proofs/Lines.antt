@@ -75,9 +75,12 @@ call-number (suc (suc (suc (suc (suc (suc (suc n))))))) =
     sym (ne-eqb (suc (suc (suc (suc (suc (suc (suc n))))))) 2 (λ e. omega arith))
 
 -- every other line, by the number of its variant
-pub other-code : (code : Code) → OneOf (2 ∷ 3 ∷ 4 ∷ 5 ∷ []) (tagOf the-type code) → (isCall code ≡ false) × (isGoal code ≡ false)
-other-code codes.Goal k = absurd (⊎-elim (λ x. omega arith) (⊎-elim (λ x. omega arith) (⊎-elim (λ x. omega arith) (λ x. omega arith))) k)
-other-code codes.Call k = absurd (⊎-elim (λ x. omega arith) (⊎-elim (λ x. omega arith) (⊎-elim (λ x. omega arith) (λ x. omega arith))) k)
+pub other-code : (code : Code) → OneOf (2 ∷ 3 ∷ 4 ∷ 5 ∷ []) (tagOf the-type code)
+    → (isCall code ≡ false) × (isGoal code ≡ false)
+other-code codes.Goal k =
+    absurd (⊎-elim (λ x. omega arith) (⊎-elim (λ x. omega arith) (⊎-elim (λ x. omega arith) (λ x. omega arith))) k)
+other-code codes.Call k =
+    absurd (⊎-elim (λ x. omega arith) (⊎-elim (λ x. omega arith) (⊎-elim (λ x. omega arith) (λ x. omega arith))) k)
 other-code (codes.Group op) k = (refl, refl)
 other-code codes.Pick k = (refl, refl)
 other-code codes.Undecided k = (refl, refl)
@@ -88,16 +91,19 @@ abbrev pub seenAs : ℕ → Line → PathKind → Bool → Bool → Seen
 seenAs caller l kind call goal =
     record { step = call; caller = elim goal [ true ↦ l .first | false ↦ caller ]; goal = l .first; kind = kind }
 
-pub seen-by : (caller : ℕ) (l l′ : Line) (kind : PathKind) (code : Code) (call goal : Bool) → l ≡ l′ → kind ≡ kindOf (l .second) → code ≡ codeOf (l .code)
+pub seen-by : (caller : ℕ) (l l′ : Line) (kind : PathKind) (code : Code) (call goal : Bool) → l ≡ l′
+    → kind ≡ kindOf (l .second) → code ≡ codeOf (l .code)
     → isCall code ≡ call → isGoal code ≡ goal → seenAs caller l kind call goal ≡ seenIn caller l′
 seen-by caller l l′ kind code call goal is k e c g =
     ap (λ (x : PathKind). seenAs caller l x call goal) k
-    ∙ ap₂ (seenAs caller l (kindOf (l .second))) (sym c ∙ ap isCall e ∙ call-number (l .code)) (sym g ∙ ap isGoal e ∙ sym (goal-number (l .code)))
+    ∙ ap₂ (seenAs caller l (kindOf (l .second))) (sym c ∙ ap isCall e ∙ call-number (l .code))
+    (sym g ∙ ap isGoal e ∙ sym (goal-number (l .code)))
     ∙ ap (seenIn caller) is
 
 -- ---- one line more
 step-line : (n caller : ℕ) (l : Line) (ls : List Line)
-    → stepLinesFrom n caller (l ∷ ls) ≡ consIf (seenIn caller l .step) (stepAt n (seenIn caller l)) (stepLinesFrom (suc n) (seenIn caller l .caller) ls)
+    → stepLinesFrom n caller (l ∷ ls)
+    ≡ consIf (seenIn caller l .step) (stepAt n (seenIn caller l)) (stepLinesFrom (suc n) (seenIn caller l .caller) ls)
 step-line n caller l ls = by (eqb (l .code) 1) (eqb (l .code) 2) refl refl
   where
     from : Bool → Bool → List StepLine
@@ -106,13 +112,20 @@ step-line n caller l ls = by (eqb (l .code) 1) (eqb (l .code) 2) refl refl
           | true ↦ stepLinesFrom (suc n) (l .first) ls
           | false ↦
               elim y [
-                | true ↦ record { line = n; caller = caller; goal = l .first; kind = kindOf (l .second) } ∷ stepLinesFrom (suc n) caller ls
+                | true ↦ record { line = n; caller = caller; goal = l .first; kind = kindOf (l .second) } ∷
+                    stepLinesFrom (suc n) caller ls
                 | false ↦ stepLinesFrom (suc n) caller ls
               ]
         ]
 
     by : (x y : Bool) → eqb (l .code) 1 ≡ x → eqb (l .code) 2 ≡ y
-        → from x y ≡ consIf y (record { line = n; caller = elim x [ true ↦ l .first | false ↦ caller ]; goal = l .first; kind = kindOf (l .second) }) (stepLinesFrom (suc n) (elim x [ true ↦ l .first | false ↦ caller ]) ls)
+        → from x y
+        ≡ consIf y (record {
+          line = n;
+          caller = elim x [ true ↦ l .first | false ↦ caller ];
+          goal = l .first;
+          kind = kindOf (l .second);
+        }) (stepLinesFrom (suc n) (elim x [ true ↦ l .first | false ↦ caller ]) ls)
     by true true e f = absurd (omega (arith, eqb-true (l .code) 1 e, eqb-true (l .code) 2 f))
     by true false e f = refl
     by false true e f = refl
@@ -124,26 +137,33 @@ module _ (n caller : ℕ) (t : List ℕ) where
   steps-none h = ap (stepLinesFrom n caller) (lines-none t h)
 
   pub steps-turn : (s : Seen) → 16 ≤ length t → s ≡ seenIn caller (lineIn t)
-      → stepsIn n caller t ≡ consIf (s .step) (stepAt n s) (stepsIn (n + 1) (s .caller) (take (length t - 16) (drop 16 t)))
+      → stepsIn n caller t
+      ≡ consIf (s .step) (stepAt n s) (stepsIn (n + 1) (s .caller) (take (length t - 16) (drop 16 t)))
   unfolding stepsIn
   steps-turn s h e =
       ap (stepLinesFrom n caller) (lines-cons t h)
       ∙ step-line n caller (lineIn t) (linesIn (drop 16 t))
-      ∙ ap₂ (λ (x : Seen) (m : ℕ). consIf (x .step) (stepAt n x) (stepLinesFrom m (x .caller) (linesIn (drop 16 t)))) (sym e) (sym (add-one n))
-      ∙ ap (λ (bs : List ℕ). consIf (s .step) (stepAt n s) (stepLinesFrom (n + 1) (s .caller) (linesIn bs))) (sym (part-from 16 t))
+      ∙ ap₂ (λ (x : Seen) (m : ℕ). consIf (x .step) (stepAt n x) (stepLinesFrom m (x .caller) (linesIn (drop 16 t))))
+      (sym e) (sym (add-one n))
+      ∙ ap (λ (bs : List ℕ). consIf (s .step) (stepAt n s) (stepLinesFrom (n + 1) (s .caller) (linesIn bs)))
+      (sym (part-from 16 t))
 
 -- after the header
-pub steps-start : (book : List ℕ) → 16 ≤ length book → stepsIn 1 0 (take (length book - 16) (drop 16 book)) ≡ stepLines (linesIn book)
+pub steps-start : (book : List ℕ) → 16 ≤ length book
+    → stepsIn 1 0 (take (length book - 16) (drop 16 book)) ≡ stepLines (linesIn book)
 unfolding stepsIn
-steps-start book h = ap (λ (bs : List ℕ). stepLinesFrom 1 0 (linesIn bs)) (part-from 16 book) ∙ sym (ap stepLines (lines-cons book h))
+steps-start book h =
+    ap (λ (bs : List ℕ). stepLinesFrom 1 0 (linesIn bs)) (part-from 16 book) ∙ sym (ap stepLines (lines-cons book h))
 
 -- ---- a search for the first step
 module _ (wanted : StepLine → Bool) where
-  pub first-here : (step : Bool) (s : StepLine) (ss : List StepLine) → (step && wanted s) ≡ true → firstStep wanted (consIf step s ss) ≡ some s
+  pub first-here : (step : Bool) (s : StepLine) (ss : List StepLine) → (step && wanted s) ≡ true
+      → firstStep wanted (consIf step s ss) ≡ some s
   first-here true s ss e = rw e
   first-here false s ss e = let z : _≡_ {A = ℕ} 0 1 = cc in absurd (omega arith)
 
-  pub first-later : (step : Bool) (s : StepLine) (ss : List StepLine) → (step && wanted s) ≡ false → firstStep wanted (consIf step s ss) ≡ firstStep wanted ss
+  pub first-later : (step : Bool) (s : StepLine) (ss : List StepLine) → (step && wanted s) ≡ false
+      → firstStep wanted (consIf step s ss) ≡ firstStep wanted ss
   first-later true s ss e = rw e
   first-later false s ss e = refl
 
@@ -159,14 +179,18 @@ into i m caller goal kind = eqb caller i && inMask m goal
 
 -- the masks have the calls of all steps but those that are left
 abbrev pub Collected : List StepLine → List StepLine → List ℕ → Type 0
-Collected all left masks = (i m : ℕ) → i < 64 → (meets (getD masks i 0) m || someStep (into i m) left) ≡ someStep (into i m) all
+Collected all left masks =
+    (i m : ℕ) → i < 64 → (meets (getD masks i 0) m || someStep (into i m) left) ≡ someStep (into i m) all
 
 pub collected-none : (all left : List StepLine) → left ≡ all → Collected all left (replicate 64 0)
 collected-none all left e i m h =
-    ap₂ (λ (x : Bool) (ss : List StepLine). x || someStep (into i m) ss) (ap (λ (a : ℕ). meets a m) (only 0 64 i) ∙ meets-none m) e
+    ap₂ (λ (x : Bool) (ss : List StepLine). x || someStep (into i m) ss)
+    (ap (λ (a : ℕ). meets a m) (only 0 64 i) ∙ meets-none m) e
 
-pub collected-more : (all : List StepLine) (step : Bool) (s : StepLine) (left : List StepLine) (masks masks′ : List ℕ) → Collected all (consIf step s left) masks
-    → ((i m : ℕ) → i < 64 → meets (getD masks′ i 0) m ≡ (meets (getD masks i 0) m || (step && (eqb (s .caller) i && inMask m (s .goal)))))
+pub collected-more : (all : List StepLine) (step : Bool) (s : StepLine) (left : List StepLine) (masks masks′ : List ℕ)
+    → Collected all (consIf step s left) masks
+    → ((i m : ℕ) → i < 64 → meets (getD masks′ i 0)
+    m ≡ (meets (getD masks i 0) m || (step && (eqb (s .caller) i && inMask m (s .goal)))))
     → Collected all left masks′
 collected-more all step s left masks masks′ inv more i m h =
     ap (λ (x : Bool). x || someStep (into i m) left) (more i m h)
@@ -174,9 +198,11 @@ collected-more all step s left masks masks′ inv more i m h =
     ∙ ap (λ (x : Bool). meets (getD masks i 0) m || x) (sym (some-cons (into i m) step s left))
     ∙ inv i m h
 
-pub collected-all : (all left : List StepLine) (masks : List ℕ) → left ≡ [] → Collected all left masks → (i m : ℕ) → i < 64 → meets (getD masks i 0) m ≡ someStep (into i m) all
+pub collected-all : (all left : List StepLine) (masks : List ℕ) → left ≡ [] → Collected all left masks → (i m : ℕ)
+    → i < 64 → meets (getD masks i 0) m ≡ someStep (into i m) all
 collected-all all left masks e inv i m h =
-    sym (or-false (meets (getD masks i 0) m)) ∙ ap (λ (ss : List StepLine). meets (getD masks i 0) m || someStep (into i m) ss) (sym e) ∙ inv i m h
+    sym (or-false (meets (getD masks i 0) m))
+    ∙ ap (λ (ss : List StepLine). meets (getD masks i 0) m || someStep (into i m) ss) (sym e) ∙ inv i m h
 
 -- ---- one step more in the masks
 module _ (masks : List ℕ) (s : Seen) where
@@ -193,33 +219,43 @@ module _ (masks : List ℕ) (s : Seen) where
   no-step e i m h = kept i m (ap (λ (x : Bool). x && (eqb (s .caller) i && inMask m (s .goal))) e)
 
   pub far-step : 64 ≤ s .caller → Added masks
-  far-step far i m h = kept i m (ap (λ (x : Bool). s .step && (x && inMask m (s .goal))) (ne-eqb (s .caller) i (λ z. omega arith)) ∙ and-false (s .step))
+  far-step far i m h =
+      kept i m (ap (λ (x : Bool). s .step && (x && inMask m (s .goal))) (ne-eqb (s .caller) i (λ z. omega arith))
+      ∙ and-false (s .step))
 
-  pub one-step : s .step ≡ true → length masks ≡ 64 → s .caller < 64 → (r : ℕ) → flags 64 r ≡ set (flags 64 (getD masks (s .caller) 0)) (s .goal) true
+  pub one-step : s .step ≡ true → length masks ≡ 64 → s .caller < 64 → (r : ℕ)
+      → flags 64 r ≡ set (flags 64 (getD masks (s .caller) 0)) (s .goal) true
       → Added (set masks (s .caller) r)
   one-step is long near r e i m h = go (ℕ-discrete i (s .caller))
     where
       go : Dec (i ≡ s .caller)
-          → meets (getD (set masks (s .caller) r) i 0) m ≡ (meets (getD masks i 0) m || (s .step && (eqb (s .caller) i && inMask m (s .goal))))
+          → meets (getD (set masks (s .caller) r) i 0) m
+          ≡ (meets (getD masks i 0) m || (s .step && (eqb (s .caller) i && inMask m (s .goal))))
       go (yes z) =
           ap (λ (j : ℕ). meets (getD (set masks (s .caller) r) j 0) m) z
           ∙ ap (λ (a : ℕ). meets a m) (getD-set-same masks (s .caller) r 0 (omega arith))
           ∙ meets-with r (getD masks (s .caller) 0) m (s .goal) e
           ∙ ap (λ (j : ℕ). meets (getD masks j 0) m || inMask m (s .goal)) (sym z)
-          ∙ sym (ap₂ (λ (x y : Bool). meets (getD masks i 0) m || (x && (y && inMask m (s .goal)))) is (eq-eqb (s .caller) i (sym z)))
+          ∙ sym (ap₂ (λ (x y : Bool). meets (getD masks i 0) m || (x && (y && inMask m (s .goal)))) is
+          (eq-eqb (s .caller) i (sym z)))
       go (no n) =
           ap (λ (a : ℕ). meets a m) (getD-set-other masks (s .caller) i r 0 n)
-          ∙ kept i m (ap (λ (x : Bool). s .step && (x && inMask m (s .goal))) (ne-eqb (s .caller) i (λ z. n (sym z))) ∙ and-false (s .step))
+          ∙ kept i m (ap (λ (x : Bool). s .step && (x && inMask m (s .goal))) (ne-eqb (s .caller) i (λ z. n (sym z)))
+          ∙ and-false (s .step))
 
 -- ---- callers that are goals of the book
 abbrev pub beyond : ℕ → ℕ → ℕ → PathKind → Bool
 beyond goals caller goal kind = leb goals caller
 
-pub caller-near : (goals n : ℕ) (s : Seen) (rest : List StepLine) → someStep (beyond goals) (consIf (s .step) (stepAt n s) rest) ≡ false
+pub caller-near : (goals n : ℕ) (s : Seen) (rest : List StepLine)
+    → someStep (beyond goals) (consIf (s .step) (stepAt n s) rest) ≡ false
     → (s .step ≡ true → s .caller < goals) × (someStep (beyond goals) rest ≡ false)
-caller-near goals n s rest e = go (s .step) (leb goals (s .caller)) refl (someStep (beyond goals) rest) (sym (some-cons (beyond goals) (s .step) (stepAt n s) rest) ∙ e)
+caller-near goals n s rest e =
+    go (s .step) (leb goals (s .caller)) refl (someStep (beyond goals) rest)
+    (sym (some-cons (beyond goals) (s .step) (stepAt n s) rest) ∙ e)
   where
-    go : (x y : Bool) → leb goals (s .caller) ≡ y → (z : Bool) → ((x && y) || z) ≡ false → (x ≡ true → s .caller < goals) × (z ≡ false)
+    go : (x y : Bool) → leb goals (s .caller) ≡ y → (z : Bool) → ((x && y) || z) ≡ false
+        → (x ≡ true → s .caller < goals) × (z ≡ false)
     go true true f z e = let w : _≡_ {A = ℕ} 0 1 = cc in absurd (omega arith)
     go true false f z e = (λ t. leb-false goals (s .caller) f, e)
     go false y f z e = (λ t. absurd (let w : _≡_ {A = ℕ} 0 1 = cc in omega arith), e)

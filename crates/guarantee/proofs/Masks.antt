@@ -1,6 +1,6 @@
 -- Masks of goals: what they have in common, one goal more, and loops that add goals.
 use mathlib.Core.Path.{_≡_, refl, sym, ap, _∙_}
-use mathlib.Core.Bool.{Bool, true, false, not, _&&_, _||_, or-assoc, or-false, and-true}
+use mathlib.Core.Bool.{Bool, true, false, not, _&&_, _||_, or-assoc, or-false, or-true, and-true}
 use mathlib.Core.List.{List, [], _∷_}
 use Prim.Native.Nat.{ℕ, zero, suc, _+_, _*_, _/_, _%_, _^_, _≤_, _<_}
 use native.Mathlib.Nat.{pow-suc}
@@ -25,7 +25,8 @@ some-flags (suc k) a h =
     let h′ : a < 2 ^ k * 2 = rw pow-suc at h in
     go (a % 2) refl (some-flags k (a / 2) (omega arith))
   where
-    go : (d : ℕ) → a % 2 ≡ d → someSet (flags k (a / 2)) ≡ not (eqb (a / 2) 0) → (flag d || someSet (flags k (a / 2))) ≡ not (eqb a 0)
+    go : (d : ℕ) → a % 2 ≡ d → someSet (flags k (a / 2)) ≡ not (eqb (a / 2) 0)
+        → (flag d || someSet (flags k (a / 2))) ≡ not (eqb a 0)
     go (suc d) e ih = sym (ap not (ne-eqb a 0 (λ z. omega arith)))
     go zero e ih = ih ∙ ap not (same (ℕ-discrete a 0))
       where
@@ -44,7 +45,8 @@ none-common (suc k) [] = refl
 none-common (suc k) (y ∷ ys) = none-common k ys
 
 pub meets-none : (m : ℕ) → meets 0 m ≡ false
-meets-none m = ap (λ (xs : List Bool). someSet (pairwise _&&_ xs (flags 64 m))) (flags-zero 64) ∙ none-common 64 (flags 64 m)
+meets-none m =
+    ap (λ (xs : List Bool). someSet (pairwise _&&_ xs (flags 64 m))) (flags-zero 64) ∙ none-common 64 (flags 64 m)
 
 one-common : (j : ℕ) (xs ys : List Bool) → length xs ≡ length ys
     → someSet (pairwise _&&_ (set xs j true) ys) ≡ (someSet (pairwise _&&_ xs ys) || getD ys j false)
@@ -79,12 +81,9 @@ mask-none k = ap (λ (xs : List Bool). getD xs k false) (flags-zero 64) ∙ only
 pub mask-past : (m k : ℕ) → 64 ≤ k → inMask m k ≡ false
 mask-past m k h = sym (has-past 64 k m h)
 
-or-true : (x : Bool) → (x || true) ≡ true
-or-true true = refl
-or-true false = refl
-
 -- one more
-pub mask-with : (m′ m i : ℕ) → i < 64 → flags 64 m′ ≡ set (flags 64 m) i true → (k : ℕ) → inMask m′ k ≡ (inMask m k || (eqb k i && true))
+pub mask-with : (m′ m i : ℕ) → i < 64 → flags 64 m′ ≡ set (flags 64 m) i true → (k : ℕ)
+    → inMask m′ k ≡ (inMask m k || (eqb k i && true))
 mask-with m′ m i h e k = ap (λ (xs : List Bool). getD xs k false) e ∙ go (ℕ-discrete k i)
   where
     long : i < length (flags 64 m)
@@ -114,7 +113,8 @@ module _ (start p : Goals) where
   pub upto-none : (m : ℕ) → ((k : ℕ) → inMask m k ≡ start k) → Upto start p 0 m
   upto-none m h k = h k ∙ sym (ap (λ (t : Bool). start k || (t && p k)) (le-ltb k 0 (omega arith)) ∙ or-false (start k))
 
-  pub upto-more : (m m′ i : ℕ) (yes : Bool) → Upto start p i m → p i ≡ yes → ((k : ℕ) → inMask m′ k ≡ (inMask m k || (eqb k i && yes))) → Upto start p (i + 1) m′
+  pub upto-more : (m m′ i : ℕ) (yes : Bool) → Upto start p i m → p i ≡ yes
+      → ((k : ℕ) → inMask m′ k ≡ (inMask m k || (eqb k i && yes))) → Upto start p (i + 1) m′
   upto-more m m′ i t inv is step k = step k ∙ ap (λ (x : Bool). x || (eqb k i && t)) (inv k) ∙ go (ℕ-discrete k i)
     where
       go : Dec (k ≡ i) → ((start k || (ltb k i && p k)) || (eqb k i && t)) ≡ (start k || (ltb k (i + 1) && p k))
@@ -137,4 +137,5 @@ module _ (start p : Goals) where
 
 -- one goal only
 pub mask-one : (m goal : ℕ) → goal < 64 → flags 64 m ≡ set (flags 64 0) goal true → (k : ℕ) → inMask m k ≡ eqb k goal
-mask-one m goal h e k = mask-with m 0 goal h e k ∙ ap (λ (x : Bool). x || (eqb k goal && true)) (mask-none k) ∙ and-true (eqb k goal)
+mask-one m goal h e k =
+    mask-with m 0 goal h e k ∙ ap (λ (x : Bool). x || (eqb k goal && true)) (mask-none k) ∙ and-true (eqb k goal)

@@ -11,13 +11,17 @@ use Rattle.soundness.proofs.Logic.{or-cases, or-left, or-right}
 use Rattle.guarantee.specs.Meaning.{IsOneOf}
 use Rattle.guarantee.proofs.Lines.{someStep}
 
-pub some-step : (wanted : ℕ → ℕ → PathKind → Bool) (s : StepLine) (ss : List StepLine) → IsOneOf s ss → T (wanted (s .caller) (s .goal) (s .kind)) → T (someStep wanted ss)
+pub some-step : (wanted : ℕ → ℕ → PathKind → Bool) (s : StepLine) (ss : List StepLine) → IsOneOf s ss
+    → T (wanted (s .caller) (s .goal) (s .kind)) → T (someStep wanted ss)
 some-step wanted s [] i t = absurd i
 some-step wanted s (x ∷ ss) (inl e) t =
-    or-left (wanted (x .caller) (x .goal) (x .kind)) (someStep wanted ss) (subst (λ (y : StepLine). T (wanted (y .caller) (y .goal) (y .kind))) e t)
-some-step wanted s (x ∷ ss) (inr i) t = or-right (wanted (x .caller) (x .goal) (x .kind)) (someStep wanted ss) (some-step wanted s ss i t)
+    or-left (wanted (x .caller) (x .goal) (x .kind)) (someStep wanted ss)
+    (subst (λ (y : StepLine). T (wanted (y .caller) (y .goal) (y .kind))) e t)
+some-step wanted s (x ∷ ss) (inr i) t =
+    or-right (wanted (x .caller) (x .goal) (x .kind)) (someStep wanted ss) (some-step wanted s ss i t)
 
-pub a-step : (wanted : ℕ → ℕ → PathKind → Bool) (ss : List StepLine) → T (someStep wanted ss) → (s : StepLine) × IsOneOf s ss × T (wanted (s .caller) (s .goal) (s .kind))
+pub a-step : (wanted : ℕ → ℕ → PathKind → Bool) (ss : List StepLine) → T (someStep wanted ss)
+    → (s : StepLine) × IsOneOf s ss × T (wanted (s .caller) (s .goal) (s .kind))
 a-step wanted [] t = absurd t
 a-step wanted (x ∷ ss) t =
     or-cases (wanted (x .caller) (x .goal) (x .kind)) (someStep wanted ss) (λ u. (x, inl refl, u))

@@ -37,12 +37,14 @@ value-none : (xs : List Bool) → ((i : ℕ) → getD xs i false ≡ false) → 
 value-none [] h = refl
 value-none (x ∷ xs) h = ap₂ (λ (n : ℕ) (y : Bool). n * 2 + bit y) (value-none xs (λ i. h (suc i))) (h 0)
 
-value-of : (n : ℕ) (s : Goals) (xs : List Bool) → n ≤ length xs → ((i : ℕ) → getD xs i false ≡ (ltb i n && s i)) → value xs ≡ maskOf n s
+value-of : (n : ℕ) (s : Goals) (xs : List Bool) → n ≤ length xs → ((i : ℕ) → getD xs i false ≡ (ltb i n && s i))
+    → value xs ≡ maskOf n s
 value-of zero s xs l h = value-none xs (λ i. h i ∙ ap (λ (t : Bool). t && s i) (le-ltb i 0 (omega arith)))
 value-of (suc n) s [] l h = absurd (omega arith)
 value-of (suc n) s (x ∷ xs) l h =
     ap₂ (λ (m : ℕ) (y : Bool). m * 2 + bit y)
-    (value-of n (λ k. s (suc k)) xs (omega arith) (λ i. h (suc i) ∙ ap (λ (t : Bool). t && s (suc i)) (leb·suc-suc (suc i) n)))
+    (value-of n (λ k. s (suc k)) xs (omega arith)
+    (λ i. h (suc i) ∙ ap (λ (t : Bool). t && s (suc i)) (leb·suc-suc (suc i) n)))
     (h 0 ∙ ap (λ (t : Bool). t && s 0) (lt-ltb 0 (suc n) (omega arith)))
 
 pub mask-of : (n m : ℕ) (s : Goals) → n ≤ 64 → m < 2 ^ 64 → ((k : ℕ) → inMask m k ≡ (ltb k n && s k)) → m ≡ maskOf n s
@@ -51,10 +53,12 @@ mask-of n m s l small h = sym (value-flags 64 m small) ∙ value-of n s (flags 6
 -- and back
 flags-of : (k n : ℕ) (s : Goals) → n ≤ k → (i : ℕ) → getD (flags k (maskOf n s)) i false ≡ (ltb i n && s i)
 flags-of k zero s l i =
-    ap (λ (xs : List Bool). getD xs i false) (flags-zero k) ∙ only false k i ∙ sym (ap (λ (t : Bool). t && s i) (le-ltb i 0 (omega arith)))
+    ap (λ (xs : List Bool). getD xs i false) (flags-zero k) ∙ only false k i
+    ∙ sym (ap (λ (t : Bool). t && s i) (le-ltb i 0 (omega arith)))
 flags-of zero (suc n) s l i = absurd (omega arith)
 flags-of (suc k) (suc n) s l i =
-    ap (λ (xs : List Bool). getD xs i false) (digit k (bit (s 0)) (maskOf n (λ j. s (suc j))) (small (s 0)) refl) ∙ at i (flags-of k n (λ j. s (suc j)) (omega arith))
+    ap (λ (xs : List Bool). getD xs i false) (digit k (bit (s 0)) (maskOf n (λ j. s (suc j))) (small (s 0)) refl)
+    ∙ at i (flags-of k n (λ j. s (suc j)) (omega arith))
   where
     small : (t : Bool) → bit t < 2
     small true = omega arith

@@ -29,10 +29,14 @@ module _ (bytes : List ℕ) (b : Book) (e : readBook bytes ≡ Accepted b) where
 
 module _ (bytes : List ℕ) (is : IsAccepted bytes) where
   given : guaranteeOf bytes ≡ Given → Mixed (bookIn bytes)
-  given g = given-mixed (bookIn bytes) (ok bytes is) (stepLines (linesIn bytes)) (line-step bytes is) (step-line bytes is) (sym (of-accepted bytes is) ∙ g)
+  given g =
+      given-mixed (bookIn bytes) (ok bytes is) (stepLines (linesIn bytes)) (line-step bytes is) (step-line bytes is)
+      (sym (of-accepted bytes is) ∙ g)
 
   only-given : Mixed (bookIn bytes) → guaranteeOf bytes ≡ Given
-  only-given m = of-accepted bytes is ∙ mixed-given (bookIn bytes) (ok bytes is) (stepLines (linesIn bytes)) (line-step bytes is) (step-line bytes is) m
+  only-given m =
+      of-accepted bytes is ∙ mixed-given (bookIn bytes) (ok bytes is) (stepLines (linesIn bytes)) (line-step bytes is)
+      (step-line bytes is) m
 
   broken : (c : Conflict) → guaranteeOf bytes ≡ Broken c → Conflicting (bookIn bytes) (stepLines (linesIn bytes)) c
   broken c g =
@@ -41,8 +45,10 @@ module _ (bytes : List ℕ) (is : IsAccepted bytes) where
       let s = r .0 in
       let p = conflict-of (bookIn bytes) ss s c (r .2) in
       let t = p .1 .0 in
-      let i = within-inside (bookIn bytes) (ok bytes is) ss (line-step bytes is) (step-line bytes is) (s .caller) Inductive s (r .1) (p .0) in
-      let j = within-inside (bookIn bytes) (ok bytes is) ss (line-step bytes is) (step-line bytes is) (s .caller) Coinductive t (p .1 .1) (p .1 .2) in
+      let i = within-inside (bookIn bytes) (ok bytes is) ss (line-step bytes is) (step-line bytes is) (s .caller)
+      Inductive s (r .1) (p .0) in
+      let j = within-inside (bookIn bytes) (ok bytes is) ss (line-step bytes is) (step-line bytes is) (s .caller)
+      Coinductive t (p .1 .1) (p .1 .2) in
       record {
         s = s;
         t = t;
@@ -68,5 +74,6 @@ meaning =
       broken = λ bytes b ls c e f g.
           let lines : linesIn bytes ≡ ls = (let h = accepted-lines b bytes e in cc) in
           subst (λ (x : Book). Conflicting x (stepLines ls) c) (same-book bytes b e)
-          (subst (λ (x : List Line). Conflicting (bookIn bytes) (stepLines x) c) lines (broken bytes (accepted bytes b e) c g));
+          (subst (λ (x : List Line). Conflicting (bookIn bytes) (stepLines x) c) lines
+          (broken bytes (accepted bytes b e) c g));
     }

@@ -44,8 +44,8 @@ someSet (x ∷ xs) = x || someSet xs
 abbrev pub meets : ℕ → ℕ → Bool
 meets m n = someSet (pairwise _&&_ (flags 64 m) (flags 64 n))
 
--- for every goal the mask of the goals that its part calls: it has a goal in common with a mask m where the part calls a goal
--- of m
+-- for every goal the mask of the goals that its part calls: it has a goal in common with a mask m where the part calls a
+-- goal of m
 abbrev pub CallMasks : Book → List ℕ → Type 0
 CallMasks b masks = (i m : ℕ) → meets (getD masks i 0) m ≡ callsSome b (λ g kind. inMask m g) i
 

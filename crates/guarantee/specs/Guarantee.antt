@@ -1,5 +1,5 @@
--- Whether a book meets the condition of mixed books (soundness, specs/Groups.antt); if not, the group and two lines that
--- break it.
+-- Whether a book meets the condition of mixed books (soundness, specs/Groups.antt); if not, the group and two lines
+-- that break it.
 use mathlib.Core.Bool.{Bool, true, false, _&&_}
 use mathlib.Core.Option.{Option, none, some}
 use mathlib.Core.List.{List, [], _∷_}

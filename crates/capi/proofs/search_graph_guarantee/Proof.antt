@@ -42,8 +42,10 @@ returns c =
     let n = first .before .before in
     let g = n .before in
     let a = g .before .before .before .args in
-    judged (g .guarantee .result) (guaranteeOf (a .book .now)) (c .code .result) (n .numbers .result) (a .out .now) (first .put .last .0) (second .put2 .last .0) (third .put3 .last .0)
-    (g .guarantee .ensures) (c .code .ensures) (n .numbers .ensures) (first .put .ensures) (second .put2 .ensures) (third .put3 .ensures)
+    judged (g .guarantee .result) (guaranteeOf (a .book .now)) (c .code .result) (n .numbers .result) (a .out .now)
+    (first .put .last .0) (second .put2 .last .0) (third .put3 .last .0)
+    (g .guarantee .ensures) (c .code .ensures) (n .numbers .ensures) (first .put .ensures) (second .put2 .ensures)
+    (third .put3 .ensures)
 
 pub search-graph-guarantee-spec : {M : Type 1} → statement M
 search-graph-guarantee-spec =

@@ -15,7 +15,8 @@ returns : tie.Need-returns
 returns c near =
     let g = c .before .before in
     let st = g .before .before .before in
-    not-within (st .args .book .now) (st .pre .accepted) (st .args .line) (st .args .s) (g .group .result) (g .group .ok)
+    not-within (st .args .book .now) (st .pre .accepted) (st .args .line) (st .args .s) (g .group .result)
+    (g .group .ok)
     (g .group .ensures (bookIn (st .args .book .now)) (st .pre .reached)) near
     (c .before .is-within .result) (c .before .is-within .ensures) (c .if1 .taken)
 
@@ -38,14 +39,16 @@ returns-2 c near =
     one-found (st .args .book .now) (st .pre .accepted) (st .args .line) (st .args .s) (g .group .result) (g .group .ok)
     (g .group .ensures (bookIn (st .args .book .now)) (st .pre .reached)) near
     (w .is-within .result) (w .is-within .ensures) (c .before .before .before .before .if1 .left)
-    (c .before .before .before .first-within .result) (c .before .before .before .first-within .ensures) _ (c .before .found .given .1)
+    (c .before .before .before .first-within .result) (c .before .before .before .first-within .ensures) _
+    (c .before .found .given .1)
 
 returns-3 : tie.Need-returns-3
 returns-3 c near =
     let w = c .before .before .before .before in
     let g = w .before in
     let st = g .before .before .before in
-    none-found (st .args .book .now) (st .pre .accepted) (st .args .line) (st .args .s) (g .group .result) (g .group .ok)
+    none-found (st .args .book .now) (st .pre .accepted) (st .args .line) (st .args .s) (g .group .result)
+    (g .group .ok)
     (g .group .ensures (bookIn (st .args .book .now)) (st .pre .reached)) near
     (w .is-within .result) (w .is-within .ensures) (c .before .before .before .if1 .left)
     (c .before .before .first-within .result) (c .before .before .first-within .ensures) (c .enum-told .given .1)

@@ -16,7 +16,8 @@ use Rattle.guarantee.proofs.first_conflict.Tie as tie
 
 abbrev Inv-loop : tie.InvT-loop
 Inv-loop book reach t₀ caller₀ line₀ t caller line =
-    (firstConflict (bookIn book) (stepLines (linesIn book)) (stepsIn line caller t) ≡ firstConflict (bookIn book) (stepLines (linesIn book)) (stepLines (linesIn book)))
+    (firstConflict (bookIn book) (stepLines (linesIn book)) (stepsIn line caller t) ≡ firstConflict (bookIn book)
+    (stepLines (linesIn book)) (stepLines (linesIn book)))
     × (someStep (beyond (bookIn book .header .goals)) (stepsIn line caller t) ≡ false) × (line + length t ≤ length book)
 
 abbrev μ-loop : tie.MeasureT-loop
@@ -61,8 +62,10 @@ returns c =
     let b = st .args .book .now in
     let s = f .first .result in
     let turn = steps-turn (l .line) (l .caller) (l .t .now) s (f .before .loop-test .taken) (f .first .ensures) in
-    let near = caller-near (bookIn b .header .goals) (l .line) s _ (sym (ap (someStep (beyond (bookIn b .header .goals))) turn) ∙ l .inv .1) in
-    conflict-here (bookIn b) (stepLines (linesIn b)) (l .line) s _ (c .before .before .before .conflict-with .result) _ (c .before .before .before .conflict-with .ensures (near .0)) (c .before .v .given .1)
+    let near = caller-near (bookIn b .header .goals) (l .line) s _
+    (sym (ap (someStep (beyond (bookIn b .header .goals))) turn) ∙ l .inv .1) in
+    conflict-here (bookIn b) (stepLines (linesIn b)) (l .line) s _ (c .before .before .before .conflict-with .result) _
+    (c .before .before .before .conflict-with .ensures (near .0)) (c .before .v .given .1)
     ∙ sym (ap (firstConflict (bookIn b) (stepLines (linesIn b))) turn) ∙ l .inv .0
 
 sub-t-2 : tie.Need-sub-t-2 Inv-loop μ-loop
@@ -78,7 +81,9 @@ add-line : tie.Need-add-line Inv-loop μ-loop
 add-line c = search needs
 
 loop-less : tie.Need-loop-less Inv-loop μ-loop
-loop-less c = let f = c .before .before .before in omega (arith, rest-length (f .before .before .loop .t .now), f .before .loop-test .taken)
+loop-less c =
+    let f = c .before .before .before in
+    omega (arith, rest-length (f .before .before .loop .t .now), f .before .loop-test .taken)
 
 loop-again : tie.Need-loop-again Inv-loop μ-loop
 loop-again c =
@@ -88,9 +93,11 @@ loop-again c =
     let b = st .args .book .now in
     let s = f .first .result in
     let turn = steps-turn (l .line) (l .caller) (l .t .now) s (f .before .loop-test .taken) (f .first .ensures) in
-    let near = caller-near (bookIn b .header .goals) (l .line) s _ (sym (ap (someStep (beyond (bookIn b .header .goals))) turn) ∙ l .inv .1) in (
+    let near = caller-near (bookIn b .header .goals) (l .line) s _
+    (sym (ap (someStep (beyond (bookIn b .header .goals))) turn) ∙ l .inv .1) in (
       sym (ap (firstConflict (bookIn b) (stepLines (linesIn b))) turn
-          ∙ conflict-later (bookIn b) (stepLines (linesIn b)) (l .line) s _ (c .before .before .conflict-with .result) (c .before .before .conflict-with .ensures (near .0)) (c .before .match .keys2))
+          ∙ conflict-later (bookIn b) (stepLines (linesIn b)) (l .line) s _ (c .before .before .conflict-with .result)
+          (c .before .before .conflict-with .ensures (near .0)) (c .before .match .keys2))
           ∙ l .inv .0,
       near .1,
       omega (arith, rest-length (l .t .now), l .inv .2, f .before .loop-test .taken),
@@ -100,7 +107,8 @@ returns-2 : tie.Need-returns-2 Inv-loop μ-loop
 returns-2 c =
     let l = c .before .loop in
     let b = c .before .before .before .before .before .args .book .now in
-    sym (ap (firstConflict (bookIn b) (stepLines (linesIn b))) (steps-none (l .line) (l .caller) (l .t .now) (c .loop-test .left))) ∙ l .inv .0
+    sym (ap (firstConflict (bookIn b) (stepLines (linesIn b)))
+    (steps-none (l .line) (l .caller) (l .t .now) (c .loop-test .left))) ∙ l .inv .0
 
 pub first-conflict-spec : {M : Type 1} → statement M
 first-conflict-spec =

@@ -22,14 +22,16 @@ of-book-requires : tie.Need-of-book-requires
 of-book-requires c κs =
     let x = c .before .read3 in
     let r = c .before .before .before .before in
-    let is = is-book (r .before .before .before .args .book .now) (r .read .last .1 .0) (x .given .0 .0) (sym (x .given .1) ∙ r .read .ensures .0) (r .read .ensures .1) in
+    let is = is-book (r .before .before .before .args .book .now) (r .read .last .1 .0) (x .given .0 .0)
+    (sym (x .given .1) ∙ r .read .ensures .0) (r .read .ensures .1) in
     (is .accepted, ap (λ (h : Header). h .goals) (is .header))
 
 returns : tie.Need-returns
 returns c =
     let x = c .before .read2 in
     let r = c .before .before .before .before in
-    of-rejected (r .before .before .before .args .book .now) (r .read .result) (x .given .0 .0) (x .given .1) (r .read .ensures .0)
+    of-rejected (r .before .before .before .args .book .now) (r .read .result) (x .given .0 .0) (x .given .1)
+    (r .read .ensures .0)
 
 returns-2 : tie.Need-returns-2
 returns-2 c = search needs

@@ -31,7 +31,9 @@ same-length c = search needs
 returns-3 : tie.Need-returns-3
 returns-3 c =
     let a = c .before .before .before .before .before .before .args in
-    one-step (a .masks .now) (a .s) (not-false _ (c .before .before .before .if1 .left)) (c .before .before .before .before .before .before .pre) (c .before .before .if2 .left) (c .with .result) (c .with .ensures)
+    one-step (a .masks .now) (a .s) (not-false _ (c .before .before .before .if1 .left))
+    (c .before .before .before .before .before .before .pre) (c .before .before .if2 .left) (c .with .result)
+    (c .with .ensures)
 
 pub add-step-spec : {M : Type 1} → statement M
 add-step-spec =

@@ -56,7 +56,9 @@ part-t-end-2 : tie.Need-part-t-end-2 Inv-loop μ-loop
 part-t-end-2 c = search needs
 
 loop-less : tie.Need-loop-less Inv-loop μ-loop
-loop-less c = let i = c .before .before .before .before .before in omega (arith, rest-length (i .before .loop .t .now), i .loop-test .taken)
+loop-less c =
+    let i = c .before .before .before .before .before in
+    omega (arith, rest-length (i .before .loop .t .now), i .loop-test .taken)
 
 loop-again : tie.Need-loop-again Inv-loop μ-loop
 loop-again c =
@@ -65,8 +67,11 @@ loop-again c =
     let b = i .before .before .before .before .args .book .now in
     let s = c .before .before .before .before .first .result in (
       l .inv .0 + 1,
-      collected-more (stepLines (linesIn b)) (s .step) (stepAt (l .inv .0) s) (stepsIn (l .inv .0 + 1) (s .caller) _) (l .masks) (c .before .before .add-step .last .0)
-          (subst (λ (ss : List StepLine). Collected (stepLines (linesIn b)) ss (l .masks)) (steps-turn (l .inv .0) (l .caller) (l .t .now) s (i .loop-test .taken) (c .before .before .before .before .first .ensures)) (l .inv .1))
+      collected-more (stepLines (linesIn b)) (s .step) (stepAt (l .inv .0) s) (stepsIn (l .inv .0 + 1) (s .caller) _)
+          (l .masks) (c .before .before .add-step .last .0)
+          (subst (λ (ss : List StepLine). Collected (stepLines (linesIn b)) ss (l .masks))
+          (steps-turn (l .inv .0) (l .caller) (l .t .now) s (i .loop-test .taken)
+          (c .before .before .before .before .first .ensures)) (l .inv .1))
           (c .before .before .add-step .ensures),
       c .before .before .add-step .kept .0 ∙ l .inv .2,
     )
@@ -76,7 +81,8 @@ returns c =
     let b = c .before .before .before .before .args .book .now in
     let l = c .before .loop in
     call-masks b (c .before .before .before .before .pre) (l .masks) (l .inv .2)
-    (collected-all (stepLines (linesIn b)) _ (l .masks) (steps-none (l .inv .0) (l .caller) (l .t .now) (c .loop-test .left)) (l .inv .1))
+    (collected-all (stepLines (linesIn b)) _ (l .masks)
+    (steps-none (l .inv .0) (l .caller) (l .t .now) (c .loop-test .left)) (l .inv .1))
 
 pub calls-spec : {M : Type 1} → statement M
 calls-spec =

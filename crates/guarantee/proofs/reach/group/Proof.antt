@@ -36,7 +36,8 @@ loop-again : tie.Need-loop-again Inv-loop μ-loop
 loop-again c =
     let l = c .before .before .before .loop in
     let a = c .before .before .before .before .before .before .args in (
-      upto-more nobody (together (a .reach .now) (a .g)) (l .m) (c .with-if .result) (l .k) (c .before .linked .result) (l .inv .0) (sym (c .before .linked .ensures)) (c .with-if .ensures),
+      upto-more nobody (together (a .reach .now) (a .g)) (l .m) (c .with-if .result) (l .k) (c .before .linked .result)
+          (l .inv .0) (sym (c .before .linked .ensures)) (c .with-if .ensures),
       omega arith,
     )
 

@@ -25,7 +25,8 @@ has-requires-2 : tie.Need-has-requires-2
 has-requires-2 c κs = search needs
 
 returns-2 : tie.Need-returns-2
-returns-2 c = pass _ _ _ (held (c .before .before .before .has .ensures) (c .before .before .if1 .left)) (c .has2 .ensures)
+returns-2 c =
+    pass _ _ _ (held (c .before .before .before .has .ensures) (c .before .before .if1 .left)) (c .has2 .ensures)
 
 pub linked-spec : {M : Type 1} → statement M
 linked-spec =

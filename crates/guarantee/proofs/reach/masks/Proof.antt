@@ -38,7 +38,8 @@ loop-again : tie.Need-loop-again Inv-loop μ-loop
 loop-again c =
     let l = c .before .before .loop in (
       λ b masks e.
-          reach-more b (l .i) (c .reaching .result) (l .masks) (omega arith) (l .inv .0 b masks e) (c .reaching .ensures b masks e),
+          reach-more b (l .i) (c .reaching .result) (l .masks) (omega arith) (l .inv .0 b masks e)
+          (c .reaching .ensures b masks e),
       omega arith,
       length-set (l .masks) (l .i) (c .reaching .result) ∙ l .inv .2,
     )

@@ -25,7 +25,8 @@ loop-holds c =
       λ b masks e.
           let all : b .header .goals ≡ a .goals - 0 = omega arith in
           subst (λ (n : ℕ). Rounds b (a .goal) n (c .with .result)) all
-          (rounds-start b (a .goal) (c .with .result) (mask-one (c .with .result) (a .goal) (c .before .before .pre .1) (c .with .ensures))),
+          (rounds-start b (a .goal) (c .with .result)
+          (mask-one (c .with .result) (a .goal) (c .before .before .pre .1) (c .with .ensures))),
       omega arith,
     )
 
@@ -42,7 +43,8 @@ loop-again : tie.Need-loop-again Inv-loop μ-loop
 loop-again c =
     let a = c .before .before .before .before .before .args in
     let l = c .before .before .loop in (
-      λ b masks e. rounds-more b (a .goal) (a .goals) (l .i) (l .m) (c .toward .result) (c .before .loop-test .taken) (l .inv .0 b masks e) (c .toward .ensures b masks),
+      λ b masks e. rounds-more b (a .goal) (a .goals) (l .i) (l .m) (c .toward .result) (c .before .loop-test .taken)
+          (l .inv .0 b masks e) (c .toward .ensures b masks),
       omega arith,
     )
 

@@ -18,8 +18,11 @@ with-requires c κs = search needs
 
 loop-holds : tie.Need-loop-holds Inv-loop μ-loop
 loop-holds c =
-    let a = c .before .before .args in
-    (upto-none (atGoal (a .goal)) (callers (a .calls .now) (a .m)) (c .with .result) (mask-one (c .with .result) (a .goal) (c .before .before .pre .1) (c .with .ensures)), omega arith)
+    let a = c .before .before .args in (
+      upto-none (atGoal (a .goal)) (callers (a .calls .now) (a .m)) (c .with .result)
+          (mask-one (c .with .result) (a .goal) (c .before .before .pre .1) (c .with .ensures)),
+      omega arith,
+    )
 
 mul-meet : tie.Need-mul-meet Inv-loop μ-loop
 mul-meet c = search needs
@@ -43,7 +46,8 @@ loop-again : tie.Need-loop-again Inv-loop μ-loop
 loop-again c =
     let l = c .before .before .before .before .loop in
     let a = c .before .before .before .before .before .before .before .args in (
-      upto-more (atGoal (a .goal)) (callers (a .calls .now) (a .m)) (l .r) (c .with-if .result) (l .i) (c .before .meet .result) (l .inv .0) (sym (c .before .meet .ensures)) (c .with-if .ensures),
+      upto-more (atGoal (a .goal)) (callers (a .calls .now) (a .m)) (l .r) (c .with-if .result) (l .i)
+          (c .before .meet .result) (l .inv .0) (sym (c .before .meet .ensures)) (c .with-if .ensures),
       omega arith,
     )
 

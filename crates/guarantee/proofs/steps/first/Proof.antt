@@ -30,21 +30,27 @@ returns c =
     let f = c .before .before .before .before .before in
     let a = f .before .before .args in
     let told = c .enum-told .given .1 in
-    seen-by (a .caller) (f .first .result) (lineIn (a .s .now)) (c .before .before .before .kind .result) (c .before .before .of-number .result) false true (f .first .ensures) (c .before .before .before .kind .ensures) (c .before .before .of-number .ensures) (ap isCall told) (ap isGoal told)
+    seen-by (a .caller) (f .first .result) (lineIn (a .s .now)) (c .before .before .before .kind .result)
+    (c .before .before .of-number .result) false true (f .first .ensures) (c .before .before .before .kind .ensures)
+    (c .before .before .of-number .ensures) (ap isCall told) (ap isGoal told)
 
 returns-2 : tie.Need-returns-2
 returns-2 c =
     let f = c .before .before .before .before .before in
     let a = f .before .before .args in
     let told = c .enum-told2 .given .1 in
-    seen-by (a .caller) (f .first .result) (lineIn (a .s .now)) (c .before .before .before .kind .result) (c .before .before .of-number .result) true false (f .first .ensures) (c .before .before .before .kind .ensures) (c .before .before .of-number .ensures) (ap isCall told) (ap isGoal told)
+    seen-by (a .caller) (f .first .result) (lineIn (a .s .now)) (c .before .before .before .kind .result)
+    (c .before .before .of-number .result) true false (f .first .ensures) (c .before .before .before .kind .ensures)
+    (c .before .before .of-number .ensures) (ap isCall told) (ap isGoal told)
 
 returns-3 : tie.Need-returns-3
 returns-3 c =
     let f = c .before .before .before .before in
     let a = f .before .before .args in
     let o = other-code (c .before .of-number .result) (c .match .keys3) in
-    seen-by (a .caller) (f .first .result) (lineIn (a .s .now)) (c .before .before .kind .result) (c .before .of-number .result) false false (f .first .ensures) (c .before .before .kind .ensures) (c .before .of-number .ensures) (o .0) (o .1)
+    seen-by (a .caller) (f .first .result) (lineIn (a .s .now)) (c .before .before .kind .result)
+    (c .before .of-number .result) false false (f .first .ensures) (c .before .before .kind .ensures)
+    (c .before .of-number .ensures) (o .0) (o .1)
 
 pub first-spec : {M : Type 1} → statement M
 first-spec =

@@ -13,7 +13,8 @@ use Rattle.guarantee.proofs.steps.first_within.Tie as tie
 
 abbrev Inv-loop : tie.InvT-loop
 Inv-loop book group kind t₀ caller₀ line₀ t caller line =
-    (firstStep (stepWithin (inMask group) kind) (stepsIn line caller t) ≡ firstStep (stepWithin (inMask group) kind) (stepLines (linesIn book)))
+    (firstStep (stepWithin (inMask group) kind) (stepsIn line caller t) ≡ firstStep (stepWithin (inMask group) kind)
+    (stepLines (linesIn book)))
     × (line + length t ≤ length book)
 
 abbrev μ-loop : tie.MeasureT-loop
@@ -30,8 +31,11 @@ part-t-end c = search needs
 
 loop-holds : tie.Need-loop-holds Inv-loop μ-loop
 loop-holds c =
-    let a = c .before .before .args in
-    (ap (firstStep (stepWithin (inMask (a .group)) (a .kind))) (steps-start (a .book .now) (c .before .before .pre)), omega (arith, rest-length (a .book .now)))
+    let a = c .before .before .args in (
+      ap (firstStep (stepWithin (inMask (a .group)) (a .kind)))
+          (steps-start (a .book .now) (c .before .before .pre)),
+      omega (arith, rest-length (a .book .now)),
+    )
 
 first-requires : tie.Need-first-requires Inv-loop μ-loop
 first-requires c κs = search needs
@@ -46,7 +50,8 @@ returns c =
     let s = c .before .before .first .result in
     let w = stepWithin (inMask (a .group)) (a .kind) in
     ap lineOf
-    (sym (ap (firstStep w) (steps-turn (l .line) (l .caller) (l .t .now) s (c .before .before .before .loop-test .taken) (c .before .before .first .ensures))
+    (sym (ap (firstStep w) (steps-turn (l .line) (l .caller) (l .t .now) s
+    (c .before .before .before .loop-test .taken) (c .before .before .first .ensures))
     ∙ first-here w (s .step) (stepAt (l .line) s) _ (sym (c .before .is-within .ensures) ∙ c .if1 .taken))
     ∙ l .inv .0)
 
@@ -63,7 +68,9 @@ add-line : tie.Need-add-line Inv-loop μ-loop
 add-line c = search needs
 
 loop-less : tie.Need-loop-less Inv-loop μ-loop
-loop-less c = let l = c .before .before .before .before .before .loop in omega (arith, rest-length (l .t .now), c .before .before .before .before .loop-test .taken)
+loop-less c =
+    let l = c .before .before .before .before .before .loop in
+    omega (arith, rest-length (l .t .now), c .before .before .before .before .loop-test .taken)
 
 loop-again : tie.Need-loop-again Inv-loop μ-loop
 loop-again c =
@@ -71,8 +78,10 @@ loop-again c =
     let l = c .before .before .before .before .before .loop in
     let s = c .before .before .before .first .result in
     let w = stepWithin (inMask (a .group)) (a .kind) in (
-      sym (ap (firstStep w) (steps-turn (l .line) (l .caller) (l .t .now) s (c .before .before .before .before .loop-test .taken) (c .before .before .before .first .ensures))
-          ∙ first-later w (s .step) (stepAt (l .line) s) _ (sym (c .before .before .is-within .ensures) ∙ c .before .if1 .left))
+      sym (ap (firstStep w) (steps-turn (l .line) (l .caller) (l .t .now) s
+          (c .before .before .before .before .loop-test .taken) (c .before .before .before .first .ensures))
+          ∙ first-later w (s .step) (stepAt (l .line) s) _
+          (sym (c .before .before .is-within .ensures) ∙ c .before .if1 .left))
           ∙ l .inv .0,
       omega (arith, rest-length (l .t .now), l .inv .1, c .before .before .before .before .loop-test .taken),
     )

@@ -13,7 +13,8 @@ same-requires c κs = search needs
 returns-2 : tie.Need-returns-2
 returns-2 c =
     let s = c .before .before .before .before .args .s in
-    pass (s .step) _ _ (not-false (s .step) (c .before .before .if1 .left)) (stop _ _ (refused (c .before .same .ensures) (c .if2 .taken)))
+    pass (s .step) _ _ (not-false (s .step) (c .before .before .if1 .left))
+    (stop _ _ (refused (c .before .same .ensures) (c .if2 .taken)))
 
 has-requires : tie.Need-has-requires
 has-requires c κs = search needs
