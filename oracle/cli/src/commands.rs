@@ -65,7 +65,7 @@ pub fn readings(given: Arguments) -> Done {
     for (number, what) in wrong_readings() {
         say(&format!("{number:>3} {what}"))?;
     }
-    for reading in wrong::TOO_MUCH.iter().chain(wrong::TOO_LITTLE) {
+    for reading in wrong::all() {
         say(&format!("item 12, {}: {}", reading.name, reading.what))?;
     }
     Ok(true)
@@ -186,12 +186,15 @@ fn print_seen(name: &str, seen: &Seen) -> Result<(), String> {
     say(&format!("    no {no}, {below_greatest} of them in the whole book's greatest set"))?;
     say(&format!("    yes {yes}, {beyond_least} of them outside its least set"))?;
     say(&format!("    undecided {undecided}, overflow {overflow}"))?;
-    let Seen { both_kinds, choices_differ, undecided_differ, cache_off, sampled, .. } = seen;
-    say(&format!("    lists with groups of both kinds {both_kinds}"))?;
-    say(&format!("    lists in which two choices differ {choices_differ}"))?;
-    say(&format!("    lists in which undecided lines matter {undecided_differ}"))?;
-    say(&format!("    lists without provisional cache {cache_off}"))?;
-    say(&format!("    lists with too many choices to try all {sampled}"))
+    let lists = [
+        (seen.both_kinds, "with groups of both kinds"),
+        (seen.bridged, "with a step of the other kind out of a group"),
+        (seen.choices_differ, "in which two choices differ"),
+        (seen.undecided_differ, "in which undecided lines matter"),
+        (seen.cache_off, "without provisional cache"),
+        (seen.sampled, "with too many choices to try all"),
+    ];
+    lists.iter().try_for_each(|(count, what)| say(&format!("    {count} lists {what}")))
 }
 
 fn limits_and_cases(mut given: Arguments) -> Result<(Limits, Vec<Case>), String> {

@@ -95,6 +95,10 @@ impl Group {
         self.inside.iter().find(|step| step.kind == kind).map(|step| step.line)
     }
 
+    pub fn is_left_by(&self, step: &Step) -> bool {
+        self.goals.contains(&step.caller) && !self.goals.contains(&step.called)
+    }
+
     pub fn may_be_least(&self) -> bool {
         self.first(COINDUCTIVE).is_none()
     }
@@ -139,7 +143,7 @@ pub fn choices(groups: &[Group]) -> Vec<Vec<bool>> {
             (sum ^ group.goals.len() as u64).rotate_left(7) ^ group.inside.len() as u64
         }));
         let some = (2..MOST_CHOICES).map(|_| u128::from(r.number()) % count);
-        [0, count - 1].into_iter().chain(some).collect()
+        [0].into_iter().chain(some).chain([count - 1]).collect()
     };
     numbers.into_iter().map(|number| choice(groups, number)).collect()
 }

@@ -9,8 +9,7 @@ use oracle_core::sets::{greatest, least};
 
 fn book(parts: Vec<Part>) -> Book {
     let goals = parts.len();
-    let header =
-        Header { provisional_cache: true, goals, top_depth: 5, step_limit: 3, divisor: 1 };
+    let header = Header { provisional_cache: true, goals, top_depth: 5, step_limit: 3, divisor: 1 };
     Book { header, parts }
 }
 

@@ -39,6 +39,8 @@ pub struct Seen {
     pub below_greatest: u64,
     /// Lists with a group that must be least and one that must be greatest.
     pub both_kinds: u64,
+    /// Lists with a step out of a group that would break the condition inside of it.
+    pub bridged: u64,
     /// Lists in which two choices give different sets.
     pub choices_differ: u64,
     /// Lists in which the two readings of undecided lines do.
@@ -56,6 +58,7 @@ impl Seen {
         self.beyond_least += other.beyond_least;
         self.below_greatest += other.below_greatest;
         self.both_kinds += other.both_kinds;
+        self.bridged += other.bridged;
         self.choices_differ += other.choices_differ;
         self.undecided_differ += other.undecided_differ;
         self.cache_off += other.cache_off;
@@ -81,6 +84,7 @@ impl Counts {
             (mixed.below_greatest, "no No in the greatest set of a mixed book"),
             (mixed.beyond_least, "no Yes outside the least set of a mixed book"),
             (mixed.both_kinds, "no mixed book with groups of both kinds"),
+            (mixed.bridged, "no mixed book with a step of the other kind out of a group"),
             (mixed.choices_differ, "no mixed book in which two choices differ"),
             (mixed.undecided_differ, "no mixed book in which undecided lines matter"),
         ];
@@ -88,7 +92,9 @@ impl Counts {
         found.extend(missing.map(|(_, what)| what.to_string()));
         let (broken, met) = (self.broken, mixed.lists);
         if broken > met {
-            found.push(format!("{broken} books break item 12's condition, {met} mixed ones meet it"));
+            found.push(format!(
+                "{broken} books break item 12's condition, {met} mixed ones meet it"
+            ));
         }
         found.extend(judge::too_long(self.too_long, self.queries));
         found
@@ -106,12 +112,21 @@ mod tests {
             beyond_least: 1,
             below_greatest: 1,
             both_kinds: 1,
+            bridged: 1,
             choices_differ: 1,
             undecided_differ: 1,
             ..Seen::default()
         };
         let measured = mixed.clone();
-        Counts { lists: 2, queries: 200, too_long: 2, measured, mixed, broken: 1, ..Counts::default() }
+        Counts {
+            lists: 2,
+            queries: 200,
+            too_long: 2,
+            measured,
+            mixed,
+            broken: 1,
+            ..Counts::default()
+        }
     }
 
     #[test]
@@ -134,6 +149,8 @@ mod tests {
         assert_eq!(below, "no No in the greatest set of a mixed book");
         let kinds = without(&|counts| counts.mixed.both_kinds = 0);
         assert_eq!(kinds, "no mixed book with groups of both kinds");
+        let bridged = without(&|counts| counts.mixed.bridged = 0);
+        assert_eq!(bridged, "no mixed book with a step of the other kind out of a group");
         let choices = without(&|counts| counts.mixed.choices_differ = 0);
         assert_eq!(choices, "no mixed book in which two choices differ");
         let undecided = without(&|counts| counts.mixed.undecided_differ = 0);
@@ -146,6 +163,6 @@ mod tests {
     fn a_run_must_have_asked() {
         assert_eq!(enough().lacking(3), ["2 lists, fewer than 3"]);
         assert_eq!(Counts { too_long: 3, ..enough() }.lacking(2).len(), 1);
-        assert_eq!(Counts::default().lacking(1).len(), 10);
+        assert_eq!(Counts::default().lacking(1).len(), 11);
     }
 }

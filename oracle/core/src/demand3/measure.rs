@@ -4,7 +4,7 @@ use super::counts::Seen;
 use crate::book::{Book, COINDUCTIVE, INDUCTIVE};
 use crate::delegate::{NO, YES};
 use crate::groups::wrong::Reading;
-use crate::groups::{MOST_CHOICES, Sets, count_choices, groups};
+use crate::groups::{Group, MOST_CHOICES, Sets, count_choices, groups, steps};
 use crate::sets::{Goals, greatest, least};
 
 pub struct Measure {
@@ -32,7 +32,7 @@ fn of_one_sort(book: &Book) -> Vec<Goals> {
 impl Measure {
     /// None where there is nothing to measure by.
     pub fn of(book: &Book, reading: Reading) -> Option<(Measure, Seen)> {
-        let sets = (reading.sets)(book);
+        let sets = reading.sets(book);
         let old = of_one_sort(book);
         if sets.is_empty() && old.is_empty() {
             return None;
@@ -65,12 +65,21 @@ impl Measure {
 
 /// What matters in a book, as of a list without queries.
 fn features(book: &Book, sets: &Sets) -> Seen {
-    let groups = groups(book);
+    let (groups, steps) = (groups(book), steps(book));
     let must_be_least = groups.iter().any(|group| !group.may_be_greatest());
     let must_be_greatest = groups.iter().any(|group| !group.may_be_least());
+    let bridged = |group: &Group| {
+        let mut out = steps.iter().filter(|step| group.is_left_by(step));
+        out.any(|step| match step.kind {
+            INDUCTIVE => !group.may_be_least(),
+            COINDUCTIVE => !group.may_be_greatest(),
+            _ => false,
+        })
+    };
     Seen {
         lists: 1,
         both_kinds: u64::from(must_be_least && must_be_greatest),
+        bridged: u64::from(groups.iter().any(bridged)),
         choices_differ: u64::from(sets.choices_differ()),
         undecided_differ: u64::from(sets.with_false != sets.with_true),
         cache_off: u64::from(!book.header.provisional_cache),

@@ -43,7 +43,7 @@ pub fn book(r: &mut Random) -> Book {
             parts[ring.goals[place]] = part(r, &shape, &rings[at..], place);
         }
     }
-    if r.chance(12) {
+    if r.chance(20) {
         call_back(r, &shape, &rings, &mut parts);
     }
     fitted(Book { header, parts })
@@ -53,9 +53,17 @@ pub fn book(r: &mut Random) -> Book {
 fn rings(r: &mut Random) -> Vec<Ring> {
     let mut left = MOST_GOALS;
     let mut sizes = Vec::new();
-    for _ in 0..r.choose(&[2, 2, 2, 3, 3, 4, 5]) {
-        let kinds = r.choose(&INSIDE);
-        let size = if kinds.is_empty() { 1 } else { r.choose(&[1, 1, 2, 2, 2, 3, 4]) };
+    let first = r.below(INSIDE.len());
+    // The other kind than the first ring's stands two places on.
+    let other = if first < 4 { (first + 2) % 4 } else { first };
+    for ring in 0..r.choose(&[2, 2, 2, 3, 3, 4, 5]) {
+        let sort = match ring {
+            0 => first,
+            _ if r.chance(40) => other,
+            _ => r.below(INSIDE.len()),
+        };
+        let kinds = INSIDE[sort];
+        let size = if kinds.is_empty() { 1 } else { r.choose(&[1, 1, 2, 2, 2, 3, 3, 5]) };
         if size <= left {
             left -= size;
             sizes.push((size, kinds));
