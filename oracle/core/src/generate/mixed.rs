@@ -28,7 +28,11 @@ struct Ring {
 pub fn book(r: &mut Random) -> Book {
     let rings = rings(r);
     let goals = rings.iter().map(|ring| ring.goals.len()).sum();
-    let top = if r.chance(70) { r.between(goals, 2 * goals + 2) } else { r.between(0, 5) };
+    let top = match r.below(100) {
+        0..70 => r.between(goals, 2 * goals + 2),
+        70..97 => r.between(0, 5),
+        _ => r.between(30, 63),
+    };
     let header = header(r, goals, top);
     let shape = Shape {
         nest: r.between(1, 3),
@@ -49,21 +53,23 @@ pub fn book(r: &mut Random) -> Book {
     fitted(Book { header, parts })
 }
 
-/// Two to five rings, small ones most often, over goals in any order.
+/// Two to five rings, small ones most often, or nine goals alone; in any order.
 fn rings(r: &mut Random) -> Vec<Ring> {
     let mut left = MOST_GOALS;
     let mut sizes = Vec::new();
     let first = r.below(INSIDE.len());
     // The other kind than the first ring's stands two places on.
     let other = if first < 4 { (first + 2) % 4 } else { first };
-    for ring in 0..r.choose(&[2, 2, 2, 3, 3, 4, 5]) {
+    let count = r.choose(&[2, 2, 2, 2, 2, 2, 3, 3, 3, 3, 4, 4, 5, 9]);
+    for ring in 0..count {
         let sort = match ring {
             0 => first,
             _ if r.chance(40) => other,
             _ => r.below(INSIDE.len()),
         };
         let kinds = INSIDE[sort];
-        let size = if kinds.is_empty() { 1 } else { r.choose(&[1, 1, 2, 2, 2, 3, 3, 5]) };
+        let alone = count == 9 || kinds.is_empty();
+        let size = if alone { 1 } else { r.choose(&[1, 1, 2, 2, 2, 3, 3, 5]) };
         if size <= left {
             left -= size;
             sizes.push((size, kinds));
