@@ -5,7 +5,7 @@ use oracle_core::generate::{CLASSES, class_named};
 use oracle_core::groups::{
     Breach, MOST_CHOICES, Step, breach, build, choices, count_choices, groups, sets, steps,
 };
-use oracle_core::sets::{greatest, least};
+use oracle_core::sets::{greatest, least, rounds};
 
 fn book(parts: Vec<Part>) -> Book {
     let goals = parts.len();
@@ -126,6 +126,23 @@ fn the_sets_of_demand_3_are_two_choices() {
         }
         if fits(0) {
             assert_eq!(sets.with_true[sets.with_true.len() - 1], greatest(&book, true));
+        }
+    }
+}
+
+/// A round of the whole book leaves the set of every choice as it is.
+#[test]
+fn every_set_stays_in_a_round() {
+    for book in some_books(40) {
+        let sets = sets(&book);
+        for (undecided, each) in [(false, sets.with_false), (true, sets.with_true)] {
+            for set in each {
+                for goal in 0..book.parts.len() {
+                    let mut after = set.clone();
+                    rounds(&book, &[goal], set[goal], undecided, &mut after);
+                    assert_eq!(after, set);
+                }
+            }
         }
     }
 }

@@ -17,7 +17,7 @@ pub struct Measure {
     greatest: Goals,
 }
 
-/// The sets that a book of one sort of steps had before there were groups.
+/// The sets of demand 3 itself, which speaks of books of one sort of steps.
 fn of_one_sort(book: &Book) -> Vec<Goals> {
     let mut sets = Vec::new();
     if !book.has_kind(COINDUCTIVE) {
@@ -30,11 +30,10 @@ fn of_one_sort(book: &Book) -> Vec<Goals> {
 }
 
 impl Measure {
-    /// None where there is nothing to measure by.
+    /// With what matters in the book; none where it breaks the condition.
     pub fn of(book: &Book, reading: Reading) -> Option<(Measure, Seen)> {
-        let sets = reading.sets(book);
-        let old = of_one_sort(book);
-        if sets.is_empty() && old.is_empty() {
+        let (sets, old) = (reading.sets(book), of_one_sort(book));
+        if sets.is_empty() {
             return None;
         }
         let by_goal = |is_in: &dyn Fn(usize) -> bool| (0..book.parts.len()).map(is_in).collect();
