@@ -9,6 +9,7 @@ use oracle_core::case::{Case, Expected, Query, read_cases, to_hex};
 use oracle_core::demand3::{self, Counts, Extent, Seen};
 use oracle_core::generate::{CLASSES, class_named};
 use oracle_core::groups::wrong::{self, RIGHT};
+use oracle_core::groups::{self, Breach};
 use oracle_core::recorded;
 use oracle_core::{Limits, Outcome, reply_within, work_len, wrong_readings};
 
@@ -77,6 +78,30 @@ pub fn generate(mut given: Arguments) -> Done {
     let (seed, count) = (given.need_number("SEED")?, given.need_number("COUNT")?);
     given.end()?;
     (0..count).try_for_each(|number| print_case(&class.case(seed, number)))?;
+    Ok(true)
+}
+
+/// Prints a book's groups, or where it breaks item 12's condition.
+pub fn groups(mut given: Arguments) -> Done {
+    let name = given.need("BOOKFILE")?;
+    given.end()?;
+    let book = Book::read(&read_file(&name)?);
+    let book = book.map_err(|refusal| format!("{name}: refused by {refusal}"))?;
+    let groups = groups::groups(&book);
+    if let Some(Breach { goals, inductive, coinductive }) = groups::breach(&groups) {
+        say(&format!(
+            "broken in {goals:?}: inductive line {inductive}, coinductive {coinductive}"
+        ))?;
+        return Ok(false);
+    }
+    for group in &groups {
+        let set = match (group.may_be_least(), group.may_be_greatest()) {
+            (true, true) => "either",
+            (true, false) => "least",
+            _ => "greatest",
+        };
+        say(&format!("{:?} {set}", group.goals))?;
+    }
     Ok(true)
 }
 

@@ -35,6 +35,10 @@ oracle: document 01's queries, answered by the original search graph
       fewer than M lists (default 1), no Yes, no No, too little of mixed books, or more than one
       query in a hundred that is too long. With --reading, mixed books are measured by a wrong
       reading of item 12, to see the run find it: `oracle readings` lists them.
+  oracle groups BOOKFILE
+      Prints the groups of item 12, called ones first: the goals, and whether the set is least,
+      greatest or either. Where the condition is broken, prints the group, its first inductive
+      and its first coinductive line (the header is line 0); exit status 1.
   oracle recorded FILE
       Prints one of the recorded files of tests/vectors, made anew: document, refusals, caches
       or random.
@@ -78,6 +82,7 @@ fn run() -> Result<bool, String> {
         Some("answer") => commands::answer(given),
         Some("verify") => commands::verify(given),
         Some("demand3") => commands::demand3(given),
+        Some("groups") => commands::groups(given),
         Some("recorded") => commands::recorded(given),
         Some("readings") => commands::readings(given),
         #[cfg(feature = "wrong_readings")]
