@@ -62,6 +62,7 @@ pub fn never(all: &Tally, lengths: u64) -> Vec<String> {
     let none = [
         (all.differences, "queries that library and original answer differently"),
         (lengths, "lengths that the library computes wrongly"),
+        (all.wrong_guarantees, "guarantees that the library tells wrongly"),
         (all.panics, "panics of the original"),
         (all.frames, "frames of the original out of order"),
     ];
@@ -72,6 +73,19 @@ pub fn never(all: &Tally, lengths: u64) -> Vec<String> {
         found.push("nothing was compared".to_string());
     }
     found
+}
+
+/// Guarantees given, broken, and books refused, in every `ENOUGH` cases of all classes: half of what they give.
+const GUARANTEES: [u64; 3] = [10_000, 2_000, 400];
+
+/// Where all classes together gave too few.
+pub fn too_few_guarantees(cases: u64, all: &Tally) -> Vec<String> {
+    let least = GUARANTEES.map(|floor| floor * cases / ENOUGH);
+    let seen = all.guarantees;
+    if seen.iter().zip(&least).all(|(seen, least)| seen >= least) {
+        return vec![];
+    }
+    vec![format!("guarantees given, broken, refused: {seen:?}, fewer than {least:?}")]
 }
 
 /// Where a class is below its floors after so many cases.
@@ -159,6 +173,17 @@ mod tests {
     }
 
     #[test]
+    fn one_guarantee_fewer_is_too_few() {
+        let enough = Tally { guarantees: GUARANTEES.map(|n| 2 * n), ..Tally::default() };
+        assert!(too_few_guarantees(2 * ENOUGH, &enough).is_empty());
+        for i in 0..3 {
+            let mut tally = enough.clone();
+            tally.guarantees[i] -= 1;
+            assert_eq!(too_few_guarantees(2 * ENOUGH, &tally).len(), 1);
+        }
+    }
+
+    #[test]
     fn what_may_never_be() {
         let good = Tally { compared: 198, too_long: 2, ..Tally::default() };
         assert!(never(&good, 0).is_empty());
@@ -166,6 +191,8 @@ mod tests {
         let differs = Tally { differences: 1, ..good.clone() };
         assert_eq!(said(differs, 0), "1 queries that library and original answer differently");
         assert_eq!(said(good.clone(), 2), "2 lengths that the library computes wrongly");
+        let told = Tally { wrong_guarantees: 1, ..good.clone() };
+        assert_eq!(said(told, 0), "1 guarantees that the library tells wrongly");
         assert_eq!(said(Tally { panics: 1, ..good.clone() }, 0), "1 panics of the original");
         let frame = Tally { frames: 1, ..good.clone() };
         assert_eq!(said(frame, 0), "1 frames of the original out of order");
