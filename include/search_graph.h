@@ -15,7 +15,7 @@
 extern "C" {
 #endif
 
-/* The most bytes of the machine's stack that a query needs, for any book, cache and workspace:
+/* The most bytes of the machine's stack that a call needs, for any book, cache and workspace:
    below the caller's stack pointer, with the arguments. 4 KB of it are for the C library's
    memset and memcpy. */
 #define SEARCH_GRAPH_STACK_LEN ((size_t)293 * 1024)

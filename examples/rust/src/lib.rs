@@ -18,6 +18,12 @@ mod c {
             goal: usize,
             depth: usize,
         ) -> u32;
+        pub fn search_graph_guarantee(
+            book: *const u8,
+            book_len: usize,
+            out: *mut u64,
+            n: usize,
+        ) -> u32;
     }
 }
 
@@ -46,6 +52,15 @@ pub enum Refusal {
     DifferentResult,
     /// A number that the header does not know.
     Unknown(u32),
+}
+
+/// Why no Yes and No of a book is proved right: two calls inside one group of goals, each of which reaches
+/// the others by calls. Line 0 is the book's first line.
+#[derive(Clone, Debug, PartialEq, Eq)]
+pub struct Conflict {
+    pub inductive_line: usize,
+    pub coinductive_line: usize,
+    pub goals: Vec<usize>,
 }
 
 /// A book that is asked, and what was settled so far.
@@ -82,6 +97,23 @@ impl Questions {
             )
         };
         read_code(code)
+    }
+
+    /// Whether every Yes and No of this book is proved right; where not, why.
+    pub fn guarantee(&self) -> Result<Option<Conflict>, Refusal> {
+        let mut out = [0u64; 3];
+        // SAFETY: a vector and an array with their own lengths.
+        let code = unsafe {
+            let book = (self.book.as_ptr(), self.book.len());
+            c::search_graph_guarantee(book.0, book.1, out.as_mut_ptr(), out.len())
+        };
+        read_code(code)?;
+        let [inductive, coinductive, group] = out;
+        Ok((group != 0).then(|| Conflict {
+            inductive_line: inductive as usize,
+            coinductive_line: coinductive as usize,
+            goals: (0..64).filter(|goal| group >> goal & 1 == 1).collect(),
+        }))
     }
 }
 
@@ -174,6 +206,16 @@ mod tests {
             Questions::new(RING.replace("2  0  0", "2  0  1").into()).ask(0, 1),
             Ok(Answer::Undecided)
         );
+    }
+
+    #[test]
+    fn a_ring_of_one_kind_is_guaranteed() {
+        assert_eq!(Questions::new(RING.into()).guarantee(), Ok(None));
+        let both = "  4  2  0  0  0\n  2  0  2  1  0\n  2  0  0  1  0\n";
+        let book = RING.replace("  2  0  0  1  0\n", both);
+        let conflict = Conflict { inductive_line: 4, coinductive_line: 3, goals: vec![0] };
+        assert_eq!(Questions::new(book.into()).guarantee(), Ok(Some(conflict)));
+        assert_eq!(Questions::new("".into()).guarantee(), Err(Refusal::BookLength));
     }
 
     #[test]

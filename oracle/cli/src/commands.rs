@@ -6,8 +6,10 @@ use std::time::{Duration, Instant};
 
 use oracle_core::book::Book;
 use oracle_core::case::{Case, Expected, Query, read_cases, to_hex};
-use oracle_core::demand3::{self, Counts, Extent};
+use oracle_core::demand3::{self, Counts, Extent, Seen};
 use oracle_core::generate::{CLASSES, class_named};
+use oracle_core::groups::wrong::{self, RIGHT};
+use oracle_core::groups::{self, Breach};
 use oracle_core::recorded;
 use oracle_core::{Limits, Outcome, reply_within, work_len, wrong_readings};
 
@@ -64,6 +66,9 @@ pub fn readings(given: Arguments) -> Done {
     for (number, what) in wrong_readings() {
         say(&format!("{number:>3} {what}"))?;
     }
+    for reading in wrong::all() {
+        say(&format!("item 12, {}: {}", reading.name, reading.what))?;
+    }
     Ok(true)
 }
 
@@ -73,6 +78,30 @@ pub fn generate(mut given: Arguments) -> Done {
     let (seed, count) = (given.need_number("SEED")?, given.need_number("COUNT")?);
     given.end()?;
     (0..count).try_for_each(|number| print_case(&class.case(seed, number)))?;
+    Ok(true)
+}
+
+/// Prints a book's groups, or where it breaks item 12's condition.
+pub fn groups(mut given: Arguments) -> Done {
+    let name = given.need("BOOKFILE")?;
+    given.end()?;
+    let book = Book::read(&read_file(&name)?);
+    let book = book.map_err(|refusal| format!("{name}: refused by {refusal}"))?;
+    let groups = groups::groups(&book);
+    if let Some(Breach { goals, inductive, coinductive }) = groups::breach(&groups) {
+        say(&format!(
+            "broken in {goals:?}: inductive line {inductive}, coinductive {coinductive}"
+        ))?;
+        return Ok(false);
+    }
+    for group in &groups {
+        let set = match (group.may_be_least(), group.may_be_greatest()) {
+            (true, true) => "either",
+            (true, false) => "least",
+            _ => "greatest",
+        };
+        say(&format!("{:?} {set}", group.goals))?;
+    }
     Ok(true)
 }
 
@@ -136,11 +165,16 @@ pub fn demand3(mut given: Arguments) -> Done {
     let (lists, seconds) = (given.option("--lists")?, given.option("--seconds")?);
     let seed = given.option("--seed")?.unwrap_or(1);
     let least = given.option("--least")?.unwrap_or(1);
+    let reading = match given.option_word("--reading")? {
+        Some(name) => wrong::named(&name).ok_or(format!("no reading {name:?} of item 12"))?,
+        None => RIGHT,
+    };
     given.end()?;
     let seconds = seconds.unwrap_or(if lists.is_some() { 1_000_000 } else { 10 });
     let time = Duration::from_secs(seconds);
     let start = Instant::now();
-    let (counts, violation) = demand3::run(Extent { lists: lists.unwrap_or(u64::MAX), time, seed });
+    let lists = lists.unwrap_or(u64::MAX);
+    let (counts, violation) = demand3::run(Extent { lists, time, seed, reading });
     print_counts(&counts, start.elapsed())?;
     if let Some(violation) = violation {
         say(&format!("WRONG: {}", violation.what))?;
@@ -154,7 +188,10 @@ pub fn demand3(mut given: Arguments) -> Done {
 
 fn print_counts(counts: &Counts, time: Duration) -> Result<(), String> {
     let rate = counts.queries as f64 / time.as_secs_f64();
-    say(&format!("lists {}, demand 3 speaks of {}", counts.lists, counts.measured))?;
+    say(&format!("lists {}", counts.lists))?;
+    print_seen("demand 3 speaks of", &counts.measured)?;
+    print_seen("mixed", &counts.mixed)?;
+    say(&format!("not measured, as the condition is broken: {} lists", counts.broken))?;
     say(&format!("queries {} ({rate:.0} a second)", counts.queries))?;
     say(&format!("accepted {}", counts.accepted))?;
     for (number, count) in counts.refused.iter().enumerate().filter(|(_, count)| **count != 0) {
@@ -165,6 +202,24 @@ fn print_counts(counts: &Counts, time: Duration) -> Result<(), String> {
     say(&format!("too long {}\npanics {}", counts.too_long, counts.panics))?;
     say(&format!("goal runs {}, most in one query {}", counts.goal_runs, counts.longest))?;
     say(&format!("most live entries {}", counts.high_water))
+}
+
+fn print_seen(name: &str, seen: &Seen) -> Result<(), String> {
+    let [no, yes, undecided, overflow] = seen.answers;
+    let Seen { lists, queries, beyond_least, below_greatest, .. } = seen;
+    say(&format!("{name}: {lists} lists, {queries} queries"))?;
+    say(&format!("    no {no}, {below_greatest} of them in the whole book's greatest set"))?;
+    say(&format!("    yes {yes}, {beyond_least} of them outside its least set"))?;
+    say(&format!("    undecided {undecided}, overflow {overflow}"))?;
+    let lists = [
+        (seen.both_kinds, "with groups of both kinds"),
+        (seen.bridged, "with a step of the other kind out of a group"),
+        (seen.choices_differ, "in which two choices differ"),
+        (seen.undecided_differ, "in which undecided lines matter"),
+        (seen.cache_off, "without provisional cache"),
+        (seen.sampled, "with too many choices to try all"),
+    ];
+    lists.iter().try_for_each(|(count, what)| say(&format!("    {count} lists {what}")))
 }
 
 fn limits_and_cases(mut given: Arguments) -> Result<(Limits, Vec<Case>), String> {

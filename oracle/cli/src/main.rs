@@ -29,16 +29,22 @@ oracle: document 01's queries, answered by the original search graph
       (default 1000000) are left out.
   oracle verify [--fuel N] < cases
       Replays the cases and compares; exit status 1 if something differs. No query is an error.
-  oracle demand3 [--lists N] [--seconds S] [--seed K] [--least M]
+  oracle demand3 [--lists N] [--seconds S] [--seed K] [--least M] [--reading NAME]
       Checks demand 3, panics and the state after each frame on random lists (default: 10
       seconds, seed 1); exit status 1 with a small book if something is wrong, and where it saw
-      fewer than M lists (default 1), no Yes, no No, or more than one query in a hundred that is
-      too long.
+      fewer than M lists (default 1), no Yes, no No, too little of mixed books, or more than one
+      query in a hundred that is too long. With --reading, mixed books are measured by a wrong
+      reading of item 12, to see the run find it: `oracle readings` lists them.
+  oracle groups BOOKFILE
+      Prints the groups of item 12, called ones first: the goals, and whether the set is least,
+      greatest or either. Where the condition is broken, prints the group, its first inductive
+      and its first coinductive line (the header is line 0); exit status 1.
   oracle recorded FILE
       Prints one of the recorded files of tests/vectors, made anew: document, refusals, caches
       or random.
   oracle readings
-      Lists the wrong readings that this build knows (feature wrong_readings).
+      Lists the wrong readings that this build knows: by number (feature wrong_readings), and
+      those of item 12 by name.
   oracle hunt [--rounds N] [--seconds S] [--seed K] [--readings N,N,..]
       Hunts small cases that catch wrong readings (feature wrong_readings) and prints few of
       them; tells the standard error how it goes and what is not caught. Ends after N rounds
@@ -76,6 +82,7 @@ fn run() -> Result<bool, String> {
         Some("answer") => commands::answer(given),
         Some("verify") => commands::verify(given),
         Some("demand3") => commands::demand3(given),
+        Some("groups") => commands::groups(given),
         Some("recorded") => commands::recorded(given),
         Some("readings") => commands::readings(given),
         #[cfg(feature = "wrong_readings")]

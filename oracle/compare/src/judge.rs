@@ -48,6 +48,7 @@ const FLOORS: &[Floors] = &[
     floors("no-coinductive",   1700, [540,  190, 140, 580], [  0,   0,  0,   0,  27,  11,   0,    0,  11,  0,   0]),
     floors("no-inductive",     1700, [130,  840, 100, 460], [  0,   0,  0,   0,  26,  11,   0,    0,  13,  0,   0]),
     floors("groups",           1600, [320,  420, 180, 540], [  0,   0,  0,   0,  28,  11,   0,    0,  14,  0,   0]),
+    floors("mixed",            1700, [270,  630,  83, 490], [  0,   0,  0,   0,  25,  12,   0,    0,  10,  0,   0]),
     floors("bad-query",        1900, [ 88,  150,  48, 220], [  0,   0,  0,   0, 570, 270, 230,    0, 200,  0,   0]),
     floors("damaged-book",     1000, [ 20,   22,  15,  43], [160, 120, 70, 370,   0,   0,   0,    0,   0,  0,   0]),
     floors("made-cache",       1200, [270,  350, 140, 300], [  0,   0,  0,   0,   7,   0,   0,    0,   0,  0,   9]),
@@ -61,6 +62,7 @@ pub fn never(all: &Tally, lengths: u64) -> Vec<String> {
     let none = [
         (all.differences, "queries that library and original answer differently"),
         (lengths, "lengths that the library computes wrongly"),
+        (all.wrong_guarantees, "guarantees that the library tells wrongly"),
         (all.panics, "panics of the original"),
         (all.frames, "frames of the original out of order"),
     ];
@@ -71,6 +73,19 @@ pub fn never(all: &Tally, lengths: u64) -> Vec<String> {
         found.push("nothing was compared".to_string());
     }
     found
+}
+
+/// Guarantees given, broken, and books refused, in every `ENOUGH` cases of all classes: half of what they give.
+const GUARANTEES: [u64; 3] = [10_000, 2_000, 400];
+
+/// Where all classes together gave too few.
+pub fn too_few_guarantees(cases: u64, all: &Tally) -> Vec<String> {
+    let least = GUARANTEES.map(|floor| floor * cases / ENOUGH);
+    let seen = all.guarantees;
+    if seen.iter().zip(&least).all(|(seen, least)| seen >= least) {
+        return vec![];
+    }
+    vec![format!("guarantees given, broken, refused: {seen:?}, fewer than {least:?}")]
 }
 
 /// Where a class is below its floors after so many cases.
@@ -158,6 +173,17 @@ mod tests {
     }
 
     #[test]
+    fn one_guarantee_fewer_is_too_few() {
+        let enough = Tally { guarantees: GUARANTEES.map(|n| 2 * n), ..Tally::default() };
+        assert!(too_few_guarantees(2 * ENOUGH, &enough).is_empty());
+        for i in 0..3 {
+            let mut tally = enough.clone();
+            tally.guarantees[i] -= 1;
+            assert_eq!(too_few_guarantees(2 * ENOUGH, &tally).len(), 1);
+        }
+    }
+
+    #[test]
     fn what_may_never_be() {
         let good = Tally { compared: 198, too_long: 2, ..Tally::default() };
         assert!(never(&good, 0).is_empty());
@@ -165,6 +191,8 @@ mod tests {
         let differs = Tally { differences: 1, ..good.clone() };
         assert_eq!(said(differs, 0), "1 queries that library and original answer differently");
         assert_eq!(said(good.clone(), 2), "2 lengths that the library computes wrongly");
+        let told = Tally { wrong_guarantees: 1, ..good.clone() };
+        assert_eq!(said(told, 0), "1 guarantees that the library tells wrongly");
         assert_eq!(said(Tally { panics: 1, ..good.clone() }, 0), "1 panics of the original");
         let frame = Tally { frames: 1, ..good.clone() };
         assert_eq!(said(frame, 0), "1 frames of the original out of order");

@@ -1,6 +1,7 @@
 //! The proved library and the original, side by side in one process, on generated cases: answers, refusals, every byte of
-//! cache and workspace, and guard bytes around what is lent.
+//! cache and workspace, and guard bytes around what is lent; and whether the guarantee of mixed books applies.
 
+mod guarantee;
 mod guarded;
 mod judge;
 mod tally;
@@ -166,7 +167,9 @@ fn compare(options: &Options) -> (Vec<Tally>, u64) {
             if start.elapsed().as_secs() >= options.seconds {
                 return (tallies, number);
             }
-            compare_case(&class.case(options.seed, number), options.limits, tally);
+            let case = class.case(options.seed, number);
+            guarantee::compare(&case.name, &case.book, number, tally);
+            compare_case(&case, options.limits, tally);
         }
     }
     (tallies, options.cases)
@@ -188,6 +191,11 @@ fn print(options: &Options, tallies: &[Tally], cases: u64, all: &Tally) {
         "seed {}, {cases} cases of each class: {} queries compared, {} differences; not compared: {} too long, {} panics of the original, {} frames out of order",
         options.seed, all.compared, all.differences, all.too_long, all.panics, all.frames
     );
+    let [given, broken, refused] = all.guarantees;
+    println!(
+        "guarantees: {given} given, {broken} broken, {refused} books refused, {} differences",
+        all.wrong_guarantees
+    );
 }
 
 /// All that is wrong with the run.
@@ -198,6 +206,9 @@ fn faults(options: &Options, tallies: &[Tally], cases: u64, all: &Tally) -> Vec<
         found.extend(
             classes.flat_map(|(class, tally)| judge::below_floors(class.name, cases, tally)),
         );
+        if options.classes.len() == CLASSES.len() {
+            found.extend(judge::too_few_guarantees(cases, all));
+        }
     } else {
         println!("what a class gives is not judged: fewer than {} cases of each", judge::ENOUGH);
     }

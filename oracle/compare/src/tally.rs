@@ -12,6 +12,9 @@ pub struct Tally {
     /// Of the original, as are frames out of order.
     pub panics: u64,
     pub frames: u64,
+    /// Of the books: given, broken, refused.
+    pub guarantees: [u64; 3],
+    pub wrong_guarantees: u64,
 }
 
 impl Tally {
@@ -22,6 +25,8 @@ impl Tally {
         self.panics += other.panics;
         self.frames += other.frames;
         (0..4).for_each(|i| self.answers[i] += other.answers[i]);
+        self.wrong_guarantees += other.wrong_guarantees;
+        (0..3).for_each(|i| self.guarantees[i] += other.guarantees[i]);
         (0..12).for_each(|i| self.refusals[i] += other.refusals[i]);
     }
 

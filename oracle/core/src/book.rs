@@ -67,6 +67,13 @@ impl Part {
         1 + self.children().iter().map(Part::lines).sum::<usize>()
     }
 
+    /// This part and all below it, as their lines follow each other.
+    pub fn in_order(&self) -> Vec<&Part> {
+        let mut all = vec![self];
+        self.children().iter().for_each(|part| all.extend(part.in_order()));
+        all
+    }
+
     /// Whether some call line below, or this one, has the kind.
     pub fn has_kind(&self, wanted: u8) -> bool {
         matches!(self, Part::Call { kind, .. } if *kind == wanted)
@@ -97,6 +104,11 @@ impl Book {
 
     pub fn has_kind(&self, kind: u8) -> bool {
         self.parts.iter().any(|p| p.has_kind(kind))
+    }
+
+    /// Whether it has both inductive and coinductive steps.
+    pub fn is_mixed(&self) -> bool {
+        self.has_kind(INDUCTIVE) && self.has_kind(COINDUCTIVE)
     }
 
     pub fn to_bytes(&self) -> Vec<u8> {

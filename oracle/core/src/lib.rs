@@ -5,6 +5,7 @@ pub mod book;
 pub mod case;
 pub mod demand3;
 pub mod generate;
+pub mod groups;
 #[cfg(feature = "wrong_readings")]
 pub mod hunt;
 pub mod judge;

@@ -15,22 +15,30 @@ fn holds(part: &Part, set: &Goals, undecided: bool) -> bool {
     }
 }
 
-/// The goals whose own part holds.
-fn round(book: &Book, set: &Goals, undecided: bool) -> Goals {
-    book.parts.iter().map(|part| holds(part, set, undecided)).collect()
+/// As many rounds of `goals` as there are of them, from all of them (`start`) or none; every
+/// other goal is held as it stands in the set.
+pub fn rounds(book: &Book, goals: &[usize], start: bool, undecided: bool, set: &mut Goals) {
+    goals.iter().for_each(|goal| set[*goal] = start);
+    for _ in goals {
+        let part_holds = |goal: &usize| holds(&book.parts[*goal], set, undecided);
+        let round: Vec<bool> = goals.iter().map(part_holds).collect();
+        goals.iter().zip(round).for_each(|(goal, holds)| set[*goal] = holds);
+    }
 }
 
-fn rounds(book: &Book, start: bool, undecided: bool) -> Goals {
-    let goals = book.parts.len();
-    (0..goals).fold(vec![start; goals], |set, _| round(book, &set, undecided))
+fn of_all_goals(book: &Book, start: bool, undecided: bool) -> Goals {
+    let goals: Vec<usize> = (0..book.parts.len()).collect();
+    let mut set = vec![start; goals.len()];
+    rounds(book, &goals, start, undecided, &mut set);
+    set
 }
 
 /// What G rounds make of no goals.
 pub fn least(book: &Book, undecided: bool) -> Goals {
-    rounds(book, false, undecided)
+    of_all_goals(book, false, undecided)
 }
 
 /// What G rounds make of all goals.
 pub fn greatest(book: &Book, undecided: bool) -> Goals {
-    rounds(book, true, undecided)
+    of_all_goals(book, true, undecided)
 }

@@ -7,6 +7,7 @@ use oracle_core::book::Book;
 use oracle_core::case::{Case, Expected, read_cases};
 use oracle_core::demand3::{Extent, run};
 use oracle_core::generate::{CLASSES, class_named};
+use oracle_core::groups::wrong::RIGHT;
 
 fn cases(count: u64) -> Vec<Case> {
     CLASSES.iter().flat_map(|class| (0..count).map(|number| class.case(5, number))).collect()
@@ -37,7 +38,8 @@ fn cases_are_read_as_written() {
 
 #[test]
 fn demand_3_holds_on_a_few_lists() {
-    let extent = Extent { lists: 3000, time: Duration::from_secs(60), seed: 9 };
+    let time = Duration::from_secs(60);
+    let extent = Extent { lists: 3000, time, seed: 9, reading: RIGHT };
     let (counts, violation) = run(extent);
     assert!(violation.is_none(), "{violation:?}");
     assert!(counts.accepted > 3000 && counts.panics == 0);

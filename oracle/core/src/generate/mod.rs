@@ -5,6 +5,7 @@ mod caches;
 pub mod change;
 mod damage;
 pub mod examples;
+mod mixed;
 mod shapes;
 
 use crate::book::Book;
@@ -42,6 +43,7 @@ pub const CLASSES: &[Class] = &[
     class("no-coinductive", "calls of kinds 0, 1, 3", |r| honest(r, books::no_coinductive)),
     class("no-inductive", "calls of kinds 1, 2, 3", |r| honest(r, books::no_inductive)),
     class("groups", "groups of either sort, calls downwards", |r| honest(r, books::groups)),
+    class("mixed", "rings of either sort that call later ones", |r| honest(r, mixed::book)),
     class("bad-query", "goal, depth, cache or work length wrong", bad_query),
     class("damaged-book", "a book that is spoiled", damaged_book),
     class("made-cache", "a well-formed cache made by hand", made_cache),
