@@ -70,7 +70,7 @@ pub fn next(part: &[u8]) -> &[u8]
 }
 
 // The kind of a step, by its number.
-fn kind(number: u16) -> PathKind
+pub fn kind(number: u16) -> PathKind
     ensures { λ r. ⌜ r ≡ kindOf number ⌝ }
 {
     match number {

@@ -11,7 +11,7 @@ use Rattle.definition.specs.declared.paths.PathKind.the-variants.{Inductive, Co
 use Rattle.definition.specs.Paths.{kindNumber, sameKind}
 use Rattle.definition.specs.Part.{Book}
 use Rattle.definition.proofs.Tests.{and-left, and-right}
-use Rattle.soundness.specs.Groups.{StepLine, hasStep, linked, Inside, Fits, Least, Greatest, Mixed}
+use Rattle.soundness.specs.Groups.{StepLine, hasStep, linked, Inside, Fits, Least, Greatest, OneKindEach}
 use Rattle.soundness.proofs.Calls.{BookOk, same-kind}
 use Rattle.soundness.proofs.Logic.{both, clash, of-true}
 use Rattle.soundness.proofs.Reach.{linked-self, linked-sym, linked-trans}
@@ -159,7 +159,7 @@ module _ (b : Book) (ok : BookOk b) (ss : List StepLine)
             (subst (λ (x : ℕ). T (linked b h x)) (sym (r .2 .1)) (linked-trans b ok h g y l (i .to)))),
       )
 
-  pub mixed-given : Mixed b → firstConflict b ss ss ≡ Given
+  pub mixed-given : OneKindEach b → firstConflict b ss ss ≡ Given
   mixed-given mixed = none-given b ss ss (λ s i. go s i (conflictWith b ss s) refl)
     where
       apart : (s : StepLine) (c y : ℕ) → Inside b (s .caller) (s .caller) (s .goal) Inductive
@@ -176,7 +176,7 @@ module _ (b : Book) (ok : BookOk b) (ss : List StepLine)
           absurd (apart s (t .caller) (t .goal) (within-inside (s .caller) Inductive s i (r .0) .1)
           (within-inside (s .caller) Coinductive t (r .1 .1) (r .1 .2) .1) (mixed (s .caller)))
 
-  pub given-mixed : firstConflict b ss ss ≡ Given → Mixed b
+  pub given-mixed : firstConflict b ss ss ≡ Given → OneKindEach b
   given-mixed e g = go (firstStep (stepWithin (linked b g) Coinductive) ss) refl
     where
       go : (x : Option StepLine) → firstStep (stepWithin (linked b g) Coinductive) ss ≡ x

@@ -8,7 +8,7 @@ use Rattle.definition.specs.Part.{Book}
 use Rattle.definition.specs.Reader.{BookRead, Accepted, linesOf, readBook}
 use Rattle.book.specs.Lines.{linesIn}
 use Rattle.book.specs.Read.{bookOr, bookIn}
-use Rattle.soundness.specs.Groups.{stepLines, Mixed}
+use Rattle.soundness.specs.Groups.{stepLines, OneKindEach}
 use Rattle.guarantee.specs.declared.Conflict.{Conflict}
 use Rattle.guarantee.specs.declared.Verdict.the-variants.{Given, Broken}
 use Rattle.guarantee.specs.Guarantee.{stepsOf, guaranteeOf, guaranteeOfRead}
@@ -28,12 +28,12 @@ module _ (bytes : List ℕ) (b : Book) (e : readBook bytes ≡ Accepted b) where
   accepted = e ∙ ap Accepted (sym same-book)
 
 module _ (bytes : List ℕ) (is : IsAccepted bytes) where
-  given : guaranteeOf bytes ≡ Given → Mixed (bookIn bytes)
+  given : guaranteeOf bytes ≡ Given → OneKindEach (bookIn bytes)
   given g =
       given-mixed (bookIn bytes) (ok bytes is) (stepLines (linesIn bytes)) (line-step bytes is) (step-line bytes is)
       (sym (of-accepted bytes is) ∙ g)
 
-  only-given : Mixed (bookIn bytes) → guaranteeOf bytes ≡ Given
+  only-given : OneKindEach (bookIn bytes) → guaranteeOf bytes ≡ Given
   only-given m =
       of-accepted bytes is ∙ mixed-given (bookIn bytes) (ok bytes is) (stepLines (linesIn bytes)) (line-step bytes is)
       (step-line bytes is) m
@@ -69,8 +69,8 @@ pub meaning : Meaning
 meaning =
     record {
       refused = λ bytes r e. ap (λ (x : BookRead). guaranteeOfRead x (stepsOf (linesOf bytes))) e;
-      given = λ bytes b e g. subst Mixed (same-book bytes b e) (given bytes (accepted bytes b e) g);
-      only-given = λ bytes b e m. only-given bytes (accepted bytes b e) (subst Mixed (sym (same-book bytes b e)) m);
+      given = λ bytes b e g. subst OneKindEach (same-book bytes b e) (given bytes (accepted bytes b e) g);
+      only-given = λ bytes b e m. only-given bytes (accepted bytes b e) (subst OneKindEach (sym (same-book bytes b e)) m);
       broken = λ bytes b ls c e f g.
           let lines : linesIn bytes ≡ ls = (let h = accepted-lines b bytes e in cc) in
           subst (λ (x : Book). Conflicting x (stepLines ls) c) (same-book bytes b e)

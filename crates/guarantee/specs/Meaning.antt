@@ -8,7 +8,7 @@ use Rattle.definition.specs.declared.format.Line.{Line}
 use Rattle.definition.specs.declared.replies.Refusal.{Refusal}
 use Rattle.definition.specs.Part.{Book}
 use Rattle.definition.specs.Reader.{Accepted, Rejected, linesOf, readBook}
-use Rattle.soundness.specs.Groups.{StepLine, stepLines, SomeStep, linked, Inside, Mixed}
+use Rattle.soundness.specs.Groups.{StepLine, stepLines, SomeStep, linked, Inside, OneKindEach}
 use Rattle.guarantee.specs.declared.Conflict.{Conflict}
 use Rattle.guarantee.specs.declared.Verdict.the-variants.{Refused, Given, Broken}
 use Rattle.guarantee.specs.Guarantee.{guaranteeOf}
@@ -33,8 +33,8 @@ pub record Conflicting (b : Book) (ss : List StepLine) (c : Conflict) : Type 0 w
 
 pub record Meaning : Type 0 where
   pub refused : (bytes : List ℕ) (r : Refusal) → readBook bytes ≡ Rejected r → guaranteeOf bytes ≡ Refused r
-  -- the guarantee is given exactly where the book is a mixed one
-  pub given : (bytes : List ℕ) (b : Book) → readBook bytes ≡ Accepted b → guaranteeOf bytes ≡ Given → Mixed b
-  pub only-given : (bytes : List ℕ) (b : Book) → readBook bytes ≡ Accepted b → Mixed b → guaranteeOf bytes ≡ Given
+  -- the guarantee is given exactly where the book meets the condition
+  pub given : (bytes : List ℕ) (b : Book) → readBook bytes ≡ Accepted b → guaranteeOf bytes ≡ Given → OneKindEach b
+  pub only-given : (bytes : List ℕ) (b : Book) → readBook bytes ≡ Accepted b → OneKindEach b → guaranteeOf bytes ≡ Given
   pub broken : (bytes : List ℕ) (b : Book) (ls : List Line) (c : Conflict) → readBook bytes ≡ Accepted b
       → linesOf bytes ≡ some ls → guaranteeOf bytes ≡ Broken c → Conflicting b (stepLines ls) c

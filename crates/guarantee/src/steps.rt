@@ -1,12 +1,12 @@
 // The steps of a book, line by line.
 use book::code::Code;
 use book::line;
+use book::part;
 use definition::paths::PathKind;
 ghost use mathlib.Core.Path.{_≡_};
 ghost use mathlib.Core.Bool.{_&&_};
 ghost use Prim.Native.Nat.{_≤_};
 ghost use lib.ListN.{length};
-ghost use Rattle.definition.specs.Paths.{kindOf};
 ghost use Rattle.book.specs.Lines.{lineIn, linesIn};
 ghost use Rattle.soundness.specs.Groups.{stepLines};
 ghost use Rattle.guarantee.specs.Guarantee.{stepWithin, firstStep};
@@ -26,16 +26,6 @@ pub enum Found {
     Nothing,
 }
 
-// The kind of a step, by its number.
-fn kind(number: u16) -> PathKind
-    ensures { λ r. ⌜ r ≡ kindOf number ⌝ }
-{
-    if 3 < number {
-        return PathKind::ForcedAmbiguity;
-    }
-    PathKind::from_number(number as u8)
-}
-
 // The first line, in the part of `caller` unless it is a goal's line.
 pub fn first(s: &[u8], caller: usize) -> Seen
     requires { ⌜ 16 ≤ length (now s) ⌝ }
@@ -43,7 +33,7 @@ pub fn first(s: &[u8], caller: usize) -> Seen
 {
     let l = line::first(s);
     let goal = l.first as usize;
-    let kind = kind(l.second);
+    let kind = part::kind(l.second);
     let code = Code::of_number(l.code);
     match code {
         Code::Goal => Seen {

@@ -4,7 +4,7 @@ use definition::replies::Refusal;
 use definition::replies::Response;
 ghost use mathlib.Core.Path.{_≡_};
 ghost use Rattle.definition.specs.Answers.{responseAnswer, responseRefusal};
-ghost use Rattle.question.specs.Lines.{readQuestion, leadingColumn, lastColumn, outputLine, replyLine, endingNumber, endingLine};
+ghost use Rattle.question.specs.Lines.{readQuestion, leadingColumn, lastColumn, columns, outputLine, replyLine, endingNumber, endingLine};
 
 // A question line, read: goal and depth.
 pub enum Question {
@@ -43,7 +43,7 @@ pub fn read_question(s: &[u8]) -> Question
 // ---- writing
 
 // A number's last column: its last digit.
-pub fn last_column(n: u16) -> u8
+fn last_column(n: u16) -> u8
     ensures { λ r. ⌜ r ≡ lastColumn n ⌝ }
 {
     48 + (n % 10) as u8
@@ -51,13 +51,24 @@ pub fn last_column(n: u16) -> u8
 
 // A column before the last: the last digit of what is left of the number, or a space
 // where nothing is.
-pub fn leading_column(n: u16) -> u8
+fn leading_column(n: u16) -> u8
     ensures { λ r. ⌜ r ≡ leadingColumn n ⌝ }
 {
     if n == 0 {
         return 32;
     }
     last_column(n)
+}
+
+// A number, three columns.
+pub fn columns(n: u16) -> [u8; 3]
+    ensures { λ r. ⌜ r ≡ columns n ⌝ }
+{
+    [
+        leading_column(n / 100),
+        leading_column(n / 10),
+        last_column(n),
+    ]
 }
 
 // Four numbers, three columns each, and a newline.

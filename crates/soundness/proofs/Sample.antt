@@ -11,7 +11,7 @@ use Rattle.definition.specs.Usages.{counterLimit}
 use Rattle.definition.specs.declared.answers.Answer.the-variants.{Yes}
 use Rattle.definition.specs.declared.paths.PathKind.the-variants.{Coinductive, Inductive}
 use Rattle.definition.specs.declared.replies.Response.the-variants.{Answered}
-use Rattle.soundness.specs.Groups.{GroupsFit, Mixed, grouped, reaches}
+use Rattle.soundness.specs.Groups.{GroupsFit, OneKindEach, grouped, reaches}
 use Rattle.soundness.specs.Sets.{greatest, least}
 use Rattle.soundness.specs.Statement.{AllRight}
 use Rattle.soundness.proofs.SampleBooks.{book, bytes, lines, mixedBook, mixedBytes, mixedQueries, queries, tornBook, tornBytes, workspace}
@@ -46,7 +46,7 @@ sets-differ = (tt, tt)
 mixed-read : readBook mixedBytes ≡ Accepted mixedBook
 mixed-read = refl
 
-pub condition : Mixed mixedBook
+pub condition : OneKindEach mixedBook
 unfolding reaches
 condition = test-mixed mixedBook (any-read mixedBytes mixedBook mixed-read) tt
 

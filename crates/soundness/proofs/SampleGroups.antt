@@ -9,7 +9,7 @@ use lib.Dec.{T, eqb, eqb→eq}
 use Rattle.definition.specs.Part.{All, Any, Book, Call, End, Node, Then, UndecidedLine}
 use Rattle.definition.specs.Usages.{counterLimit}
 use Rattle.definition.specs.declared.paths.PathKind.the-variants.{Coinductive, Inductive}
-use Rattle.soundness.specs.Groups.{ByGroups, CallsFirst, Choice, Chosen, Fits, Greatest, GroupsFit, Inside, Least, Mixed, RightByGroups, StepsAreLines, Way, buildGroups, groupRound, grouped, hasStep, linked, reaches, stepLines}
+use Rattle.soundness.specs.Groups.{ByGroups, CallsFirst, Choice, Chosen, Fits, Greatest, GroupsFit, Inside, Least, OneKindEach, RightByGroups, StepsAreLines, Way, buildGroups, groupRound, grouped, hasStep, linked, reaches, stepLines}
 use Rattle.soundness.specs.Sets.{Goals, greatest, least, noGoals}
 use Rattle.soundness.proofs.SampleBooks.{header, mixedBook, mixedBytes, mixedLines, mixedQueries, tornBook}
 
@@ -97,7 +97,7 @@ least-fits (suc (suc (suc zero))) goal i = i .step
 least-fits (suc (suc (suc (suc c)))) goal i = i .step
 
 -- one goal with steps of both kinds to itself fits neither choice
-torn : Mixed tornBook → ⊥
+torn : OneKindEach tornBook → ⊥
 unfolding reaches
 torn m = go (m 0)
   where
@@ -238,8 +238,8 @@ module _ (b : Book) (fit : GroupsFit b) where
       × (Way b goal from → T (reaches b from goal))
   reaching-is from goal = (fit .way from goal, fit .reached from goal)
 
-  condition-is : (Mixed b → (choice : ℕ → Choice) × Chosen b choice)
-      × ((choice : ℕ → Choice) → Chosen b choice → Mixed b)
+  condition-is : (OneKindEach b → (choice : ℕ → Choice) × Chosen b choice)
+      × ((choice : ℕ → Choice) → Chosen b choice → OneKindEach b)
   condition-is = (fit .choice, fit .condition)
 
   module _ (order : List ℕ) (o : CallsFirst b noGoals order) (reading : Bool) where

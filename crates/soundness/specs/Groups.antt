@@ -76,8 +76,8 @@ abbrev pub Fits : Book → Choice → ℕ → Type 0
 Fits b choice g = (caller goal : ℕ) → Inside b g caller goal (excluded choice) → ⊥
 
 -- each group by itself has no coinductive step inside, or no inductive one
-abbrev pub Mixed : Book → Type 0
-Mixed b = (g : ℕ) → Fits b Least g ⊎ Fits b Greatest g
+abbrev pub OneKindEach : Book → Type 0
+OneKindEach b = (g : ℕ) → Fits b Least g ⊎ Fits b Greatest g
 
 -- one choice for each group, that fits it
 pub record Chosen (b : Book) (choice : ℕ → Choice) : Type 0 where
@@ -148,8 +148,8 @@ pub record GroupsFit (b : Book) : Type 0 where
   pub way : (from goal : ℕ) → T (reaches b from goal) → Way b goal from
   pub reached : (from goal : ℕ) → Way b goal from → T (reaches b from goal)
   -- there is a choice exactly where the book meets the condition, and there always is an order
-  pub choice : Mixed b → (choice : ℕ → Choice) × Chosen b choice
-  pub condition : (choice : ℕ → Choice) → Chosen b choice → Mixed b
+  pub choice : OneKindEach b → (choice : ℕ → Choice) × Chosen b choice
+  pub condition : (choice : ℕ → Choice) → Chosen b choice → OneKindEach b
   pub order : (order : List ℕ) × CallsFirst b noGoals order
   -- the set is what the record above says of it, and no other set is: so every order makes the same set
   pub set : (choice : ℕ → Choice) → Chosen b choice → (order : List ℕ) → CallsFirst b noGoals order → (reading : Bool)

@@ -1,7 +1,7 @@
 use Prim.Native.Nat.{_-_, _≤_}
 use borrow.Author.Needs.{needs}
-use Rattle.check_kinds.proofs.print_goals.Statement.{statement}
-use Rattle.check_kinds.proofs.print_goals.Tie as tie
+use Rattle.check_book.proofs.print_goals.Statement.{statement}
+use Rattle.check_book.proofs.print_goals.Tie as tie
 
 abbrev Inv-loop : tie.InvT-loop
 Inv-loop group i₀ i = i ≤ 64

@@ -6,11 +6,7 @@ use libc::STDOUT_FILENO;
 // The last three digits of a number; no line has a longer one.
 fn print(n: u64) {
     let low = (n % 1000) as u16;
-    let columns = [
-        question::leading_column(low / 100),
-        question::leading_column(low / 10),
-        question::last_column(low),
-    ];
+    let columns = question::columns(low);
     io::write_all(STDOUT_FILENO, &columns);
 }
 
