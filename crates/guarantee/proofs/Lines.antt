@@ -16,7 +16,6 @@ use denote.Enum.Declared.{tagOf}
 use mathlib.Core.Logic.{⊎-elim}
 use Rattle.definition.specs.declared.format.Line.{Line}
 use Rattle.definition.specs.declared.paths.PathKind.{PathKind}
-use Rattle.definition.specs.declared.paths.PathKind.the-variants.{ForcedAmbiguity}
 use Rattle.definition.specs.Paths.{kindOf}
 use Rattle.definition.proofs.Lists.{part-from}
 use Rattle.bits.specs.Masks.{flags}
@@ -48,12 +47,6 @@ pub rest-length : (t : List ℕ) → length (take (length t - 16) (drop 16 t)) �
 rest-length t = ap length (part-from 16 t) ∙ length-drop 16 t
 
 -- ---- one line
-pub far-kind : (n : ℕ) → 3 < n → ForcedAmbiguity ≡ kindOf n
-far-kind zero h = absurd (omega arith)
-far-kind (suc zero) h = absurd (omega arith)
-far-kind (suc (suc zero)) h = absurd (omega arith)
-far-kind (suc (suc (suc n))) h = refl
-
 abbrev pub isCall : Code → Bool
 isCall codes.Goal = false
 isCall codes.Call = true
