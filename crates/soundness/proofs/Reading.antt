@@ -57,8 +57,8 @@ module _ (n : ℕ) (wanted : ℕ → ℕ → PathKind → Bool) where
   abbrev Several : ℕ → List Line → Option TakenParts → Type 0
   Several c ls none = Unit {0}
   Several c ls (some t) =
-      AllCalls Below (t .parts) × (inLines wanted c
-      ls ≡ (someCallIn (wanted c) (t .parts) || inLines wanted c (t .rest)))
+      AllCalls Below (t .parts)
+      × (inLines wanted c ls ≡ (someCallIn (wanted c) (t .parts) || inLines wanted c (t .rest)))
 
   -- m goals from goal g on, where no line is left
   pub record Goals (g m c : ℕ) (ls : List Line) (t : TakenGoals) : Type 0 where
@@ -86,7 +86,10 @@ module _ (n : ℕ) (wanted : ℕ → ℕ → PathKind → Bool) where
 
   call-ok : (c : ℕ) (l : Line) → l .code ≡ 2 → (rest : List Line) (t : Bool)
       → (ltb (l .first) n && leb (l .second) 3 && leb (l .third) 1 && eqb (l .fourth) 0) ≡ t
-      → One c (l ∷ rest) (elim t [ true ↦ some (record { part = Call (l .first) (kindOf (l .second)) (eqb (l .third) 1); rest = rest }) | false ↦ none ])
+      → One c (l ∷ rest) (elim t [
+        | true ↦ some (record { part = Call (l .first) (kindOf (l .second)) (eqb (l .third) 1); rest = rest })
+        | false ↦ none
+      ])
   call-ok c l e rest true f = (ltb→lt (l .first) n (first-ok (of-true _ f)), call-line c l rest e)
     where
       first-ok : T (ltb (l .first) n && leb (l .second) 3 && leb (l .third) 1 && eqb (l .fourth) 0)
@@ -101,12 +104,16 @@ module _ (n : ℕ) (wanted : ℕ → ℕ → PathKind → Bool) where
 
   then-ok : (c : ℕ) (ls : List Line) (p : TakenPart) → One c ls (some p) → (o : Option TakenParts)
       → Several c (p .rest) o
-      → Several c ls (elim o [ none ↦ none | some ps ↦ some (record { parts = Then (p .part) (ps .parts); rest = ps .rest }) ])
+      → Several c ls (elim o [
+        | none ↦ none
+        | some ps ↦ some (record { parts = Then (p .part) (ps .parts); rest = ps .rest })
+      ])
   then-ok c ls p h none s = tt
   then-ok c ls p h (some ps) s = (
     (h .0, s .0),
-    h .1 ∙ (ap (_||_ (someCall (wanted c) (p .part))) (s .1) ∙ or-assoc (someCall (wanted c) (p .part))
-        (someCallIn (wanted c) (ps .parts)) (inLines wanted c (ps .rest))),
+    h .1
+        ∙ (ap (_||_ (someCall (wanted c) (p .part))) (s .1)
+        ∙ or-assoc (someCall (wanted c) (p .part)) (someCallIn (wanted c) (ps .parts)) (inLines wanted c (ps .rest))),
   )
 
   more-ok : (c : ℕ) (read : List Line → Option TakenPart) (m : ℕ)
@@ -198,7 +205,10 @@ module _ (n : ℕ) (wanted : ℕ → ℕ → PathKind → Bool) where
 
   next-ok : (g m c : ℕ) (ls : List Line) (p : TakenPart) → Own g c ls (some p) → (o : Option TakenGoals)
       → SomeGoals (suc g) m g (p .rest) o
-      → SomeGoals g (suc m) c ls (elim o [ none ↦ none | some ps ↦ some (record { parts = p .part ∷ ps .parts; rest = ps .rest }) ])
+      → SomeGoals g (suc m) c ls (elim o [
+        | none ↦ none
+        | some ps ↦ some (record { parts = p .part ∷ ps .parts; rest = ps .rest })
+      ])
   next-ok g m c ls p h none s = tt
   next-ok g m c ls p h (some ps) s =
       record {

@@ -53,7 +53,8 @@ condition = test-mixed mixedBook (any-read mixedBytes mixedBook mixed-read) tt
 pub fit : GroupsFit mixedBook
 fit = mixed-groups mixedBytes mixedBook mixed-read
 
-mixed-right : AllRight (grouped mixedBook (fit .choice condition .0) (fit .order .0)) mixedBytes (replicate 70 0) mixedQueries
+mixed-right : AllRight (grouped mixedBook (fit .choice condition .0) (fit .order .0)) mixedBytes (replicate 70 0)
+    mixedQueries
 mixed-right =
     mixed-books mixedBytes mixedBook mixed-read (fit .choice condition .0) (fit .choice condition .1) (fit .order .0)
     (fit .order .1) 70 mixedQueries
