@@ -16,7 +16,7 @@ abbrev goal : ℕ → List ℕ
 goal g = line 1 g 0 0 0
 
 -- kind 0 is inductive, 1 unknown, 2 coinductive
-abbrev call : ℕ → ℕ → List ℕ
+abbrev pub call : ℕ → ℕ → List ℕ
 call g kind = line 2 g kind 1 0
 
 abbrev any : ℕ → List ℕ
@@ -41,7 +41,7 @@ unfolding reaches
 both-kinds = refl
 
 -- goals 0 and 1 call each other by inductive steps, goals 2 and 3 by coinductive ones, and 1 calls 2 by either
-abbrev rings : List ℕ → List ℕ
+abbrev pub rings : List ℕ → List ℕ
 rings last =
     book
     (header 4 ∷ goal 0 ∷ call 1 0 ∷ goal 1 ∷ any 3 ∷ call 0 0 ∷ call 2 0 ∷ call 2 2

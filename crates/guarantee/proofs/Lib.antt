@@ -9,3 +9,4 @@ pub mod Books
 pub mod Inside
 pub mod Theorems
 pub mod Examples
+pub mod Sample
