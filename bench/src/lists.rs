@@ -118,6 +118,8 @@ pub const CLASSES: &[Class] = &[
     of("rings-4-off", "rings of 4 goals, provisional cache off", || rings(4, false)),
     of("rings-16-off", "rings of 16 goals, provisional cache off", || rings(16, false)),
     of("rings-64-off", "rings of 64 goals, provisional cache off", || rings(64, false)),
+    of("deep-64", "64 goals on the stack, each with cycles to the lowest", || deep(64, true)),
+    of("deep-64-off", "64 goals on the stack likewise, provisional cache off", || deep(64, false)),
     of("picks", "picks of calls, empty parts and undecided lines", || generated("picks", 30)),
     of("tangled", "cycles that cross each other", || generated("tangled", 50)),
     of("nested", "parts nested up to 8 deep", || generated("nested", 30)),
@@ -136,6 +138,13 @@ fn rings(goals: usize, provisional_cache: bool) -> Vec<List> {
     let book = |seed| shapes::ring(&mut Random::new(seed), goals, provisional_cache);
     let lists = (0..20_000).filter_map(|seed| List::of_book(&book(seed), FUEL));
     lists.filter(|list| list.runs >= 8 * goals as u64).take(LISTS).collect()
+}
+
+/// Books in which every goal comes to stand on the stack.
+fn deep(goals: usize, provisional_cache: bool) -> Vec<List> {
+    let book = |seed| shapes::deep(&mut Random::new(seed), goals, provisional_cache);
+    let lists = (0..20_000).filter_map(|seed| List::of_book(&book(seed), FUEL));
+    lists.filter(|list| list.runs >= goals as u64).take(LISTS).collect()
 }
 
 /// Cases of a generated class, with those queries that evaluate something, that take at least `least` goal runs.

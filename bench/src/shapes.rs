@@ -29,6 +29,21 @@ pub fn ring(r: &mut Random, goals: usize, provisional_cache: bool) -> Book {
     Book { header, parts: (0..goals).map(part).collect() }
 }
 
+/// A chain of all goals, so that each of them comes to stand on the stack; after the next goal each calls some of the
+/// lowest ones, and every such call closes a cycle that is as long as the stack is high. None of the goals holds.
+pub fn deep(r: &mut Random, goals: usize, provisional_cache: bool) -> Book {
+    let header = Header { provisional_cache, goals, top_depth: 40, step_limit: 4, divisor: 2 };
+    let kinds = r.choose(&[[0, 0], [0, 1], [1, 1]]);
+    let calls = r.between(2, 8);
+    let part = |goal: usize| {
+        let call = |r: &mut Random, goal| Part::Call { goal, kind: r.choose(&kinds), lower: false };
+        let next = (goal + 1 < goals).then(|| call(r, goal + 1));
+        let low: Vec<_> = (0..calls).map(|_| r.below(goal.min(3) + 1)).collect();
+        Part::Any(next.into_iter().chain(low.into_iter().map(|low| call(r, low))).collect())
+    };
+    Book { header, parts: (0..goals).map(part).collect() }
+}
+
 const EMPTY: Part = Part::All(vec![]);
 
 /// A plain ring of all goals but the last, which is a fact: goal 0 takes a run of each, the last goal one.

@@ -5,4 +5,6 @@ pub mod Extensions
 pub mod Hunted
 pub mod Lists
 pub mod Numbers
+pub mod SampleSteps
+pub mod StepCounts
 pub mod Tests

@@ -15,7 +15,8 @@ use Rattle.definition.specs.Usages.{mergeUsages}
 use Rattle.definition.specs.Answers.{combine, sameAnswer}
 use Rattle.definition.specs.Heads.{noHeads, headsEmpty, highestIndex}
 use Rattle.definition.specs.Nested.{noNestedGoals}
-use Rattle.definition.specs.Stack.{Frame, cyclePathKind}
+use Rattle.definition.specs.Steps.{countSteps}
+use Rattle.definition.specs.Stack.{Frame, Stack, stepKinds, cyclePathKind}
 use Rattle.definition.specs.Part.{All, Any, Pick, Part, Parts, Call, Node, UndecidedLine, End, Then, Book, partAt}
 use Rattle.definition.specs.Graph.{Graph, Entry, withStack, withProvisionalCache, withGlobalCache, Outcome, Done, Stopped, andThen, unlessFound, EvaluationResult}
 use Rattle.definition.specs.Parent.{updateParentGoal, handleOverflow, Ordinary}
@@ -75,8 +76,10 @@ computeGoal evaluate b input g =
     elim (partAt (b .parts) input) [ none ↦ Stopped Unreachable | some p ↦ evalPart evaluate (b .header .goals) p g ]
 
 -- ---- evaluate_goal
-abbrev pub newFrame : ℕ → ℕ → PathKind → ℕ → Frame
-newFrame goals input step available =
+
+-- a new frame on the stack s
+abbrev pub newFrame : ℕ → ℕ → PathKind → ℕ → Stack → Frame
+newFrame goals input step available s =
     record {
       input = input;
       stepKindFromParent = step;
@@ -88,6 +91,7 @@ newFrame goals input step available =
       usages = none;
       candidateUsages = none;
       nestedGoals = noNestedGoals goals;
+      stepCounts = countSteps (step ∷ stepKinds s);
     }
 
 abbrev pub newEntry : Graph → ℕ → PathKind → EvaluationResult → Entry
@@ -141,7 +145,8 @@ afterTask h input step available (Evaluated g r) =
 abbrev pub evaluateNewFrame : Header → (ℕ → Graph → Outcome) → Graph → ℕ → PathKind → ℕ → Outcome
 evaluateNewFrame h compute g input step available =
     afterTask h input step available
-    (evaluateGoalInTask (compute input) (pred (h .limit)) false (withStack g (newFrame (h .goals) input step available ∷ g .stack)))
+    (evaluateGoalInTask (compute input) (pred (h .limit)) false
+    (withStack g (newFrame (h .goals) input step available (g .stack) ∷ g .stack)))
 
 abbrev pub evaluateAtDepth : Header → (ℕ → Graph → Outcome) → Graph → ℕ → PathKind → ℕ → Outcome
 evaluateAtDepth h compute g input step available =

@@ -4,6 +4,7 @@ pub mod Answers
 pub mod Heads
 pub mod Nested
 pub mod Stack
+pub mod Steps
 pub mod Graph
 pub mod Parent
 pub mod GlobalCache

@@ -1,5 +1,6 @@
 -- stack.rs. The top of the stack comes first, so a frame's index is the number of frames under it.
 use Prim.Native.Nat.{ℕ, suc, _-_}
+use mathlib.Core.Path.{_≡_}
 use mathlib.Core.Bool.{Bool, true, false}
 use mathlib.Core.Option.{Option, none, some}
 use mathlib.Core.List.{List, [], _∷_}
@@ -9,10 +10,11 @@ use Rattle.definition.specs.declared.paths.PathKind.{PathKind}
 use Rattle.definition.specs.declared.usages.HeadUsages.{HeadUsages}
 use Rattle.definition.specs.declared.answers.Answer.{Answer}
 use Rattle.definition.specs.Paths.{extendAll}
+use Rattle.definition.specs.Steps.{StepCounts, countSteps}
 use Rattle.definition.specs.Heads.{CycleHeads}
 use Rattle.definition.specs.Nested.{NestedGoals}
 
--- StackEntry
+-- StackEntry; `stepCounts` is document 02's, and nothing here reads it
 pub record Frame : Type 0 where
   pub input : ℕ
   pub stepKindFromParent : PathKind
@@ -24,6 +26,7 @@ pub record Frame : Type 0 where
   pub usages : Option HeadUsages
   pub candidateUsages : Option (List HeadUsages)
   pub nestedGoals : NestedGoals
+  pub stepCounts : StepCounts
 
 -- ---- a frame with one field that is another
 abbrev pub withReached : Frame → ℕ → Frame
@@ -39,6 +42,7 @@ withReached f reached =
       usages = f .usages;
       candidateUsages = f .candidateUsages;
       nestedGoals = f .nestedGoals;
+      stepCounts = f .stepCounts;
     }
 
 abbrev pub withProvisionalResult : Frame → Option Answer → Frame
@@ -54,6 +58,7 @@ withProvisionalResult f answer =
       usages = f .usages;
       candidateUsages = f .candidateUsages;
       nestedGoals = f .nestedGoals;
+      stepCounts = f .stepCounts;
     }
 
 abbrev pub withHeads : Frame → CycleHeads → Frame
@@ -69,6 +74,7 @@ withHeads f hs =
       usages = f .usages;
       candidateUsages = f .candidateUsages;
       nestedGoals = f .nestedGoals;
+      stepCounts = f .stepCounts;
     }
 
 abbrev pub withOverflow : Frame → Bool → Frame
@@ -84,6 +90,7 @@ withOverflow f overflow =
       usages = f .usages;
       candidateUsages = f .candidateUsages;
       nestedGoals = f .nestedGoals;
+      stepCounts = f .stepCounts;
     }
 
 abbrev pub withUsages : Frame → Option HeadUsages → Frame
@@ -99,6 +106,7 @@ withUsages f u =
       usages = u;
       candidateUsages = f .candidateUsages;
       nestedGoals = f .nestedGoals;
+      stepCounts = f .stepCounts;
     }
 
 abbrev pub withCandidateUsages : Frame → Option (List HeadUsages) → Frame
@@ -114,6 +122,7 @@ withCandidateUsages f us =
       usages = f .usages;
       candidateUsages = us;
       nestedGoals = f .nestedGoals;
+      stepCounts = f .stepCounts;
     }
 
 abbrev pub withNestedGoals : Frame → NestedGoals → Frame
@@ -129,6 +138,7 @@ withNestedGoals f ns =
       usages = f .usages;
       candidateUsages = f .candidateUsages;
       nestedGoals = ns;
+      stepCounts = f .stepCounts;
     }
 
 -- ---- what is read of frames
@@ -143,6 +153,11 @@ Stack = List Frame
 abbrev pub stepKinds : Stack → List PathKind
 stepKinds [] = []
 stepKinds (f ∷ fs) = f .stepKindFromParent ∷ stepKinds fs
+
+-- each frame holds how many steps of each kind lie at or below it
+abbrev pub CountsTrue : Stack → Type 0
+CountsTrue [] = Unit {0}
+CountsTrue (f ∷ fs) = (f .stepCounts ≡ countSteps (stepKinds (f ∷ fs))) × CountsTrue fs
 
 -- the steps of the frames above a head
 abbrev pub cycleStepKinds : Stack → ℕ → List PathKind

@@ -3,6 +3,7 @@ use mathlib.Core.Path.{_≡_, refl, sym, ap, _∙_, subst}
 use mathlib.Core.Bool.{Bool, true, false}
 use mathlib.Core.List.{List}
 use Prim.Native.Nat.{ℕ, _*_, _≤_}
+use Rattle.definition.specs.Stack.{Stack, CountsTrue}
 use Rattle.definition.specs.declared.answers.Answer.{Answer}
 use Rattle.definition.specs.declared.answers.Answer.the-variants.{No, Yes}
 use Rattle.definition.specs.declared.replies.Refusal.{Refusal}
@@ -21,7 +22,7 @@ use Rattle.evaluation.specs.Outcomes.{outcomeOf}
 use Rattle.delegate.specs.declared.group.Group.{Group}
 use Rattle.delegate.specs.declared.group.Weighed.{Weighed}
 use Rattle.delegate.specs.declared.group.Weighed.the-variants.{Ended, More}
-use Rattle.delegate.specs.Groups.{deciding, restOf, nextOf, rest, next, leftOf, FewLeft, unlessDecided}
+use Rattle.delegate.specs.Groups.{deciding, restOf, nextOf, rest, next, leftOf, FewLeft, CountsLeft, unlessDecided}
 use Rattle.delegate.specs.Groups.{GroupStarted, GroupWeighed, GroupClosed}
 
 -- ---- the first part, then the others
@@ -90,6 +91,11 @@ module _ (group : Group) (answer : Answer) (entries : ℕ) (op : Op) where
   few-after goals few true = few
   few-after goals few false = few
 
+  counts-after : (s : Stack) → CountsTrue s → (b : Bool) → CountsLeft s (after b)
+  unfolding after
+  counts-after s c true = tt
+  counts-after s c false = c
+
   pub weighed : (r : Weighed) → group .op ≡ op
       → r ≡ unlessDecided (sameAnswer answer (deciding op)) op (group .combined) (deciding op) answer entries
       → GroupWeighed (Done answer entries) group r
@@ -102,6 +108,7 @@ module _ (group : Group) (answer : Answer) (entries : ℕ) (op : Op) where
             ∙ ap (λ (o : Op). nextOf evaluate goals o (group .combined) ps (graphOf goals root height entries bytes cache) answer)
             (sym e);
         few = λ goals few. subst (FewLeft goals) (sym is) (few-after goals few (sameAnswer answer (deciding op)));
+        counts = λ s c. subst (CountsLeft s) (sym is) (counts-after s c (sameAnswer answer (deciding op)));
       }
 
 module _ (o : Outcome) (group : Group) where
@@ -115,7 +122,7 @@ module _ (o : Outcome) (group : Group) where
   weighed-stopped x e = subst (λ (y : Outcome). GroupWeighed y group (Ended (Stopped x))) (sym e) stops
     where
       stops : GroupWeighed (Stopped x) group (Ended (Stopped x))
-      stops = record { whole = λ evaluate goals root height ps bytes cache. refl; few = λ goals few. few }
+      stops = record { whole = λ evaluate goals root height ps bytes cache. refl; few = λ goals few. few; counts = λ s c. tt }
 
 -- ---- `close`
 pub closed : (group : Group) → GroupClosed group (Done (group .combined) (group .entries))

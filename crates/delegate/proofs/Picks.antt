@@ -5,6 +5,9 @@ use mathlib.Core.Option.{none, some}
 use mathlib.Core.List.{List}
 use Prim.Native.Nat.{ℕ, _+_, _*_, _-_, _≤_, _<_}
 use native.Mathlib.Omega.{arith}
+use Rattle.definition.specs.Stack.{CountsTrue}
+use Rattle.definition.proofs.StepCounts.{candidate-counted}
+use Rattle.stack.specs.Bytes.{CountsKept}
 use Rattle.definition.specs.declared.answers.Answer.{Answer}
 use Rattle.definition.specs.declared.answers.Answer.the-variants.{No, Yes}
 use Rattle.definition.specs.declared.replies.Refusal.{Refusal}
@@ -42,6 +45,7 @@ begun goals height entries old new m =
           λ i. evalPick evaluate goals ps false No (m .written i) (graphOf goals root height n (m .graph i) cache);
       count = refl;
       kept = m .others;
+      counts = subst (λ (bs : List ℕ). CountsTrue (stackOf goals height bs)) (sym (m .graph));
     }
 
 -- ---- `enter_candidate`
@@ -93,12 +97,14 @@ module _ (goals own entries : ℕ) (pick : Pick) (answer : Answer) (old half new
       t .merged own lt ∙ m .written
       ∙ ap (λ (b : Bool). mergeUnless b (mergedOf goals own old) (trackedIn goals own old)) is-first
 
+  stack-after : stackOf goals (own + 1) (graphIn goals new) ≡ setCandidateUsages none (stackOf goals (own + 1) (graphIn goals old))
+  stack-after = t .stack ∙ ap (λ (bs : List ℕ). setCandidateUsages none (stackOf goals (own + 1) bs)) (m .graph)
+
   graph-after : (root n : ℕ) (cache : List ℕ)
       → graphAt goals root (own + 1) n new cache ≡ finishSingleCandidate (graphAt goals root (own + 1) n old cache)
   graph-after root n cache =
-      let s = t .stack ∙ ap (λ (bs : List ℕ). setCandidateUsages none (stackOf goals (own + 1) bs)) (m .graph) in
       let e = t .entries n ∙ ap (entriesOf goals n) (m .graph) in
-      λ i. record { rootDepth = root; stack = s i; provisionalCache = e i; globalCache = cache }
+      λ i. record { rootDepth = root; stack = stack-after i; provisionalCache = e i; globalCache = cache }
 
   pub counted : (same either : Bool) (c : Answer) → same ≡ sameAnswer answer Yes → either ≡ (pick .met || same)
       → c ≡ combine (pick .combined) answer
@@ -110,6 +116,7 @@ module _ (goals own entries : ℕ) (pick : Pick) (answer : Answer) (old half new
             evalPick evaluate goals ps (is-met i) (is-c i) (usages-after i) (graph-after root n cache i);
         count = refl;
         kept = λ i below. t .merged i (omega (arith, below, lt)) ∙ m .others i below;
+        counts = λ c0. subst CountsTrue (sym stack-after) (candidate-counted none (stackOf goals (own + 1) (graphIn goals old)) c0);
       }
 
 -- ---- `finish_candidate`
@@ -121,7 +128,7 @@ module _ (goals height : ℕ) (o : Outcome) (pick : Pick) (old new : List ℕ) w
       subst (λ (y : Outcome). CandidateFinished goals height y pick old old (Ended (Stopped x))) (sym e) stops
     where
       stops : CandidateFinished goals height (Stopped x) pick old old (Ended (Stopped x))
-      stops = record { whole = λ evaluate ps root cache. refl; few = tt; kept = λ i lt. refl }
+      stops = record { whole = λ evaluate ps root cache. refl; few = tt; kept = λ i lt. refl; counts = λ c. tt }
 
   pub finished-done : (answer : Answer) (entries : ℕ) → o ≡ Done answer entries → entries ≤ 2 * goals → 1 ≤ height
       → (r : Pick) → Counted goals (height - 1) answer entries pick old new r
@@ -145,6 +152,7 @@ module _ (goals height : ℕ) (o : Outcome) (pick : Pick) (old new : List ℕ) w
                 (top-height height pos);
             few = subst (λ (n : ℕ). n ≤ 2 * goals) (sym (c .count)) few;
             kept = c .kept;
+            counts = subst (λ (h : ℕ). CountsKept goals h (graphIn goals old) (graphIn goals new)) (top-height height pos) (c .counts);
           }
 
 -- ---- `end`

@@ -19,24 +19,24 @@ use Rattle.evaluation.specs.declared.TaskOutcome.the-variants.{Evaluated
 use Rattle.evaluation.specs.Outcomes.{FewEntries, FewTaskEntries, outcomeOf, taskOutcomeOf}
 use Rattle.evaluation.specs.Workspace.{WorkBytes, graphIn}
 
--- ---- the graph's bytes for two goals: two frames of 188 bytes and four entries of 82
+-- ---- the graph's bytes for two goals: two frames of 196 bytes and four entries of 78
 abbrev padded : ℕ → List ℕ → List ℕ
 padded n xs = xs ++ replicate (n - length xs) 0
 
 abbrev bottom : List ℕ
-bottom = padded 188 (0 ∷ 0 ∷ 5 ∷ 5 ∷ [])
+bottom = padded 196 (0 ∷ 0 ∷ 5 ∷ 5 ∷ [])
 
 abbrev top : List ℕ
-top = padded 188 (1 ∷ 2 ∷ 4 ∷ 3 ∷ [])
+top = padded 196 (1 ∷ 2 ∷ 4 ∷ 3 ∷ [])
 
 abbrev first : List ℕ
-first = padded 82 (1 ∷ 0 ∷ 2 ∷ 1 ∷ [])
+first = padded 78 (1 ∷ 0 ∷ 2 ∷ 1 ∷ [])
 
 abbrev second : List ℕ
-second = padded 82 (0 ∷ 1 ∷ 0 ∷ 0 ∷ [])
+second = padded 78 (0 ∷ 1 ∷ 0 ∷ 0 ∷ [])
 
 abbrev bytes : List ℕ
-bytes = bottom ++ (top ++ (first ++ (second ++ replicate 164 0)))
+bytes = bottom ++ (top ++ (first ++ (second ++ replicate 156 0)))
 
 -- ---- with one frame on the stack, root depth 9 and two entries
 module _ (cache : List ℕ) where

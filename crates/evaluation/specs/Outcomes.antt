@@ -1,6 +1,7 @@
 -- What an outcome stands for, with the bytes of the graph and of the cache beside it.
 use mathlib.Core.List.{List}
 use Prim.Native.Nat.{ℕ, _*_, _≤_}
+use Rattle.definition.specs.Stack.{Stack, CountsTrue}
 use Rattle.definition.specs.Graph.{finalize}
 use Rattle.definition.specs.Graph as graph
 use Rattle.definition.specs.Task as task
@@ -21,6 +22,15 @@ unfoldable pub taskOutcomeOf : ℕ → ℕ → ℕ → List ℕ → List ℕ →
 taskOutcomeOf goals root height bs cache (Evaluated a overflow n) =
     task.Evaluated (graphOf goals root height n bs cache) (finalize (frameAt goals height bs) overflow a)
 taskOutcomeOf goals root height bs cache (TaskStopped r) = task.TaskStopped r
+
+-- where there is an answer, the counts of steps on the stack s are true
+abbrev pub CountsIn : Stack → Outcome → Type 0
+CountsIn s (Done a n) = CountsTrue s
+CountsIn s (Stopped r) = Unit {0}
+
+abbrev pub TaskCountsIn : Stack → TaskOutcome → Type 0
+TaskCountsIn s (Evaluated a overflow n) = CountsTrue s
+TaskCountsIn s (TaskStopped r) = Unit {0}
 
 -- no more provisional entries than the graph has room for
 abbrev pub FewEntries : ℕ → Outcome → Type 0

@@ -12,13 +12,16 @@ use lib.Seq.{getD-set-same, getD-set-other}
 use lib.Dec.{eqb, lit<}
 use Rattle.definition.specs.Paths.{kindOf}
 use Rattle.definition.specs.Answers.{answerOf}
-use Rattle.definition.specs.Stack.{withReached, withProvisionalResult, withHeads, withOverflow, withUsages, withCandidateUsages, withNestedGoals}
+use Rattle.definition.specs.Steps.{StepCounts}
+use Rattle.definition.specs.Stack.{Frame, withReached, withProvisionalResult, withHeads, withOverflow, withUsages, withCandidateUsages, withNestedGoals}
 use Rattle.definition.specs.Graph.{Entry, withEntryHeads}
+use Rattle.buffer.specs.Numbers.{numberOf}
 use Rattle.buffer.specs.Regions.{region, overwrite}
 use Rattle.buffer.proofs.Regions.{region-before, region-after, region-inside, byte-before, overwrite-one, overwrite-all, length-region}
 use Rattle.buffer.proofs.Tables.{length-up}
 use Rattle.layout.specs.Blocks.{usagesSize, usagesOf, headsSize, headsOf, blockSize, candidateOf, headAt}
-use Rattle.layout.specs.Frame.{frameReached, frameProvisional, frameOverflow, frameIsHead, frameTracks, usagesStart, headsStart, candidateStart, nestedStart, frameSize, truth, resultOf, whenSet, frameBy, frameOf}
+use Rattle.layout.specs.Frame.{frameReached, frameProvisional, frameOverflow, frameIsHead, frameTracks, usagesStart, headsStart, candidateStart, nestedStart, countsStart, countsSize, frameSize, truth, resultOf, whenSet, frameBy, frameOf}
+use Rattle.layout.specs.Steps.{unpacked}
 use Rattle.layout.specs.Entry.{entryHeadsStart, entrySize, entryOf}
 
 pub length-heads : (goals : ℕ) (bs : List ℕ) → length (headsOf goals bs) ≡ goals
@@ -44,11 +47,12 @@ module _ (bs : List ℕ) (i v : ℕ) (lt : i < length bs) where
   set-after b n h = ap (region b n) (sym (overwrite-one bs i v lt)) ∙ region-after bs i (v ∷ []) (omega arith) b n (omega arith)
 
 -- ---- a frame by its fields and blocks, where each is known
-pub frame-by : (goals : ℕ) (bs : List ℕ) (field : ℕ → ℕ) (us hs cs ns : List ℕ) → ((j : ℕ) → j < 8 → getD bs j 0 ≡ field j)
+pub frame-by : (goals : ℕ) (bs : List ℕ) (field : ℕ → ℕ) (us hs cs ns ks : List ℕ) → ((j : ℕ) → j < 8 → getD bs j 0 ≡ field j)
     → region usagesStart usagesSize bs ≡ us → region headsStart (headsSize goals) bs ≡ hs → region (candidateStart goals) (blockSize goals) bs ≡ cs → region (nestedStart goals) goals bs ≡ ns
-    → frameOf goals bs ≡ frameBy goals field us hs cs ns
+    → region (countsStart goals) countsSize bs ≡ ks
+    → frameOf goals bs ≡ frameBy goals field us hs cs ns ks
 unfolding frameOf
-frame-by goals bs field us hs cs ns eb eu eh ec en =
+frame-by goals bs field us hs cs ns ks eb eu eh ec en ek =
     let e0 = eb 0 (lit< tt) in
     let e1 = eb 1 (lit< tt) in
     let e2 = eb 2 (lit< tt) in
@@ -57,7 +61,24 @@ frame-by goals bs field us hs cs ns eb eu eh ec en =
     let e5 = eb 5 (lit< tt) in
     let e6 = eb 6 (lit< tt) in
     let e7 = eb 7 (lit< tt) in
-    λ t. frameBy goals (λ j. getD (e0 t ∷ e1 t ∷ e2 t ∷ e3 t ∷ e4 t ∷ e5 t ∷ e6 t ∷ e7 t ∷ []) j 0) (eu t) (eh t) (ec t) (en t)
+    λ t. frameBy goals (λ j. getD (e0 t ∷ e1 t ∷ e2 t ∷ e3 t ∷ e4 t ∷ e5 t ∷ e6 t ∷ e7 t ∷ []) j 0) (eu t) (eh t) (ec t) (en t) (ek t)
+
+-- a frame with other counts
+abbrev pub withStepCounts : Frame → StepCounts → Frame
+withStepCounts f counts =
+    record {
+      input = f .input;
+      stepKindFromParent = f .stepKindFromParent;
+      availableDepth = f .availableDepth;
+      minReachedAvailableDepth = f .minReachedAvailableDepth;
+      provisionalResult = f .provisionalResult;
+      heads = f .heads;
+      encounteredOverflow = f .encounteredOverflow;
+      usages = f .usages;
+      candidateUsages = f .candidateUsages;
+      nestedGoals = f .nestedGoals;
+      stepCounts = counts;
+    }
 
 -- ---- a write in the n bytes from a on, k bytes into them
 module _ (bs : List ℕ) (a n k : ℕ) (ys : List ℕ) (inner : k + length ys ≤ n) (fits : a + n ≤ length bs) where
@@ -81,15 +102,16 @@ module _ (goals : ℕ) (bs : List ℕ) (long : length bs ≡ frameSize goals) wh
   -- a field is written
   bytes-by : (i v : ℕ) → i < 8
       → frameOf goals (set bs i v)
-      ≡ frameBy goals (λ j. ifAt i j v (getD bs j 0)) (region usagesStart usagesSize bs) (region headsStart (headsSize goals) bs) (region (candidateStart goals) (blockSize goals) bs) (region (nestedStart goals) goals bs)
+      ≡ frameBy goals (λ j. ifAt i j v (getD bs j 0)) (region usagesStart usagesSize bs) (region headsStart (headsSize goals) bs) (region (candidateStart goals) (blockSize goals) bs) (region (nestedStart goals) goals bs) (region (countsStart goals) countsSize bs)
   bytes-by i v lt =
       let inside : i < length bs = omega arith in
-      frame-by goals (set bs i v) (λ j. ifAt i j v (getD bs j 0)) (region usagesStart usagesSize bs) (region headsStart (headsSize goals) bs) (region (candidateStart goals) (blockSize goals) bs) (region (nestedStart goals) goals bs)
+      frame-by goals (set bs i v) (λ j. ifAt i j v (getD bs j 0)) (region usagesStart usagesSize bs) (region headsStart (headsSize goals) bs) (region (candidateStart goals) (blockSize goals) bs) (region (nestedStart goals) goals bs) (region (countsStart goals) countsSize bs)
       (λ j l. byte-set (λ x. x) bs i v inside j)
       (set-after bs i v inside usagesStart usagesSize (omega arith))
       (set-after bs i v inside headsStart (headsSize goals) (omega arith))
       (set-after bs i v inside (candidateStart goals) (blockSize goals) (omega arith))
       (set-after bs i v inside (nestedStart goals) goals (omega arith))
+      (set-after bs i v inside (countsStart goals) countsSize (omega arith))
 
   pub frame-reached : (v : ℕ) → frameOf goals (set bs frameReached v) ≡ withReached (frameOf goals bs) v
   unfolding frameOf
@@ -119,48 +141,66 @@ module _ (goals : ℕ) (bs : List ℕ) (long : length bs ≡ frameSize goals) wh
     unfolding frameOf
     frame-usages-inside inner =
         let fits : usagesStart + usagesSize ≤ length bs = omega arith in
-        frame-by goals (overwrite bs (usagesStart + k) ys) (λ j. getD bs j 0) (overwrite (region usagesStart usagesSize bs) k ys) (region headsStart (headsSize goals) bs) (region (candidateStart goals) (blockSize goals) bs) (region (nestedStart goals) goals bs)
+        frame-by goals (overwrite bs (usagesStart + k) ys) (λ j. getD bs j 0) (overwrite (region usagesStart usagesSize bs) k ys) (region headsStart (headsSize goals) bs) (region (candidateStart goals) (blockSize goals) bs) (region (nestedStart goals) goals bs) (region (countsStart goals) countsSize bs)
         (λ j l. bytes-left bs usagesStart usagesSize k ys inner fits j (omega arith))
         (region-inside bs usagesStart usagesSize k ys inner fits)
         (region-right bs usagesStart usagesSize k ys inner fits headsStart (headsSize goals) (omega arith))
         (region-right bs usagesStart usagesSize k ys inner fits (candidateStart goals) (blockSize goals) (omega arith))
         (region-right bs usagesStart usagesSize k ys inner fits (nestedStart goals) goals (omega arith))
+        (region-right bs usagesStart usagesSize k ys inner fits (countsStart goals) countsSize (omega arith))
 
     pub frame-heads-inside : k + length ys ≤ headsSize goals
         → frameOf goals (overwrite bs (headsStart + k) ys) ≡ withHeads (frameOf goals bs) (headsOf goals (overwrite (region headsStart (headsSize goals) bs) k ys))
     unfolding frameOf
     frame-heads-inside inner =
         let fits : headsStart + headsSize goals ≤ length bs = omega arith in
-        frame-by goals (overwrite bs (headsStart + k) ys) (λ j. getD bs j 0) (region usagesStart usagesSize bs) (overwrite (region headsStart (headsSize goals) bs) k ys) (region (candidateStart goals) (blockSize goals) bs) (region (nestedStart goals) goals bs)
+        frame-by goals (overwrite bs (headsStart + k) ys) (λ j. getD bs j 0) (region usagesStart usagesSize bs) (overwrite (region headsStart (headsSize goals) bs) k ys) (region (candidateStart goals) (blockSize goals) bs) (region (nestedStart goals) goals bs) (region (countsStart goals) countsSize bs)
         (λ j l. bytes-left bs headsStart (headsSize goals) k ys inner fits j (omega arith))
         (region-left bs headsStart (headsSize goals) k ys inner fits usagesStart usagesSize (omega arith))
         (region-inside bs headsStart (headsSize goals) k ys inner fits)
         (region-right bs headsStart (headsSize goals) k ys inner fits (candidateStart goals) (blockSize goals) (omega arith))
         (region-right bs headsStart (headsSize goals) k ys inner fits (nestedStart goals) goals (omega arith))
+        (region-right bs headsStart (headsSize goals) k ys inner fits (countsStart goals) countsSize (omega arith))
 
     pub frame-candidate-inside : k + length ys ≤ blockSize goals
         → frameOf goals (overwrite bs (candidateStart goals + k) ys) ≡ withCandidateUsages (frameOf goals bs) (whenSet (getD bs frameTracks 0) (candidateOf goals (overwrite (region (candidateStart goals) (blockSize goals) bs) k ys)))
     unfolding frameOf
     frame-candidate-inside inner =
         let fits : candidateStart goals + blockSize goals ≤ length bs = omega arith in
-        frame-by goals (overwrite bs (candidateStart goals + k) ys) (λ j. getD bs j 0) (region usagesStart usagesSize bs) (region headsStart (headsSize goals) bs) (overwrite (region (candidateStart goals) (blockSize goals) bs) k ys) (region (nestedStart goals) goals bs)
+        frame-by goals (overwrite bs (candidateStart goals + k) ys) (λ j. getD bs j 0) (region usagesStart usagesSize bs) (region headsStart (headsSize goals) bs) (overwrite (region (candidateStart goals) (blockSize goals) bs) k ys) (region (nestedStart goals) goals bs) (region (countsStart goals) countsSize bs)
         (λ j l. bytes-left bs (candidateStart goals) (blockSize goals) k ys inner fits j (omega arith))
         (region-left bs (candidateStart goals) (blockSize goals) k ys inner fits usagesStart usagesSize (omega arith))
         (region-left bs (candidateStart goals) (blockSize goals) k ys inner fits headsStart (headsSize goals) (omega arith))
         (region-inside bs (candidateStart goals) (blockSize goals) k ys inner fits)
         (region-right bs (candidateStart goals) (blockSize goals) k ys inner fits (nestedStart goals) goals (omega arith))
+        (region-right bs (candidateStart goals) (blockSize goals) k ys inner fits (countsStart goals) countsSize (omega arith))
 
     pub frame-nested-inside : k + length ys ≤ goals
         → frameOf goals (overwrite bs (nestedStart goals + k) ys) ≡ withNestedGoals (frameOf goals bs) (overwrite (region (nestedStart goals) goals bs) k ys)
     unfolding frameOf
     frame-nested-inside inner =
         let fits : nestedStart goals + goals ≤ length bs = omega arith in
-        frame-by goals (overwrite bs (nestedStart goals + k) ys) (λ j. getD bs j 0) (region usagesStart usagesSize bs) (region headsStart (headsSize goals) bs) (region (candidateStart goals) (blockSize goals) bs) (overwrite (region (nestedStart goals) goals bs) k ys)
+        frame-by goals (overwrite bs (nestedStart goals + k) ys) (λ j. getD bs j 0) (region usagesStart usagesSize bs) (region headsStart (headsSize goals) bs) (region (candidateStart goals) (blockSize goals) bs) (overwrite (region (nestedStart goals) goals bs) k ys) (region (countsStart goals) countsSize bs)
         (λ j l. bytes-left bs (nestedStart goals) goals k ys inner fits j (omega arith))
         (region-left bs (nestedStart goals) goals k ys inner fits usagesStart usagesSize (omega arith))
         (region-left bs (nestedStart goals) goals k ys inner fits headsStart (headsSize goals) (omega arith))
         (region-left bs (nestedStart goals) goals k ys inner fits (candidateStart goals) (blockSize goals) (omega arith))
         (region-inside bs (nestedStart goals) goals k ys inner fits)
+        (region-right bs (nestedStart goals) goals k ys inner fits (countsStart goals) countsSize (omega arith))
+
+    frame-counts-inside : k + length ys ≤ countsSize
+        → frameOf goals (overwrite bs (countsStart goals + k) ys)
+        ≡ withStepCounts (frameOf goals bs) (unpacked (numberOf (overwrite (region (countsStart goals) countsSize bs) k ys)))
+    unfolding frameOf
+    frame-counts-inside inner =
+        let fits : countsStart goals + countsSize ≤ length bs = omega arith in
+        frame-by goals (overwrite bs (countsStart goals + k) ys) (λ j. getD bs j 0) (region usagesStart usagesSize bs) (region headsStart (headsSize goals) bs) (region (candidateStart goals) (blockSize goals) bs) (region (nestedStart goals) goals bs) (overwrite (region (countsStart goals) countsSize bs) k ys)
+        (λ j l. bytes-left bs (countsStart goals) countsSize k ys inner fits j (omega arith))
+        (region-left bs (countsStart goals) countsSize k ys inner fits usagesStart usagesSize (omega arith))
+        (region-left bs (countsStart goals) countsSize k ys inner fits headsStart (headsSize goals) (omega arith))
+        (region-left bs (countsStart goals) countsSize k ys inner fits (candidateStart goals) (blockSize goals) (omega arith))
+        (region-left bs (countsStart goals) countsSize k ys inner fits (nestedStart goals) goals (omega arith))
+        (region-inside bs (countsStart goals) countsSize k ys inner fits)
 
   -- a write of the whole field
   module _ (ys : List ℕ) where
@@ -179,6 +219,10 @@ module _ (goals : ℕ) (bs : List ℕ) (long : length bs ≡ frameSize goals) wh
     pub frame-nested : length ys ≡ goals → frameOf goals (overwrite bs (nestedStart goals) ys) ≡ withNestedGoals (frameOf goals bs) ys
     frame-nested e =
         whole-by (frameOf goals) (λ l. withNestedGoals (frameOf goals bs) l) bs (nestedStart goals) goals ys e (omega arith) (frame-nested-inside 0 ys (omega arith))
+
+    pub frame-counts : length ys ≡ countsSize → frameOf goals (overwrite bs (countsStart goals) ys) ≡ withStepCounts (frameOf goals bs) (unpacked (numberOf ys))
+    frame-counts e =
+        whole-by (frameOf goals) (λ l. withStepCounts (frameOf goals bs) (unpacked (numberOf l))) bs (countsStart goals) countsSize ys e (omega arith) (frame-counts-inside 0 ys (omega arith))
 
 -- ---- an entry's bytes
 abbrev pub withEntryByte : ℕ → ℕ → Entry → Entry

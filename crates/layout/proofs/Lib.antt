@@ -7,4 +7,5 @@ pub mod Marks
 pub mod NestedExtended
 pub mod NestedPaths
 pub mod Present
+pub mod Counts
 pub mod Written

@@ -23,10 +23,10 @@ abbrev pub entryResult : ℕ
 entryResult = 3
 
 abbrev pub entryHeadsStart : ℕ
-entryHeadsStart = 8
+entryHeadsStart = 4
 
 abbrev pub entrySize : ℕ → ℕ
-entrySize goals = 16 + goals * 33
+entrySize goals = 12 + goals * 33
 
 -- ---- what they read as
 unfoldable pub entryOf : ℕ → List ℕ → Entry

@@ -1,4 +1,5 @@
--- A frame of the stack in bytes: eight fields of one byte each, then usages, heads, candidate usages and nested goals.
+-- A frame of the stack in bytes: eight fields of one byte each, then usages, heads, candidate usages, nested goals
+-- and the counts of steps.
 use Prim.Native.Nat.{ℕ, zero, suc, _+_, _*_}
 use mathlib.Core.Bool.{Bool, true, false}
 use mathlib.Core.Option.{Option, none, some}
@@ -8,8 +9,10 @@ use Rattle.definition.specs.declared.answers.Answer.{Answer}
 use Rattle.definition.specs.Paths.{kindOf}
 use Rattle.definition.specs.Answers.{answerOf}
 use Rattle.definition.specs.Stack.{Frame}
+use Rattle.buffer.specs.Numbers.{numberOf}
 use Rattle.buffer.specs.Regions.{region}
 use Rattle.layout.specs.Blocks.{usagesSize, usagesOf, headsSize, headsOf, blockSize, candidateOf}
+use Rattle.layout.specs.Steps.{unpacked}
 
 -- ---- where the fields stand
 abbrev pub frameInput : ℕ
@@ -51,8 +54,14 @@ candidateStart goals = 48 + goals * 33
 abbrev pub nestedStart : ℕ → ℕ
 nestedStart goals = 56 + goals * 65
 
+abbrev pub countsStart : ℕ → ℕ
+countsStart goals = 56 + goals * 66
+
+abbrev pub countsSize : ℕ
+countsSize = 8
+
 abbrev pub frameSize : ℕ → ℕ
-frameSize goals = 56 + goals * 66
+frameSize goals = 64 + goals * 66
 
 -- ---- what they read as
 
@@ -69,9 +78,9 @@ abbrev pub whenSet : {A : Type 0} → ℕ → A → Option A
 whenSet zero x = none
 whenSet (suc n) x = some x
 
--- a frame by its fields, and the bytes of its usages, heads, candidate usages and nested goals
-abbrev pub frameBy : ℕ → (ℕ → ℕ) → List ℕ → List ℕ → List ℕ → List ℕ → Frame
-frameBy goals field us hs cs ns =
+-- a frame by its fields, and the bytes of its usages, heads, candidate usages, nested goals and counts
+abbrev pub frameBy : ℕ → (ℕ → ℕ) → List ℕ → List ℕ → List ℕ → List ℕ → List ℕ → Frame
+frameBy goals field us hs cs ns ks =
     record {
       input = field frameInput;
       stepKindFromParent = kindOf (field frameStep);
@@ -83,6 +92,7 @@ frameBy goals field us hs cs ns =
       usages = whenSet (field frameIsHead) (usagesOf us);
       candidateUsages = whenSet (field frameTracks) (candidateOf goals cs);
       nestedGoals = ns;
+      stepCounts = unpacked (numberOf ks);
     }
 
 unfoldable pub frameOf : ℕ → List ℕ → Frame
@@ -93,3 +103,4 @@ frameOf goals bs =
     (region headsStart (headsSize goals) bs)
     (region (candidateStart goals) (blockSize goals) bs)
     (region (nestedStart goals) goals bs)
+    (region (countsStart goals) countsSize bs)

@@ -3,7 +3,7 @@ ghost use mathlib.Core.Path.{_≡_};
 ghost use Prim.Native.Nat.{_*_, _≤_};
 ghost use Rattle.definition.specs.Query.{workLength};
 ghost use Rattle.layout.specs.Blocks.{headsSize, blockSize};
-ghost use Rattle.layout.specs.Frame.{candidateStart, nestedStart, frameSize};
+ghost use Rattle.layout.specs.Frame.{candidateStart, nestedStart, countsStart, frameSize};
 ghost use Rattle.layout.specs.Entry.{entrySize};
 ghost use Rattle.layout.specs.Work.{frameStart, entryStart, graphLength, mergedStart};
 
@@ -37,7 +37,7 @@ pub const ENTRY_PATH: usize = 2;
 
 pub const ENTRY_RESULT: usize = 3;
 
-pub const ENTRY_HEADS: usize = 8;
+pub const ENTRY_HEADS: usize = 4;
 
 // ---- sizes and starts
 pub fn heads_size(goals: usize) -> usize
@@ -54,7 +54,7 @@ pub fn block_size(goals: usize) -> usize
     8 + goals * 32
 }
 
-// In a frame: candidate usages, and nested goals.
+// In a frame: candidate usages, nested goals, and the counts of steps.
 pub fn candidate_start(goals: usize) -> usize
     requires { ⌜ goals ≤ 64 ⌝ }
     ensures { λ r. ⌜ r ≡ candidateStart goals ⌝ }
@@ -69,18 +69,25 @@ pub fn nested_start(goals: usize) -> usize
     56 + goals * 65
 }
 
+pub fn counts_start(goals: usize) -> usize
+    requires { ⌜ goals ≤ 64 ⌝ }
+    ensures { λ r. ⌜ r ≡ countsStart goals ⌝ }
+{
+    56 + goals * 66
+}
+
 pub fn frame_size(goals: usize) -> usize
     requires { ⌜ goals ≤ 64 ⌝ }
     ensures { λ r. ⌜ r ≡ frameSize goals ⌝ }
 {
-    56 + goals * 66
+    64 + goals * 66
 }
 
 pub fn entry_size(goals: usize) -> usize
     requires { ⌜ goals ≤ 64 ⌝ }
     ensures { λ r. ⌜ r ≡ entrySize goals ⌝ }
 {
-    16 + goals * 33
+    12 + goals * 33
 }
 
 fn times(a: usize, b: usize) -> usize

@@ -18,6 +18,7 @@ pub record AnsweredAt (h : Header) (height n goal : ℕ) (step : PathKind) (avai
       → evaluateAtDepth h compute (graphOf (h .goals) root height n old cache) goal step available
       ≡ found h compute goal step r (graphOf (h .goals) root height n new cache)
   pub low : (d : ℕ) → r ≡ Push d → d < 256
+  pub missed : (d : ℕ) → r ≡ Push d → new ≡ old
 
 -- at the depth that is allowed
 pub record Answered (h : Header) (root height n goal : ℕ) (step : PathKind) (lower : Bool)
@@ -26,3 +27,4 @@ pub record Answered (h : Header) (root height n goal : ℕ) (step : PathKind) (l
       → evaluateGoalWith h compute (graphOf (h .goals) root height n old cache) goal step lower
       ≡ found h compute goal step r (graphOf (h .goals) root height n new cache)
   pub low : (d : ℕ) → r ≡ Push d → d < 256
+  pub missed : (d : ℕ) → r ≡ Push d → new ≡ old

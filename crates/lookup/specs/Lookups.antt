@@ -12,14 +12,13 @@ use Rattle.definition.specs.Lookup.{candidateIsApplicable}
 use Rattle.definition.specs.Evaluate.{evaluateNewFrame}
 use Rattle.layout.specs.Work.{graphOf}
 use Rattle.global_cache.specs.Cache.{CacheBytes}
-use Rattle.stack.specs.Bytes.{GraphBytes}
+use Rattle.stack.specs.Bytes.{StackBytes}
 use Rattle.lookup.specs.declared.Found.{Found}
 use Rattle.lookup.specs.declared.Found.the-variants.{Known, Push}
 
 -- a graph with so many frames and entries
 pub record Counted (goals frames n : ℕ) (bs : List ℕ) : Type 0 where
-  pub bytes : GraphBytes goals bs
-  pub height : frames ≤ goals
+  pub stack : StackBytes goals frames bs
   pub entries : n ≤ 2 * goals
 
 -- a goal that is asked at some depth
@@ -31,10 +30,8 @@ pub record AskedAt (h : Header) (slots bs : List ℕ) (frames n input depth : �
 
 -- a goal that is asked
 pub record Asked (h : Header) (slots bs : List ℕ) (depth frames n input : ℕ) : Type 0 where
-  pub bytes : GraphBytes (h .goals) bs
+  pub graph : Counted (h .goals) frames n bs
   pub cache : CacheBytes (h .goals) (h .top) slots
-  pub height : frames ≤ h .goals
-  pub entries : n ≤ 2 * h .goals
   pub goal : input < h .goals
   pub divisor : 1 ≤ h .divisor
   pub root : depth < 256

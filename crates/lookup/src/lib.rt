@@ -14,7 +14,7 @@ use stack::frame::Provisional;
 ghost use mathlib.Core.Path.{_≡_};
 ghost use Prim.Native.Nat.{_*_, _<_, _≤_};
 ghost use Rattle.definition.specs.Lookup.{cycleResult};
-ghost use Rattle.stack.specs.Bytes.{GraphBytes};
+ghost use Rattle.stack.specs.Bytes.{GraphBytes, StackBytes};
 ghost use Rattle.stack.specs.Results.{provisionalOf};
 ghost use Rattle.lookup.specs.Lookups.{Counted, AskedAt, Asked, applicable, overflowApplies, successApplies};
 ghost use Rattle.lookup.specs.Hits.{EntryUsed, EntriesTried, SlotUsed, SlotsTried, CycleClosed, StackTried};
@@ -213,7 +213,7 @@ fn close_cycle(
     head: usize,
     provisional: Provisional,
 ) -> Answer
-    requires { ⌜ GraphBytes (h .goals) (now graph) × ((height ≤ h .goals) × (head < height)) ⌝ }
+    requires { ⌜ StackBytes (h .goals) height (now graph) × (head < height) ⌝ }
     ensures { λ r. ⌜ CycleClosed h height goal step available head provisional
         (now (graph .entry)) (now (graph .exit)) r ⌝ }
 {
@@ -231,7 +231,7 @@ pub fn check_cycle_on_stack(
     step: PathKind,
     available: usize,
 ) -> Hit
-    requires { ⌜ GraphBytes (h .goals) (now graph) × (height ≤ h .goals) ⌝ }
+    requires { ⌜ StackBytes (h .goals) height (now graph) ⌝ }
     ensures { λ r. ⌜ StackTried h height goal step available (now (graph .entry)) (now (graph .exit)) r ⌝ }
 {
     let place = stack::find(graph, h.goals, height, goal);

@@ -22,7 +22,7 @@ use Rattle.buffer.proofs.Regions.{region-region}
 use Rattle.buffer.proofs.Tables.{apart}
 use Rattle.layout.specs.Blocks.{headsSize, headOf, headsOf, present}
 use Rattle.layout.specs.Frame.{frameSize, frameOf}
-use Rattle.layout.specs.Entry.{entrySize, entryOf}
+use Rattle.layout.specs.Entry.{entryHeadsStart, entrySize, entryOf}
 use Rattle.layout.specs.Work.{frameStart, entriesStart, entryStart, graphLength, stackOf}
 use Rattle.layout.proofs.Frames.{length-heads}
 use Rattle.layout.proofs.Graphs.{length-stack, entry-room, frame-room}
@@ -134,25 +134,25 @@ module _ (goals head : ℕ) (lt : head < goals) (step : PathKind) (own : ℕ) (c
       ∙ ap (λ (l : CycleHeads). addHeads step own l f) is
 
 -- ---- an entry's heads
-pub entry-heads-at : (goals : ℕ) (bs : List ℕ) (i : ℕ) → headsOf goals (region (entryStart goals i + 8) (headsSize goals) bs) ≡ (entryOf goals (region (entryStart goals i) (entrySize goals) bs)) .heads
+pub entry-heads-at : (goals : ℕ) (bs : List ℕ) (i : ℕ) → headsOf goals (region (entryStart goals i + entryHeadsStart) (headsSize goals) bs) ≡ (entryOf goals (region (entryStart goals i) (entrySize goals) bs)) .heads
 unfolding entryOf
-entry-heads-at goals bs i = sym (ap (headsOf goals) (region-region (entryStart goals i) (entrySize goals) 8 (headsSize goals) bs (omega arith)))
+entry-heads-at goals bs i = sym (ap (headsOf goals) (region-region (entryStart goals i) (entrySize goals) entryHeadsStart (headsSize goals) bs (omega arith)))
 
-past : (x y z : ℕ) → x ≤ y → x ≤ y + z + 8
+past : (x y z : ℕ) → x ≤ y → x ≤ y + z + entryHeadsStart
 past x y z h = omega arith
 
-inner : (a e h n : ℕ) → e ≡ 8 + h → a + e ≤ n → a + 8 + h ≤ n
+inner : (a e h n : ℕ) → e ≡ entryHeadsStart + h → a + e ≤ n → a + entryHeadsStart + h ≤ n
 inner a e h n q l = omega arith
 
-pub entry-behind : (goals own i start : ℕ) → own < goals → start ≡ entryStart goals i + 8 → frameStart goals own + frameSize goals ≤ start
+pub entry-behind : (goals own i start : ℕ) → own < goals → start ≡ entryStart goals i + entryHeadsStart → frameStart goals own + frameSize goals ≤ start
 entry-behind goals own i start lt e = subst (λ (x : ℕ). frameStart goals own + frameSize goals ≤ x) (sym e) (past (frameStart goals own + frameSize goals) (entriesStart goals) (i * entrySize goals) (apart own goals (frameSize goals) lt))
 
-pub entry-fits : (goals : ℕ) (bs : List ℕ) (i start : ℕ) → length bs ≡ graphLength goals → i < 2 * goals → start ≡ entryStart goals i + 8 → start + headsSize goals ≤ length bs
+pub entry-fits : (goals : ℕ) (bs : List ℕ) (i start : ℕ) → length bs ≡ graphLength goals → i < 2 * goals → start ≡ entryStart goals i + entryHeadsStart → start + headsSize goals ≤ length bs
 entry-fits goals bs i start long lt e =
     subst (λ (x : ℕ). x + headsSize goals ≤ length bs) (sym e) (inner (entryStart goals i) (entrySize goals) (headsSize goals) (length bs) (omega arith) (entry-room goals bs long i lt))
 
 -- ---- by what the calls say
-pub update-entry : (goals height i start : ℕ) (bs mid out : List ℕ) (step : PathKind) (o : Bool) (r : ℕ) → 0 < height → start ≡ entryStart goals i + 8
+pub update-entry : (goals height i start : ℕ) (bs mid out : List ℕ) (step : PathKind) (o : Bool) (r : ℕ) → 0 < height → start ≡ entryStart goals i + entryHeadsStart
     → TopWritten goals (height - 1) (addHeads step (height - 1) (headsOf goals (region start (headsSize goals) bs)) (frameAt goals (height - 1) bs)) bs mid
     → TopWritten goals (height - 1) (addRest step o ProvisionalCacheHit r (frameAt goals (height - 1) mid)) mid out
     → Updated goals height step ((entryOf goals (region (entryStart goals i) (entrySize goals) bs)) .heads) o ProvisionalCacheHit r bs out

@@ -79,18 +79,18 @@ module _ (goals : ℕ) (bs : List ℕ) (long : length bs ≡ entrySize goals) wh
       let ea = ap answerOf is-a ∙ answer-back answer in
       e4 ∙ (λ t. withFields (entryOf goals bs) (is-g t) (is-o t) (ek t) (ea t))
 
--- ---- the heads of one entry's bytes are written, in the n bytes from 8 on
-pub heads-written : (goals : ℕ) (bs : List ℕ) (n : ℕ) (ys : List ℕ) (f : CycleHeads → CycleHeads) → EntryBytes goals bs → n ≡ headsSize goals → length ys ≡ length (part bs 8 (8 + n))
-    → headsOf goals ys ≡ f (headsOf goals (part bs 8 (8 + n))) → entryOf goals (returned bs 8 (8 + n) ys) ≡ withEntryHeads (entryOf goals bs) (f ((entryOf goals bs) .heads))
+-- ---- the heads of one entry's bytes are written, in the n bytes from their start on
+pub heads-written : (goals : ℕ) (bs : List ℕ) (n : ℕ) (ys : List ℕ) (f : CycleHeads → CycleHeads) → EntryBytes goals bs → n ≡ headsSize goals → length ys ≡ length (part bs entryHeadsStart (entryHeadsStart + n))
+    → headsOf goals ys ≡ f (headsOf goals (part bs entryHeadsStart (entryHeadsStart + n))) → entryOf goals (returned bs entryHeadsStart (entryHeadsStart + n) ys) ≡ withEntryHeads (entryOf goals bs) (f ((entryOf goals bs) .heads))
 unfolding entryOf
 heads-written goals bs n ys f b is-n kept e =
     let long = b .long in
-    let fits : 8 + n ≤ length bs = omega arith in
-    let w : 8 + n - 8 ≡ n = omega arith in
-    let whole : length ys ≡ headsSize goals = part-length bs 8 (8 + n) ys (omega arith) fits kept ∙ w ∙ is-n in
-    ap (entryOf goals) (part-back bs 8 (8 + n) ys (omega arith) fits kept)
+    let fits : entryHeadsStart + n ≤ length bs = omega arith in
+    let w : entryHeadsStart + n - entryHeadsStart ≡ n = omega arith in
+    let whole : length ys ≡ headsSize goals = part-length bs entryHeadsStart (entryHeadsStart + n) ys (omega arith) fits kept ∙ w ∙ is-n in
+    ap (entryOf goals) (part-back bs entryHeadsStart (entryHeadsStart + n) ys (omega arith) fits kept)
     ∙ entry-heads goals bs long ys whole
-    ∙ ap (withEntryHeads (entryOf goals bs)) (e ∙ ap (λ (l : List ℕ). f (headsOf goals l)) (heads-part bs 8 n (headsSize goals) is-n))
+    ∙ ap (withEntryHeads (entryOf goals bs)) (e ∙ ap (λ (l : List ℕ). f (headsOf goals l)) (heads-part bs entryHeadsStart n (headsSize goals) is-n))
 
 -- the path goes on
 pub path-extended : (e n : Entry) (before after kind : PathKind) → n ≡ withPathFromHead e after → after ≡ extend before kind → before ≡ e .pathFromHead → n ≡ withLongerPath e kind

@@ -1,5 +1,5 @@
 -- The turns of the loops over the entries, from the first on.
-use mathlib.Core.Path.{_≡_, refl, sym, ap, ap₂, _∙_}
+use mathlib.Core.Path.{_≡_, refl, sym, ap, ap₂, _∙_, subst}
 use mathlib.Core.Bool.{Bool, true, false, _||_}
 use mathlib.Core.Option.{Option, none, some}
 use mathlib.Core.List.{List, [], _∷_, _++_, append-nil, append-assoc}
@@ -11,14 +11,14 @@ use lib.ListN.{length, drop, drop-of-length-le}
 use lib.Seq.{drop-cons}
 use Rattle.definition.specs.declared.paths.PathKind.{PathKind}
 use Rattle.definition.specs.Nested.{NestedGoals}
-use Rattle.definition.specs.Stack.{Stack}
+use Rattle.definition.specs.Stack.{Stack, CountsTrue}
 use Rattle.definition.specs.Graph.{Entry}
 use Rattle.definition.specs.Lookup.{entryMatches, firstMatch, entryApplies, anyEntryApplies}
 use Rattle.definition.specs.ProvisionalCache.{survivesRerun, survivors}
 use Rattle.layout.specs.Entry.{entryOf}
 use Rattle.layout.specs.Work.{entriesOf}
 use Rattle.layout.proofs.Graphs.{no-entries, length-entries, entries-at}
-use Rattle.stack.specs.Bytes.{GraphBytes}
+use Rattle.stack.specs.Bytes.{GraphBytes, StackBytes}
 use Rattle.provisional_cache.specs.Entries.{entryBytes, entryAt, entryFound, FramesKept}
 use Rattle.provisional_cache.specs.Reruns.{keptOf, Compacted}
 
@@ -87,6 +87,15 @@ frames-then goals a b c p q = record { bytes = q .bytes ∙ p .bytes; stacks = �
 
 pub graph-bytes : (goals : ℕ) (old new : List ℕ) → GraphBytes goals old → length new ≡ length old → GraphBytes goals new
 graph-bytes goals old new g e = record { some = g .some; few = g .few; long = e ∙ g .long }
+
+pub stack-bytes : (goals height : ℕ) (old new : List ℕ) → StackBytes goals height old → length new ≡ length old → FramesKept goals old new
+    → StackBytes goals height new
+stack-bytes goals height old new s e kept =
+    record {
+      bytes = graph-bytes goals old new (s .bytes) e;
+      high = s .high;
+      counts = subst CountsTrue (sym (kept .stacks height (s .high))) (s .counts);
+    }
 
 -- one entry of the rest
 kept-first : (rerun : ℕ) (e : Entry) (es : List Entry) (keep : Bool) → keep ≡ survivesRerun rerun e → keptOf keep e ++ survivors rerun es ≡ survivors rerun (e ∷ es)

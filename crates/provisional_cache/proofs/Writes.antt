@@ -14,7 +14,7 @@ use Rattle.buffer.specs.Regions.{region, overwrite}
 use Rattle.buffer.proofs.Regions.{length-region, region-before, region-region, region-inside, region-snoc, byte-before, overwrite-snoc, overwrite-back, length-overwrite}
 use Rattle.buffer.proofs.Tables.{apart}
 use Rattle.layout.specs.Blocks.{headsSize}
-use Rattle.layout.specs.Entry.{entrySize, entryOf}
+use Rattle.layout.specs.Entry.{entryHeadsStart, entrySize, entryOf}
 use Rattle.layout.specs.Frame.{headsStart, frameSize, frameOf}
 use Rattle.layout.specs.Work.{entriesStart, entryStart, frameStart, entriesOf}
 use Rattle.layout.proofs.Frames.{entry-heads}
@@ -117,23 +117,23 @@ copy-up-more bs s from to n i e up room lt =
     ∙ ap (overwrite bs to) (sym (region-snoc from i bs (omega arith)) ∙ ap (λ (m : ℕ). region from m bs) (sym (add-one i)))
 
 -- ---- `copy_heads`: n bytes from a on go to b
-copy-order : (f s size h x : ℕ) → h + s ≤ f → 40 + size ≤ s → h + 40 + size ≤ f + x + 8
+copy-order : (f s size h x : ℕ) → h + s ≤ f → 40 + size ≤ s → h + 40 + size ≤ f + x + entryHeadsStart
 copy-order f s size h x p q = omega arith
 
-pub copy-room : (goals height i a b n : ℕ) (bs : List ℕ) → GraphBytes goals bs → height < goals → i < 2 * goals → a ≡ frameStart goals height + 40 → b ≡ entryStart goals i + 8 → n ≡ headsSize goals
+pub copy-room : (goals height i a b n : ℕ) (bs : List ℕ) → GraphBytes goals bs → height < goals → i < 2 * goals → a ≡ frameStart goals height + 40 → b ≡ entryStart goals i + entryHeadsStart → n ≡ headsSize goals
     → (a + n ≤ b) × (b + n ≤ length bs)
 copy-room goals height i a b n bs g under lt is-a is-b is-n =
     let size : ℕ = headsSize goals in
     let wide : 40 + size ≤ frameSize goals = omega arith in
-    let inner : 8 + size ≤ entrySize goals = omega arith in
+    let inner : entryHeadsStart + size ≤ entrySize goals = omega arith in
     let first = copy-order (entriesStart goals) (frameSize goals) size (frameStart goals height) (i * entrySize goals) (apart height goals (frameSize goals) under) wide in
-    let second = into-fits (entryStart goals i) 8 size inner (entry-room goals bs (g .long) i lt) in (
+    let second = into-fits (entryStart goals i) entryHeadsStart size inner (entry-room goals bs (g .long) i lt) in (
       subst (λ (x : ℕ). x ≤ b) (sym (ap₂ (λ (x y : ℕ). x + y) is-a is-n)) (subst (λ (x : ℕ). frameStart goals height + 40 + size ≤ x) (sym is-b) first),
       subst (λ (x : ℕ). x ≤ length bs) (sym (ap₂ (λ (x y : ℕ). x + y) is-b is-n)) second,
     )
 
-pub copy-is : (goals height i a b n : ℕ) (bs new : List ℕ) → a ≡ frameStart goals height + 40 → b ≡ entryStart goals i + 8 → n ≡ headsSize goals
-    → new ≡ overwrite bs b (region a n bs) → new ≡ overwrite bs (entryStart goals i + 8) (region headsStart (headsSize goals) (frameBytes goals height bs))
+pub copy-is : (goals height i a b n : ℕ) (bs new : List ℕ) → a ≡ frameStart goals height + 40 → b ≡ entryStart goals i + entryHeadsStart → n ≡ headsSize goals
+    → new ≡ overwrite bs b (region a n bs) → new ≡ overwrite bs (entryStart goals i + entryHeadsStart) (region headsStart (headsSize goals) (frameBytes goals height bs))
 copy-is goals height i a b n bs new is-a is-b is-n is =
     is
     ∙ ap₂ (λ (k : ℕ) (l : List ℕ). overwrite bs k l) is-b
@@ -141,7 +141,7 @@ copy-is goals height i a b n bs new is-a is-b is-n is =
 
 -- ---- `append`: the heads are copied, then the small fields are written in entry k, at a, of n bytes
 module _ (goals height k : ℕ) (bs mid : List ℕ) (g : GraphBytes goals bs) (under : height < goals) (lt : k < 2 * goals)
-    (is-mid : mid ≡ overwrite bs (entryStart goals k + 8) (region headsStart (headsSize goals) (frameBytes goals height bs))) where
+    (is-mid : mid ≡ overwrite bs (entryStart goals k + entryHeadsStart) (region headsStart (headsSize goals) (frameBytes goals height bs))) where
   abbrev hs : List ℕ
   hs = region headsStart (headsSize goals) (frameBytes goals height bs)
 
@@ -154,26 +154,26 @@ module _ (goals height k : ℕ) (bs mid : List ℕ) (g : GraphBytes goals bs) (u
   wide-heads : length hs ≡ headsSize goals
   wide-heads = length-region headsStart (headsSize goals) (frameBytes goals height bs) (subst (λ (x : ℕ). headsStart + headsSize goals ≤ x) (sym wide-frame) (omega arith))
 
-  inner : 8 + length hs ≤ entrySize goals
-  inner = subst (λ (x : ℕ). 8 + x ≤ entrySize goals) (sym wide-heads) (omega arith)
+  inner : entryHeadsStart + length hs ≤ entrySize goals
+  inner = subst (λ (x : ℕ). entryHeadsStart + x ≤ entrySize goals) (sym wide-heads) (omega arith)
 
   pub mid-length : length mid ≡ length bs
-  mid-length = ap length is-mid ∙ length-overwrite bs (entryStart goals k + 8) hs (fits-entry goals bs (g .long) k 8 hs lt inner)
+  mid-length = ap length is-mid ∙ length-overwrite bs (entryStart goals k + entryHeadsStart) hs (fits-entry goals bs (g .long) k entryHeadsStart hs lt inner)
 
   pub mid-bytes : GraphBytes goals mid
   mid-bytes = graph-bytes goals bs mid g mid-length
 
   mid-frames : FramesKept goals bs mid
-  mid-frames = subst (FramesKept goals bs) (sym is-mid) (frames-inside goals bs g k 8 hs lt inner)
+  mid-frames = subst (FramesKept goals bs) (sym is-mid) (frames-inside goals bs g k entryHeadsStart hs lt inner)
 
   mid-entries : entriesOf goals k mid ≡ entriesOf goals k bs
-  mid-entries = ap (entriesOf goals k) is-mid ∙ entries-under goals bs (g .long) k 8 hs lt inner k (omega arith)
+  mid-entries = ap (entriesOf goals k) is-mid ∙ entries-under goals bs (g .long) k entryHeadsStart hs lt inner k (omega arith)
 
   mid-heads : (entryAt goals k mid) .heads ≡ (frameAt goals height bs) .heads
   unfolding frameOf
   mid-heads =
       ap (λ (l : List ℕ). (entryOf goals l) .heads)
-      (ap (region (entryStart goals k) (entrySize goals)) is-mid ∙ region-inside bs (entryStart goals k) (entrySize goals) 8 hs inner (entry-room goals bs (g .long) k lt))
+      (ap (region (entryStart goals k) (entrySize goals)) is-mid ∙ region-inside bs (entryStart goals k) (entrySize goals) entryHeadsStart hs inner (entry-room goals bs (g .long) k lt))
       ∙ ap (λ (e : Entry). e .heads) (entry-heads goals (entryBytes goals k bs) wide-entry hs wide-heads)
 
   module _ (a n : ℕ) (is-a : a ≡ entryStart goals k) (is-n : n ≡ entrySize goals) (ys : List ℕ) (kept : length ys ≡ length (part mid a (a + n))) where

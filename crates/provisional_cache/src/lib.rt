@@ -15,7 +15,7 @@ ghost use Rattle.layout.specs.Blocks.{headsSize};
 ghost use Rattle.layout.specs.Frame.{headsStart};
 ghost use Rattle.layout.specs.Entry.{entryHeadsStart, entryOf};
 ghost use Rattle.layout.specs.Work.{entryStart, stackOf, entriesOf};
-ghost use Rattle.stack.specs.Bytes.{GraphBytes, frameBytes, frameAt};
+ghost use Rattle.stack.specs.Bytes.{GraphBytes, StackBytes, frameBytes, frameAt};
 ghost use Rattle.provisional_cache.specs.Entries.{EntryBytes, entryBytes, entryOn};
 ghost use Rattle.provisional_cache.specs.Matches.{lowestHead, hidden, FirstMatch};
 ghost use Rattle.provisional_cache.specs.Reruns.{Compacted, Cleared};
@@ -78,7 +78,7 @@ fn is_match(
     goal: usize,
     step: PathKind,
 ) -> bool
-    requires { ⌜ EntryBytes goals (now entry) × (GraphBytes goals (now graph) × (height ≤ goals)) ⌝ }
+    requires { ⌜ EntryBytes goals (now entry) × StackBytes goals height (now graph) ⌝ }
     ensures { λ r. ⌜ r
         ≡ entryMatches (stackOf goals height (now (graph .entry))) goal step (entryOf goals (now (entry .entry))) ⌝ }
 {
@@ -104,7 +104,7 @@ pub fn first_match(
     goal: usize,
     step: PathKind,
 ) -> usize
-    requires { ⌜ GraphBytes goals (now graph) × ((height ≤ goals) × (entries ≤ 2 * goals)) ⌝ }
+    requires { ⌜ StackBytes goals height (now graph) × (entries ≤ 2 * goals) ⌝ }
     ensures { λ r. ⌜ FirstMatch goals height entries goal step (now (graph .entry)) r ⌝ }
 {
     let mut i: usize = 0;
@@ -128,7 +128,7 @@ fn applies(
     step: PathKind,
     nested: &[u8],
 ) -> bool
-    requires { ⌜ EntryBytes goals (now entry) × (GraphBytes goals (now graph) × (height ≤ goals)) ⌝ }
+    requires { ⌜ EntryBytes goals (now entry) × StackBytes goals height (now graph) ⌝ }
     ensures { λ r. ⌜ r
         ≡ entryApplies (stackOf goals height (now (graph .entry))) step (now (nested .entry))
         (entryOf goals (now (entry .entry))) ⌝ }
@@ -155,7 +155,7 @@ pub fn any_applies(
     step: PathKind,
     nested: &[u8],
 ) -> bool
-    requires { ⌜ GraphBytes goals (now graph) × ((height ≤ goals) × (entries ≤ 2 * goals)) ⌝ }
+    requires { ⌜ StackBytes goals height (now graph) × (entries ≤ 2 * goals) ⌝ }
     ensures { λ r. ⌜ r
         ≡ anyEntryApplies (stackOf goals height (now (graph .entry))) step (now (nested .entry))
         (entriesOf goals entries (now (graph .entry))) ⌝ }
@@ -263,7 +263,7 @@ fn write_entry(
 
 // The kind of the path from the highest head of the frame at index `height` to it.
 fn path_from_head(graph: &[u8], goals: usize, height: usize, step: PathKind) -> PathKind
-    requires { ⌜ GraphBytes goals (now graph) × (height < goals) ⌝ }
+    requires { ⌜ StackBytes goals height (now graph) × (height < goals) ⌝ }
     ensures { λ r. ⌜ r ≡ pathFromHighest goals height step (now (graph .entry)) ⌝ }
 {
     let hs = frame::heads(stack::frame_at(graph, goals, height), goals);
@@ -283,7 +283,7 @@ pub fn insert(
     overflow: bool,
     answer: Answer,
 ) -> Insertion
-    requires { ⌜ GraphBytes goals (now graph) × ((height < goals) × (goal < 256)) ⌝ }
+    requires { ⌜ StackBytes goals height (now graph) × ((height < goals) × (goal < 256)) ⌝ }
     ensures { λ r. ⌜ Inserted goals height entries goal step overflow answer
         (now (graph .entry)) (now (graph .exit)) r ⌝ }
 {

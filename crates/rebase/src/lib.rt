@@ -28,7 +28,7 @@ ghost use Rattle.buffer.specs.Regions.{region};
 ghost use Rattle.layout.specs.Blocks.{headsSize, present};
 ghost use Rattle.layout.specs.Entry.{entryHeadsStart};
 ghost use Rattle.layout.specs.Frame.{headsStart};
-ghost use Rattle.stack.specs.Bytes.{GraphBytes, frameBytes, frameAt};
+ghost use Rattle.stack.specs.Bytes.{GraphBytes, StackBytes, frameBytes, frameAt};
 ghost use Rattle.provisional_cache.specs.Entries.{entryBytes, entryAt, withoutHead, withJoinedHead, withLongerPath};
 ghost use Rattle.rebase.specs.Popped.{PoppedHead, pathToPopped, headKeeps, headsKeep};
 ghost use Rattle.rebase.specs.Heads.{gainedHead, gainedEntry, replacedEntry, entryStays};
@@ -67,7 +67,7 @@ fn popped_head(graph: &[u8], goals: usize, popped: usize, i: usize) -> CycleHead
 
 // The kind of the path from the head at index i to p.
 fn path_to_popped(graph: &[u8], goals: usize, popped: usize, i: usize) -> PathKind
-    requires { ⌜ GraphBytes goals (now graph) × (popped < goals) ⌝ }
+    requires { ⌜ StackBytes goals popped (now graph) × (popped < goals) ⌝ }
     ensures { λ r. ⌜ r ≡ pathToPopped goals popped (now (graph .entry)) i ⌝ }
 {
     let step = frame::step_kind(stack::frame_at(graph, goals, popped), goals);
@@ -85,7 +85,7 @@ fn head_keeps(
     eps: PathsToNested,
     i: usize,
 ) -> bool
-    requires { ⌜ GraphBytes goals (now graph) × ((popped < goals) × (i < goals)) ⌝ }
+    requires { ⌜ StackBytes goals popped (now graph) × ((popped < goals) × (i < goals)) ⌝ }
     ensures { λ r. ⌜ ((c : CycleHead) → PoppedHead goals popped (now (graph .entry)) i c
         → r ≡ headKeeps goals popped (now (graph .entry)) path (eps .bits) i c) ⌝ }
 {
@@ -105,7 +105,7 @@ fn paths_keep_kind(
     path: PathKind,
     eps: PathsToNested,
 ) -> bool
-    requires { ⌜ GraphBytes goals (now graph) × (popped < goals) ⌝ }
+    requires { ⌜ StackBytes goals popped (now graph) × (popped < goals) ⌝ }
     ensures { λ r. ⌜ r ≡ headsKeep goals popped (now (graph .entry)) path (eps .bits) ⌝ }
 {
     let mut left = popped_mask(graph, goals, popped);
@@ -149,7 +149,7 @@ fn stays(
     usages: HeadUsages,
     eps: PathsToNested,
 ) -> bool
-    requires { ⌜ GraphBytes goals (now graph) × ((popped < goals) × (k < 2 * goals)) ⌝ }
+    requires { ⌜ StackBytes goals popped (now graph) × ((popped < goals) × (k < 2 * goals)) ⌝ }
     ensures { λ r. ⌜ r ≡ entryStays goals popped reason k (now (graph .entry)) usages (eps .bits) ⌝ }
 {
     let entry = provisional_cache::entry_at(graph, goals, k);
@@ -290,7 +290,7 @@ fn rebase_heads(
     reason: RebaseReason,
     k: usize,
 ) -> bool
-    requires { ⌜ GraphBytes goals (now graph) × ((popped < goals) × (k < 2 * goals)) ⌝ }
+    requires { ⌜ StackBytes goals popped (now graph) × ((popped < goals) × (k < 2 * goals)) ⌝ }
     ensures { λ r. ⌜ EntryRebased goals k (entryUnderHeads goals popped reason k (now (graph .entry))) r
         (now (graph .entry)) (now (graph .exit)) ⌝ }
 {
@@ -309,7 +309,7 @@ fn rebase_heads(
 
 // Its path starts at its new highest head; false where it has no head.
 fn rebase_path(graph: &mut [u8], goals: usize, popped: usize, k: usize) -> bool
-    requires { ⌜ GraphBytes goals (now graph) × ((popped < goals) × (k < 2 * goals)) ⌝ }
+    requires { ⌜ StackBytes goals popped (now graph) × ((popped < goals) × (k < 2 * goals)) ⌝ }
     ensures { λ r. ⌜ EntryRebased goals k (entryUnderNewHead goals popped k (now (graph .entry))) r
         (now (graph .entry)) (now (graph .exit)) ⌝ }
 {
@@ -331,7 +331,7 @@ fn rebase_entry(
     reason: RebaseReason,
     k: usize,
 ) -> bool
-    requires { ⌜ GraphBytes goals (now graph) × ((popped < goals) × (k < 2 * goals)) ⌝ }
+    requires { ⌜ StackBytes goals popped (now graph) × ((popped < goals) × (k < 2 * goals)) ⌝ }
     ensures { λ r. ⌜ EntryRebased goals k (rebasedEntry goals popped reason k (now (graph .entry))) r
         (now (graph .entry)) (now (graph .exit)) ⌝ }
 {
@@ -353,7 +353,7 @@ pub fn rebase_provisional_cache_entries(
     reason: RebaseReason,
     entries: usize,
 ) -> usize
-    requires { ⌜ GraphBytes goals (now graph) × ((popped < goals) × (entries ≤ 2 * goals)) ⌝ }
+    requires { ⌜ StackBytes goals popped (now graph) × ((popped < goals) × (entries ≤ 2 * goals)) ⌝ }
     ensures { λ r. ⌜ Rebased goals popped reason entries (now (graph .entry)) (now (graph .exit)) r ⌝ }
 {
     let mut kept: usize = 0;

@@ -2,10 +2,13 @@
 use mathlib.Core.Path.{_≡_, refl, sym, ap, _∙_, subst}
 use mathlib.Core.Bool.{Bool, false}
 use mathlib.Core.Option.{none, some}
-use mathlib.Core.List.{List, _∷_}
+use mathlib.Core.List.{List, _∷_, []}
 use Prim.Native.Nat.{ℕ, zero, suc, _+_, _*_, _-_, _^_, _≤_, _<_, pred}
 use native.Mathlib.Omega.{arith}
 use lib.ListN.{length, getD, drop}
+use Rattle.evaluation.proofs.Outcomes.{counts-in, task-counts-in}
+use Rattle.definition.proofs.StepCounts.{Counted, TaskCounted, push-counted, part-counted, task-counted, counts-kept}
+use Rattle.definition.specs.Stack.{CountsTrue}
 use Rattle.definition.specs.declared.paths.PathKind.{PathKind}
 use Rattle.definition.specs.declared.answers.Answer.{Answer}
 use Rattle.definition.specs.declared.format.Header.{Header}
@@ -16,7 +19,7 @@ use Rattle.definition.specs.Graph as graph
 use Rattle.definition.specs.Task.{evaluateGoalInTask}
 use Rattle.definition.specs.Task as task
 use Rattle.definition.specs.Evaluate.{evalPart, computeGoal, newFrame, afterTask, evaluateNewFrame, evaluateGoalWith, evaluateGoal}
-use Rattle.layout.specs.Work.{mergedOf}
+use Rattle.layout.specs.Work.{mergedOf, stackOf}
 use Rattle.book.specs.Parts.{partIn}
 use Rattle.book.specs.Read.{bookIn}
 use Rattle.global_cache.specs.Cache.{CacheBytes}
@@ -24,17 +27,17 @@ use Rattle.evaluation.specs.declared.Outcome.{Outcome}
 use Rattle.evaluation.specs.declared.Outcome.the-variants.{Done, Stopped}
 use Rattle.evaluation.specs.declared.TaskOutcome.{TaskOutcome}
 use Rattle.evaluation.specs.Workspace.{WorkBytes, graphIn}
-use Rattle.evaluation.specs.Outcomes.{outcomeOf, taskOutcomeOf}
+use Rattle.evaluation.specs.Outcomes.{outcomeOf, taskOutcomeOf, CountsIn, TaskCountsIn}
 use Rattle.delegate.specs.Picks.{graphAt}
 use Rattle.lookup.specs.declared.Found.{Found}
 use Rattle.lookup.specs.declared.Found.the-variants.{Known, Push}
 use Rattle.lookup.specs.Lookups.{found}
 use Rattle.task.specs.declared.Iteration.{Iteration}
 use Rattle.task.specs.declared.Iteration.the-variants.{End, Again}
-use Rattle.task.specs.Turns.{turn, turned, FewTurned}
+use Rattle.task.specs.Turns.{turn, turned, FewTurned, CountsTurned}
 use Rattle.task.proofs.Turns.{turn-is}
-use Rattle.search_graph.specs.Calls.{Running, evaluator, goalFrom, taskFrom, Comes, TaskComes}
-use Rattle.search_graph.specs.Between.{LookedUp, Pushed, IterationEnded, Finished}
+use Rattle.search_graph.specs.Calls.{Running, evaluator, goalFrom, taskFrom, Comes, TaskComes, partFrom, computed}
+use Rattle.search_graph.specs.Between.{LookedUp, Pushed, IterationEnded, Finished, stackIn}
 
 -- ---- the measure: goals off the stack, then iterations left, then bytes left
 abbrev pub rank : ℕ → ℕ → ℕ → ℕ
@@ -58,9 +61,9 @@ cache-next new c e = record { few = c .few; low = c .low; whole = e ∙ c .whole
 pub running-next : {book starts cache work : List ℕ} {h : Header} {root height n : ℕ} (newCache newWork : List ℕ)
     (newHeight m : ℕ)
     → Running book starts cache work h root height n → length newCache ≡ length cache → length newWork ≡ length work
-    → newHeight ≤ h .goals → m ≤ 2 * h .goals
+    → newHeight ≤ h .goals → m ≤ 2 * h .goals → CountsTrue (stackIn (h .goals) newHeight newWork)
     → Running book starts newCache newWork h root newHeight m
-running-next newCache newWork newHeight m r ec ew le few =
+running-next newCache newWork newHeight m r ec ew le few counts =
     record {
       read = r .read;
       places = r .places;
@@ -69,7 +72,30 @@ running-next newCache newWork newHeight m r ec ew le few =
       stack = le;
       entries = few;
       shallow = r .shallow;
+      counts = counts;
     }
+
+-- ---- the counts of steps after a call: the definition's evaluations keep them
+module _ (book : List ℕ) (h : Header) (root height n : ℕ) (work cache : List ℕ)
+    (c : CountsTrue (stackIn (h .goals) height work)) where
+  pub part-counts : (inPick : Bool) (p : List ℕ) {low : ℕ} {new cache1 : List ℕ} {r : Outcome}
+      → Comes (h .goals) root height low (partFrom book p inPick h root height n work cache) work new cache1 r
+      → CountsIn (stackIn (h .goals) height new) r
+  part-counts inPick p {low} {new} {cache1} {r} came =
+      counts-in (h .goals) root height (graphIn (h .goals) new) cache1 r
+      (subst Counted (sym (came .is)) (part-counted (evaluator book h height) (h .goals)
+      (counts-kept (bookIn book) (h .goals - height)) (partIn (h .goals) inPick p)
+      (graphAt (h .goals) root height n work cache) c))
+
+  pub task-counts : (p : List ℕ) (left : ℕ) {low : ℕ} {new cache1 : List ℕ} {o : TaskOutcome}
+      → TaskComes (h .goals) root low (taskFrom book p h root height n left work cache) work new cache1 o
+      → TaskCountsIn (stackIn (h .goals) low new) o
+  task-counts p left {low} {new} {cache1} {o} came =
+      task-counts-in (h .goals) root low (graphIn (h .goals) new) cache1 o
+      (subst TaskCounted (sym (came .is)) (task-counted (computed book p false h height)
+      (part-counted (evaluator book h height) (h .goals) (counts-kept (bookIn book) (h .goals - height))
+      (partIn (h .goals) false p))
+      left false (graphAt (h .goals) root height n work cache) c))
 
 -- ---- evaluate: the lookups, then a new frame
 abbrev computeBy : Book → ℕ → ℕ → Graph → graph.Outcome
@@ -96,6 +122,11 @@ module _ {book starts cache work : List ℕ} {h : Header} {root height n goal : 
       (graphAt (h .goals) root height n work cache) goal step lower)
       (run .read .header)
       ∙ looked .is (computer book h height)
+
+  -- nothing was found: the bytes of the graph are as they were
+  pub looked-counts : {d : ℕ} → r ≡ Push d → CountsTrue (stackIn (h .goals) height work1)
+  looked-counts {d} e =
+      subst (λ (bs : List ℕ). CountsTrue (stackOf (h .goals) height bs)) (sym (looked .missed d e)) (run .counts)
 
   pub known : (a : Answer) → r ≡ Known a
       → Comes (h .goals) root height height (goalFrom book h root height n work cache goal step lower) work work1
@@ -175,7 +206,7 @@ module _ {book starts cache work : List ℕ} {h : Header} {root height n goal : 
         tasks : taskOutcomeOf (h .goals) root height (graphIn (h .goals) work3) cache3 o
             ≡ evaluateGoalInTask (computer book h height goal) (pred (h .limit)) false
             (withStack (graphAt (h .goals) root height n work1 cache)
-            (newFrame (h .goals) goal step d ∷ graphAt (h .goals) root height n work1 cache .stack))
+            (newFrame (h .goals) goal step d (stackIn (h .goals) height work1) ∷ stackIn (h .goals) height work1))
         tasks =
             ap (λ (m : ℕ). taskOutcomeOf (h .goals) root m (graphIn (h .goals) work3) cache3 o) (sym popped)
             ∙ ran .is
@@ -190,6 +221,22 @@ module _ {book starts cache work : List ℕ} {h : Header} {root height n goal : 
               merged = λ i low. end .merged i ∙ ran .merged i (rw popped low) ∙ push .merged i ∙ looked .merged i;
             }
 
+-- the new frame's counts are true
+pub pushed-counts : (goals height goal : ℕ) (step : PathKind) (d : ℕ) {old new : List ℕ}
+    → Pushed goals height goal step d old new
+    → CountsTrue (stackIn goals height old) → CountsTrue (stackIn goals (height + 1) new)
+pushed-counts goals height goal step d {old} push c =
+    subst CountsTrue (sym (ap (λ (g : Graph). g .stack) (push .is 0 0 [])))
+    (push-counted (stackIn goals height old) goals goal step d c)
+
+-- those of the frames below it, after its task
+pub ran-counts : (goals height : ℕ) (new : List ℕ) (o : TaskOutcome)
+    → TaskCountsIn (stackIn goals (height + 1 - 1) new) o
+    → TaskCountsIn (stackIn goals height new) o
+ran-counts goals height new o c =
+    let e : height + 1 - 1 ≡ height = omega arith in
+    subst (λ (k : ℕ). TaskCountsIn (stackIn goals k new) o) e c
+
 -- ---- rerun: a turn of its loop. The iterations from here on make the whole; `first` is the workspace before the loop
 pub record Turn (f : Graph → graph.Outcome) (goals root height most : ℕ) (whole : task.TaskOutcome)
     (first work cache : List ℕ)
@@ -198,13 +245,14 @@ pub record Turn (f : Graph → graph.Outcome) (goals root height most : ℕ) (wh
   pub few : n ≤ 2 * goals
   pub value : evaluateGoalInTask f left overflow (graphAt goals root height n work cache) ≡ whole
   pub merged : (i : ℕ) → i < height - 1 → mergedOf goals i work ≡ mergedOf goals i first
+  pub counts : CountsTrue (stackIn goals height work)
 
 pub turn-starts : {f : Graph → graph.Outcome} {goals root height : ℕ} {work cache : List ℕ} {left : ℕ}
-    {overflow : Bool} {n : ℕ} → n ≤ 2 * goals
+    {overflow : Bool} {n : ℕ} → n ≤ 2 * goals → CountsTrue (stackIn goals height work)
     → Turn f goals root height left (evaluateGoalInTask f left overflow (graphAt goals root height n work cache))
     work work cache left overflow n
-turn-starts few =
-    record { low = omega arith; few = few; value = refl; merged = λ i lt. refl }
+turn-starts few counts =
+    record { low = omega arith; few = few; value = refl; merged = λ i lt. refl; counts = counts }
 
 module _ {f : Graph → graph.Outcome} {goals root height most : ℕ} {whole : task.TaskOutcome}
     {first work cache : List ℕ}
@@ -248,4 +296,5 @@ module _ {f : Graph → graph.Outcome} {goals root height most : ℕ} {whole : t
         value = sym (ap (turned goals root height (evaluateGoalInTask f (left - 1)) (graphIn goals work2) cache1) e)
             ∙ goes-on;
         merged = merged-on;
+        counts = subst (CountsTurned (stackIn goals height work2)) e (ended .counts);
       }

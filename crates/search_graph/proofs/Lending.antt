@@ -1,11 +1,12 @@
 -- What each function between the calls says of the workspace, once the graph that was lent is back.
-use mathlib.Core.Path.{_≡_, sym, ap, _∙_}
+use mathlib.Core.Path.{_≡_, sym, ap, _∙_, subst}
 use mathlib.Core.Bool.{Bool}
 use mathlib.Core.List.{List, _∷_}
 use Prim.Native.Nat.{ℕ, _+_}
 use lib.ListN.{length}
 use Rattle.definition.specs.declared.paths.PathKind.{PathKind}
 use Rattle.definition.specs.declared.format.Header.{Header}
+use Rattle.definition.specs.Stack.{Stack}
 use Rattle.definition.specs.Evaluate.{evaluateGoalWith, newFrame, afterTask}
 use Rattle.layout.specs.Work.{graphLength, stackOf, entriesOf, graphOf}
 use Rattle.stack.proofs.Parts.{part, returned}
@@ -18,10 +19,17 @@ use Rattle.lookup.specs.declared.Found.{Found}
 use Rattle.lookup.specs.Lookups.{found}
 use Rattle.lookup.specs.Answers.{Answered}
 use Rattle.task.specs.declared.Iteration.{Iteration}
-use Rattle.task.specs.Turns.{turn, turned}
+use Rattle.task.specs.Turns.{turn, turned, CountsTurned}
 use Rattle.task.specs.Iterations.{TurnTaken}
 use Rattle.task.specs.Results as results
-use Rattle.search_graph.specs.Between.{LookedUp, Pushed, IterationEnded, Finished}
+use Rattle.search_graph.specs.Between.{stackIn, LookedUp, Pushed, IterationEnded, Finished}
+
+-- what is so of the stack of a workspace is so where its graph is lent
+pub lent-stack : (goals : ℕ) (work : List ℕ) (n : ℕ) → WorkBytes goals work → n ≡ graphLength goals
+    → (P : Stack → Type 0) (height : ℕ)
+    → P (stackIn goals height work) → P (stackOf goals height (part work 0 n))
+lent-stack goals work n w is P height c = subst (λ (bs : List ℕ). P (stackOf goals height bs))
+    (sym (lent-graph goals work w n is)) c
 
 module _
     (h : Header) (work : List ℕ) (n : ℕ) (w : WorkBytes (h .goals) work) (is : n ≡ graphLength (h .goals))
@@ -39,6 +47,8 @@ module _
               ∙ ap (λ (bs : List ℕ). found h compute goal step r (graphOf (h .goals) root height m bs cache))
               (sym (graph-back (h .goals) work w n is ys kept));
           low = answered .low;
+          missed = λ d e. graph-back (h .goals) work w n is ys kept ∙ answered .missed d e
+              ∙ lent-graph (h .goals) work w n is;
           merged = merged-back (h .goals) work w n is ys kept;
         }
 
@@ -61,7 +71,9 @@ module _
     (ys : List ℕ) (kept : length ys ≡ length (part work 0 n))
   where
     pub pushed : (height goal : ℕ) (step : PathKind) (available : ℕ)
-        → stackOf goals (height + 1) ys ≡ newFrame goals goal step available ∷ stackOf goals height (part work 0 n)
+        → stackOf goals (height + 1) ys
+        ≡ newFrame goals goal step available (stackOf goals height (part work 0 n))
+        ∷ stackOf goals height (part work 0 n)
         → ((m : ℕ) → entriesOf goals m ys ≡ entriesOf goals m (part work 0 n))
         → Pushed goals height goal step available work (returned work 0 n ys)
     pushed height goal step available es ee =
@@ -70,9 +82,10 @@ module _
         record {
           is = λ root m cache.
               let s : stackOf goals (height + 1) (graphIn goals (returned work 0 n ys))
-              ≡ newFrame goals goal step available ∷ stackOf goals height (graphIn goals work) =
+              ≡ newFrame goals goal step available (stackIn goals height work) ∷ stackIn goals height work =
               ap (stackOf goals (height + 1)) b ∙ es
-              ∙ ap (λ (bs : List ℕ). newFrame goals goal step available ∷ stackOf goals height bs) l in
+              ∙ ap (λ (bs : List ℕ). newFrame goals goal step available (stackOf goals height bs)
+              ∷ stackOf goals height bs) l in
               let t : entriesOf goals m (graphIn goals (returned work 0 n ys)) ≡ entriesOf goals m (graphIn goals work) =
               ap (entriesOf goals m) b ∙ ee m ∙ ap (entriesOf goals m) l in
               λ j. record { rootDepth = root; stack = s j; provisionalCache = t j; globalCache = cache };
@@ -89,5 +102,7 @@ module _
               ∙ taken .is root cache next
               ∙ ap (λ (bs : List ℕ). turned goals root height next bs cache r) (sym (graph-back goals work w n is ys kept));
           few = taken .few;
+          counts = subst (λ (bs : List ℕ). CountsTurned (stackOf goals height bs) r)
+              (sym (graph-back goals work w n is ys kept)) (taken .counts);
           merged = merged-back goals work w n is ys kept;
         }

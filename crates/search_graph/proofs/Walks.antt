@@ -8,13 +8,18 @@ use native.Mathlib.Omega.{arith}
 use lib.ListN.{length, take, drop, length-drop}
 use types.Run.{OneOf}
 use denote.Enum.Declared.{tagOf}
+use mathlib.Core.Option.{some}
+use Rattle.search_graph.proofs.Cycle.{part-counts}
+use Rattle.search_graph.specs.Between.{stackIn}
+use Rattle.definition.proofs.StepCounts.{candidate-counted}
+use Rattle.definition.specs.Stack.{CountsTrue}
 use Rattle.definition.specs.declared.format.Header.{Header}
 use Rattle.definition.specs.declared.answers.Answer.the-variants as answers
 use Rattle.definition.specs.Part.{Part, Parts, Node, UndecidedLine, Then}
 use Rattle.definition.specs.Part as part
 use Rattle.definition.specs.Graph.{andThen}
 use Rattle.definition.specs.Graph as graph
-use Rattle.definition.specs.Candidates.{enterSingleCandidate}
+use Rattle.definition.specs.Candidates.{enterSingleCandidate, noCandidateUsages}
 use Rattle.definition.specs.Evaluate.{evalPart}
 use Rattle.definition.proofs.Lists.{part-from}
 use Rattle.layout.specs.Work.{mergedOf}
@@ -153,6 +158,7 @@ pub record GroupWalk (book : List ℕ) (h : Header) (root height : ℕ) (inPick 
       (graphAt (h .goals) root height (group .entries) work cache)
       ≡ whole
   pub merged : (i : ℕ) → i < keptBelow inPick height → mergedOf (h .goals) i work ≡ mergedOf (h .goals) i first
+  pub counts : CountsTrue (stackIn (h .goals) height work)
 
 -- before the first part, with the bytes after the first line as the code takes them
 pub group-starts : {book starts cache work : List ℕ} {h : Header} {root height n : ℕ}
@@ -176,6 +182,7 @@ group-starts {book} {starts} {cache} {work} {h} {root} {height} run inPick p rea
           ∙ (λ i. evalPart (evaluator book h height) (h .goals) (sym (below .0) i)
           (graphAt (h .goals) root height (started .count i) work cache));
       merged = λ i lt. refl;
+      counts = run .counts;
     }
 
 module _ {book : List ℕ} {h : Header} {root height : ℕ} {inPick : Bool} {whole : graph.Outcome} {room : ℕ}
@@ -246,6 +253,10 @@ module _ {book : List ℕ} {h : Header} {root height : ℕ} {inPick : Bool} {who
               (graphIn (h .goals) work1) cache1) e)
               ∙ group-goes-on ps (left .first);
           merged = group-merged;
+          counts =
+              subst (groups.CountsLeft (stackIn (h .goals) height work1)) e
+              (weigh .counts (stackIn (h .goals) height work1)
+              (part-counts book h root height (group .entries) work cache (walk .counts) inPick t read));
         }
 
 -- ---- likewise of the loop over a pick's candidates, which stand inside a pick: the merged usages of the top frame are part of the pick
@@ -255,6 +266,12 @@ pickFrom book h root height work cache pick t k =
     (mergedOf (h .goals) (height - 1) work)
     (graphAt (h .goals) root height (pick .entries) work cache)
 
+pub entered-counts : {goals height : ℕ} {old new : List ℕ} → CandidateEntered goals height old new
+    → CountsTrue (stackIn goals height old) → CountsTrue (stackIn goals height new)
+entered-counts {goals} {height} {old} enter c =
+    subst CountsTrue (sym (ap (λ (g : graph.Graph). g .stack) (enter .whole 0 0 [])))
+    (candidate-counted (some (noCandidateUsages goals)) (stackIn goals height old) c)
+
 pub record PickWalk (book : List ℕ) (h : Header) (root height : ℕ) (whole : graph.Outcome) (room : ℕ)
     (first work cache : List ℕ) (pick : Pick) (t : List ℕ) (k : ℕ) : Type 0 where
   pub few : pick .entries ≤ 2 * h .goals
@@ -262,6 +279,7 @@ pub record PickWalk (book : List ℕ) (h : Header) (root height : ℕ) (whole : 
   pub shorter : length t < room
   pub value : pickFrom book h root height work cache pick t k ≡ whole
   pub merged : (i : ℕ) → i < height - 1 → mergedOf (h .goals) i work ≡ mergedOf (h .goals) i first
+  pub counts : CountsTrue (stackIn (h .goals) height work)
 
 -- before the first candidate
 module _ {book starts cache work : List ℕ} {h : Header} {root height n : ℕ}
@@ -284,6 +302,7 @@ module _ {book starts cache work : List ℕ} {h : Header} {root height n : ℕ}
         shorter = part-shorter 16 p (omega arith) (a-line (h .goals) inPick p (lineIn p) refl reads);
         value = refl;
         merged = λ i lt. refl;
+        counts = begun .counts (run .counts);
       }
 
   -- what the candidates make is what the part makes
@@ -384,4 +403,7 @@ module _ {book : List ℕ} {h : Header} {root height : ℕ} {whole : graph.Outco
           value = sym (ap (picks.leftOf (evaluator book h height) (h .goals) root height ps work3 cache2) e)
               ∙ pick-goes-on ps (left .first);
           merged = pick-merged;
+          counts = subst (picks.CountsLeft (stackIn (h .goals) height work3)) e
+              (finished .counts (part-counts book h root height (pick .entries) work1 cache
+              (entered-counts enter (walk .counts)) true t read));
         }

@@ -5,21 +5,26 @@ use mathlib.Core.List.{List, _∷_}
 use Prim.Native.Nat.{ℕ, _+_, _*_, _≤_, _<_}
 use Rattle.definition.specs.declared.paths.PathKind.{PathKind}
 use Rattle.definition.specs.declared.format.Header.{Header}
+use Rattle.definition.specs.Stack.{Stack, CountsTrue}
 use Rattle.definition.specs.Graph.{Graph, withStack}
 use Rattle.definition.specs.Graph as graph
 use Rattle.definition.specs.Task as task
 use Rattle.definition.specs.Evaluate.{evaluateGoalWith, newFrame, afterTask}
-use Rattle.layout.specs.Work.{graphOf, mergedOf}
+use Rattle.layout.specs.Work.{stackOf, graphOf, mergedOf}
 use Rattle.global_cache.specs.Cache.{CacheBytes}
 use Rattle.evaluation.specs.declared.Outcome.{Outcome}
 use Rattle.evaluation.specs.declared.TaskOutcome.{TaskOutcome}
 use Rattle.evaluation.specs.Workspace.{WorkBytes, graphIn}
-use Rattle.evaluation.specs.Outcomes.{outcomeOf, taskOutcomeOf, FewEntries, FewTaskEntries}
+use Rattle.evaluation.specs.Outcomes.{outcomeOf, taskOutcomeOf, TaskCountsIn, FewEntries, FewTaskEntries}
 use Rattle.lookup.specs.declared.Found.{Found}
 use Rattle.lookup.specs.declared.Found.the-variants.{Push}
 use Rattle.lookup.specs.Lookups.{found}
 use Rattle.task.specs.declared.Iteration.{Iteration}
-use Rattle.task.specs.Turns.{turn, turned, FewTurned}
+use Rattle.task.specs.Turns.{turn, turned, CountsTurned, FewTurned}
+
+-- the stack of a workspace
+abbrev pub stackIn : ℕ → ℕ → List ℕ → Stack
+stackIn goals height work = stackOf goals height (graphIn goals work)
 
 -- the merged usages are as they were
 abbrev pub MergedKept : ℕ → List ℕ → List ℕ → Type 0
@@ -33,6 +38,7 @@ pub record Looking (h : Header) (root height n goal : ℕ) (work cache : List �
   pub known : goal < h .goals
   pub divides : 1 ≤ h .divisor
   pub shallow : root < 256
+  pub counts : CountsTrue (stackIn (h .goals) height work)
 
 pub record LookedUp (h : Header) (root height n goal : ℕ) (step : PathKind) (lower : Bool)
     (old new cache : List ℕ) (r : Found) : Type 0 where
@@ -40,13 +46,14 @@ pub record LookedUp (h : Header) (root height n goal : ℕ) (step : PathKind) (l
       → evaluateGoalWith h compute (graphOf (h .goals) root height n (graphIn (h .goals) old) cache) goal step lower
       ≡ found h compute goal step r (graphOf (h .goals) root height n (graphIn (h .goals) new) cache)
   pub low : (d : ℕ) → r ≡ Push d → d < 256
+  pub missed : (d : ℕ) → r ≡ Push d → graphIn (h .goals) new ≡ graphIn (h .goals) old
   pub merged : MergedKept (h .goals) old new
 
 pub record Pushed (goals height goal : ℕ) (step : PathKind) (available : ℕ) (old new : List ℕ) : Type 0 where
   pub is : (root n : ℕ) (cache : List ℕ)
       → graphOf goals root (height + 1) n (graphIn goals new) cache
       ≡ withStack (graphOf goals root height n (graphIn goals old) cache)
-      (newFrame goals goal step available ∷ (graphOf goals root height n (graphIn goals old) cache) .stack)
+      (newFrame goals goal step available (stackIn goals height old) ∷ stackIn goals height old)
   pub merged : MergedKept goals old new
 
 pub record IterationEnded (goals height left : ℕ) (overflow : Bool) (o : Outcome) (old new : List ℕ) (r : Iteration) : Type 0 where
@@ -54,6 +61,7 @@ pub record IterationEnded (goals height left : ℕ) (overflow : Bool) (o : Outco
       → turn left next overflow (outcomeOf goals root height (graphIn goals old) cache o)
       ≡ turned goals root height next (graphIn goals new) cache r
   pub few : FewTurned goals left r
+  pub counts : CountsTurned (stackIn goals height new) r
   pub merged : MergedKept goals old new
 
 pub record Finishing (h : Header) (height goal : ℕ) (o : TaskOutcome) (work cache : List ℕ) : Type 0 where
@@ -62,6 +70,7 @@ pub record Finishing (h : Header) (height goal : ℕ) (o : TaskOutcome) (work ca
   pub stack : height < h .goals
   pub known : goal < h .goals
   pub few : FewTaskEntries (h .goals) o
+  pub counts : TaskCountsIn (stackIn (h .goals) height work) o
 
 pub record Finished (h : Header) (height goal : ℕ) (step : PathKind) (available : ℕ) (o : TaskOutcome)
     (old new cache cacheAfter : List ℕ) (r : Outcome) : Type 0 where

@@ -6,6 +6,7 @@ use Prim.Native.Nat.{ℕ, _*_, _-_, _≤_, _<_}
 use lib.ListN.{length}
 use Rattle.definition.specs.declared.paths.PathKind.{PathKind}
 use Rattle.definition.specs.declared.format.Header.{Header}
+use Rattle.definition.specs.Stack.{CountsTrue}
 use Rattle.definition.specs.Graph.{Graph}
 use Rattle.definition.specs.Graph as graph
 use Rattle.definition.specs.Task as task
@@ -19,8 +20,10 @@ use Rattle.evaluation.specs.declared.TaskOutcome.{TaskOutcome}
 use Rattle.evaluation.specs.Workspace.{WorkBytes, graphIn}
 use Rattle.evaluation.specs.Outcomes.{outcomeOf, taskOutcomeOf, FewEntries, FewTaskEntries}
 use Rattle.delegate.specs.Picks.{graphAt}
+use Rattle.search_graph.specs.Between.{stackIn}
 
--- a book that was read, cache and workspace of the right lengths, `height` frames and n entries
+-- a book that was read, cache and workspace of the right lengths, `height` frames with true counts of steps,
+-- and n entries
 pub record Running (book starts cache work : List ℕ) (h : Header) (root height n : ℕ) : Type 0 where
   pub read : IsBook book starts h
   pub places : h .goals ≤ length starts
@@ -29,6 +32,7 @@ pub record Running (book starts cache work : List ℕ) (h : Header) (root height
   pub stack : height ≤ h .goals
   pub entries : n ≤ 2 * h .goals
   pub shallow : root < 256
+  pub counts : CountsTrue (stackIn (h .goals) height work)
 
 -- the definition's evaluate_goal with `height` frames on the stack
 abbrev pub evaluator : List ℕ → Header → ℕ → Evaluator

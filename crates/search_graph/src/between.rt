@@ -9,9 +9,11 @@ use lookup::Found;
 use task::Iteration;
 ghost use mathlib.Core.Path.{_≡_};
 ghost use Prim.Native.Nat.{_≤_, _<_, pred};
+ghost use Rattle.definition.specs.Stack.{CountsTrue};
 ghost use Rattle.evaluation.specs.Workspace.{WorkBytes};
-ghost use Rattle.evaluation.specs.Outcomes.{FewEntries};
+ghost use Rattle.evaluation.specs.Outcomes.{CountsIn, FewEntries};
 ghost use Rattle.search_graph.specs.Between.{Looking, LookedUp, Pushed, IterationEnded, Finishing, Finished};
+ghost use Rattle.search_graph.specs.Between.{stackIn};
 
 // One iteration less; 0 iterations act as 1.
 pub fn one_less(limit: usize) -> usize
@@ -60,7 +62,8 @@ pub fn push(
     step: PathKind,
     available: usize,
 )
-    requires { ⌜ WorkBytes goals (now work) × ((height < goals) × ((goal < 256) × (available < 256))) ⌝ }
+    requires { ⌜ WorkBytes goals (now work) × CountsTrue (stackIn goals height (now work)) ⌝ }
+    requires { ⌜ (height < goals) × ((goal < 256) × (available < 256)) ⌝ }
     ensures { λ _. ⌜ Pushed goals height goal step available (now (work .entry)) (now (work .exit)) ⌝ }
 {
     let n = offsets::graph_length(goals);
@@ -75,7 +78,8 @@ pub fn end_iteration(
     left: usize,
     overflow: bool,
 ) -> Iteration
-    requires { ⌜ WorkBytes goals (now work) × ((1 ≤ height) × ((height ≤ goals) × FewEntries goals o)) ⌝ }
+    requires { ⌜ WorkBytes goals (now work) × CountsIn (stackIn goals height (now work)) o ⌝ }
+    requires { ⌜ (1 ≤ height) × ((height ≤ goals) × FewEntries goals o) ⌝ }
     ensures { λ r. ⌜ IterationEnded goals height left overflow o (now (work .entry)) (now (work .exit)) r ⌝ }
 {
     let n = offsets::graph_length(goals);

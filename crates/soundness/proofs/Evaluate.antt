@@ -178,7 +178,7 @@ module _ (W : World) (xs : List Base) (bases : BasesOk W xs) (g₀ : Graph) (v :
 
   -- ---- the frame is pushed
   abbrev new : Frame
-  new = newFrame (h .goals) goal step available
+  new = newFrame (h .goals) goal step available (g₀ .stack)
 
   pub new-bases : Apart goal (goalsOf (g₀ .stack)) → BasesOk W (baseOf new ∷ xs)
   new-bases apart = (

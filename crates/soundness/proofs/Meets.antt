@@ -135,7 +135,7 @@ module _ (W : World) (xs : List Base) (bases : BasesOk W xs) (g₀ : Graph) (v :
   module _ (compute : ℕ → Graph → Outcome) (ok : ComputesGoal W xs compute) (trace : ℕ → Graph → Trace)
       (meets : TracesGoal W xs trace) where
     abbrev new : Frame
-    new = newFrame (h .goals) goal step available
+    new = newFrame (h .goals) goal step available (g₀ .stack)
 
     frame-meets : Apart goal (goalsOf (g₀ .stack)) → Ordered W (traceNewFrame h compute trace g₀ goal step available)
     frame-meets apart =

@@ -16,6 +16,7 @@ use Rattle.definition.specs.Graph.{Done, Entry, EvaluationResult, Graph, Stoppe
 use Rattle.definition.specs.Heads.{CycleHeads}
 use Rattle.definition.specs.Part.{Book}
 use Rattle.definition.specs.Query.{evaluateRoot, query}
+use Rattle.definition.specs.Steps.{noSteps}
 use Rattle.definition.specs.Stack.{Frame, Stack, stackFind}
 use Rattle.definition.specs.Task.{Evaluated, TaskOutcome, TaskStopped, evaluateGoalInTask}
 use Rattle.definition.specs.Usages.{noUsages}
@@ -67,6 +68,7 @@ frame goal available reached heads usages =
       usages = usages;
       candidateUsages = none;
       nestedGoals = 0 ∷ 0 ∷ [];
+      stepCounts = noSteps;
     }
 
 abbrev bottom : Frame
@@ -373,7 +375,7 @@ module _ (b : Book) (always : Always b) where
     abbrev task : ℕ → ℕ → TaskOutcome
     task left available =
         evaluateGoalInTask (computeGoal (evaluateGoal b off) b goal) left false
-        (withStack g (newFrame (b .header .goals) goal step available ∷ g .stack))
+        (withStack g (newFrame (b .header .goals) goal step available (g .stack) ∷ g .stack))
 
     popped-again : length (g .stack) + suc off ≡ b .header .goals → (left available : ℕ) → available ≤ b .header .top
         → stackFind (g .stack) goal ≡ none → (g′ : Graph) (r : EvaluationResult)

@@ -122,7 +122,7 @@ traceAfterTask h input step available (Evaluated g r) =
     input r
 
 abbrev pub pushNew : Header → Graph → ℕ → PathKind → ℕ → Graph
-pushNew h g input step available = withStack g (newFrame (h .goals) input step available ∷ g .stack)
+pushNew h g input step available = withStack g (newFrame (h .goals) input step available (g .stack) ∷ g .stack)
 
 abbrev pub traceNewFrame : Header → (ℕ → Graph → Outcome) → (ℕ → Graph → Trace) → Graph → ℕ → PathKind → ℕ → Trace
 traceNewFrame h compute trace g input step available =

@@ -3,7 +3,7 @@ use mathlib.Core.Path.{_≡_, refl, sym, ap, ap₂, _∙_}
 use mathlib.Core.Bool.{false}
 use mathlib.Core.Option.{Option, none, some}
 use mathlib.Core.List.{List, [], _∷_}
-use Prim.Native.Nat.{ℕ, _+_, _-_, _≤_, _<_}
+use Prim.Native.Nat.{ℕ, _+_, _-_, _^_, _≤_, _<_}
 use native.Mathlib.Nat.{zero-add}
 use native.Mathlib.Omega.{arith}
 use lib.ListN.{length, getD, set, replicate, length-set}
@@ -18,16 +18,20 @@ use Rattle.definition.specs.Answers.{answerNumber}
 use Rattle.definition.specs.Usages.{noUsages}
 use Rattle.definition.specs.Heads.{noHeads}
 use Rattle.definition.specs.Nested.{insertNested}
-use Rattle.definition.specs.Stack.{Frame, withProvisionalResult, withHeads, withOverflow, withUsages, withCandidateUsages, withNestedGoals}
+use Rattle.definition.specs.Steps.{StepCounts, countSteps}
+use Rattle.definition.specs.Stack.{Frame, Stack, stepKinds, withProvisionalResult, withHeads, withOverflow, withUsages, withCandidateUsages, withNestedGoals}
 use Rattle.definition.specs.Parent.{markOverflow}
 use Rattle.definition.specs.Task.{rerunFrame}
 use Rattle.definition.specs.Evaluate.{newFrame}
+use Rattle.buffer.specs.Numbers.{bytesOf}
 use Rattle.buffer.specs.Regions.{region, overwrite}
+use Rattle.buffer.proofs.Numbers.{length-bytes, number-bytes}
 use Rattle.buffer.proofs.Regions.{length-overwrite, region-same, region-before, byte-before, byte-in}
 use Rattle.buffer.proofs.Sized.{sized}
 use Rattle.layout.specs.Blocks.{usagesSize, usagesOf, headsSize, headsOf, blockSize}
-use Rattle.layout.specs.Frame.{frameProvisional, frameOverflow, frameIsHead, frameTracks, usagesStart, headsStart, candidateStart, nestedStart, frameSize, resultOf, whenSet, frameOf}
-use Rattle.layout.proofs.Frames.{frame-by, frame-provisional, frame-overflow, frame-has-usages, frame-has-candidate, frame-usages, frame-nested}
+use Rattle.layout.specs.Frame.{frameProvisional, frameOverflow, frameIsHead, frameTracks, usagesStart, headsStart, candidateStart, nestedStart, countsStart, countsSize, frameSize, resultOf, whenSet, frameOf}
+use Rattle.layout.specs.Steps.{unpacked}
+use Rattle.layout.proofs.Frames.{frame-by, frame-provisional, frame-overflow, frame-has-usages, frame-has-candidate, frame-usages, frame-nested, frame-counts, withStepCounts}
 use Rattle.stack.proofs.Parts.{part, returned, part-length, part-back, returned-length}
 
 -- ---- numbers that are read back
@@ -98,10 +102,26 @@ module _ (goals goal available : ℕ) (step : PathKind) (bs hs zs : List ℕ) (l
   nested-there : region (nestedStart goals) goals three ≡ zs
   nested-there = ap (λ (n : ℕ). region (nestedStart goals) n three) (sym nested) ∙ region-same two (nestedStart goals) zs fit-nested
 
-  started : headsOf goals hs ≡ noHeads goals → zs ≡ replicate goals 0 → frameOf goals three ≡ newFrame goals goal step available
-  started clear zeros =
-      frame-by goals three (λ j. getD (startFields goal step available) j 0) (region usagesStart usagesSize three) hs (region (candidateStart goals) (blockSize goals) three) zs bytes refl heads-there refl nested-there
-      ∙ (λ t. withNestedGoals (withHeads (newFrame goals goal (kind-back step t) available) (clear t)) (zeros t))
+  long-three : length three ≡ frameSize goals
+  long-three = length-overwrite two (nestedStart goals) zs fit-nested ∙ long-two
+
+  -- on a stack s
+  module _ (s : Stack) where
+    -- all but the counts
+    started : headsOf goals hs ≡ noHeads goals → zs ≡ replicate goals 0
+        → (cs : StepCounts) → withStepCounts (frameOf goals three) cs ≡ withStepCounts (newFrame goals goal step available s) cs
+    started clear zeros cs =
+        ap (λ (f : Frame). withStepCounts f cs)
+        (frame-by goals three (λ j. getD (startFields goal step available) j 0) (region usagesStart usagesSize three) hs (region (candidateStart goals) (blockSize goals) three) zs (region (countsStart goals) countsSize three) bytes refl heads-there refl nested-there refl)
+        ∙ (λ t. withStepCounts (withNestedGoals (withHeads (newFrame goals goal (kind-back step t) available s) (clear t)) (zeros t)) cs)
+
+    counted : headsOf goals hs ≡ noHeads goals → zs ≡ replicate goals 0 → (steps : ℕ) → steps < 256 ^ 8
+        → unpacked steps ≡ countSteps (step ∷ stepKinds s)
+        → frameOf goals (overwrite three (countsStart goals) (bytesOf 8 steps)) ≡ newFrame goals goal step available s
+    counted clear zeros steps small is =
+        frame-counts goals three long-three (bytesOf 8 steps) (length-bytes 8 steps)
+        ∙ ap (withStepCounts (frameOf goals three)) (ap unpacked (number-bytes 8 steps small) ∙ is)
+        ∙ started clear zeros (countSteps (step ∷ stepKinds s))
 
 -- by what the calls say
 module _ (goals goal available : ℕ) (step : PathKind) (bs fs hs zs : List ℕ) (c a : ℕ) (long : length bs ≡ frameSize goals) (is-c : c ≡ candidateStart goals) (is-a : a ≡ nestedStart goals) where
@@ -109,8 +129,11 @@ module _ (goals goal available : ℕ) (step : PathKind) (bs fs hs zs : List ℕ)
       → length hs ≡ length (part (returned bs 0 8 fs) 40 c) → headsOf goals hs ≡ noHeads goals
       → length zs ≡ length (part (returned (returned bs 0 8 fs) 40 c hs) a (a + goals))
       → zs ≡ replicate (length (part (returned (returned bs 0 8 fs) 40 c hs) a (a + goals))) 0
-      → frameOf goals (returned (returned (returned bs 0 8 fs) 40 c hs) a (a + goals) zs) ≡ newFrame goals goal step available
-  start-frame is-f kept-h clear kept-z zeros =
+      → (out : List ℕ) (k steps : ℕ) → k ≡ countsStart goals → steps < 256 ^ 8
+      → out ≡ overwrite (returned (returned (returned bs 0 8 fs) 40 c hs) a (a + goals) zs) k (bytesOf 8 steps)
+      → (s : Stack) → unpacked steps ≡ countSteps (step ∷ stepKinds s)
+      → frameOf goals out ≡ newFrame goals goal step available s
+  start-frame is-f kept-h clear kept-z zeros out k steps is-k small is-out s is-steps =
       let x1 : List ℕ = returned bs 0 8 fs in
       let one : List ℕ = overwrite bs 0 (startFields goal step available) in
       let e1 : x1 ≡ one = ap (λ (l : List ℕ). returned bs 0 8 l) is-f in
@@ -123,8 +146,9 @@ module _ (goals goal available : ℕ) (step : PathKind) (bs fs hs zs : List ℕ)
       let nz = part-length x2 a (a + goals) zs (omega arith) (omega arith) kept-z in
       let narrow : length zs ≡ goals = omega arith in
       let b3 = part-back x2 a (a + goals) zs (omega arith) (omega arith) kept-z in
-      ap (frameOf goals) (b3 ∙ ap₂ (λ (l : List ℕ) (k : ℕ). overwrite l k zs) (b2 ∙ ap (λ (l : List ℕ). overwrite l 40 hs) e1) is-a)
-      ∙ started goals goal available step bs hs zs long wide narrow clear (zeros ∙ ap (λ (n : ℕ). replicate n 0) (sym kept-z ∙ narrow))
+      let e3 = b3 ∙ ap₂ (λ (l : List ℕ) (m : ℕ). overwrite l m zs) (b2 ∙ ap (λ (l : List ℕ). overwrite l 40 hs) e1) is-a in
+      ap (frameOf goals) (is-out ∙ ap₂ (λ (l : List ℕ) (m : ℕ). overwrite l m (bytesOf 8 steps)) e3 is-k)
+      ∙ counted goals goal available step bs hs zs long wide narrow s clear (zeros ∙ ap (λ (n : ℕ). replicate n 0) (sym kept-z ∙ narrow)) steps small is-steps
 
 -- ---- `reset`
 module _ (goals n : ℕ) (bs : List ℕ) (answer : Answer) (long : length bs ≡ frameSize goals) (is-n : n ≡ answerNumber answer) where

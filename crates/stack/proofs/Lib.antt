@@ -1,5 +1,6 @@
 pub mod Parts
 pub mod Blocks
+pub mod Counts
 pub mod Fields
 pub mod Child
 pub mod Tracked
@@ -8,3 +9,4 @@ pub mod Records
 pub mod Lent
 pub mod Loops
 pub mod Graph
+pub mod Theorems

@@ -1,5 +1,5 @@
 -- The turns of the loops over the stack, from the top down.
-use mathlib.Core.Path.{_≡_, refl, sym, ap, ap₂, _∙_}
+use mathlib.Core.Path.{_≡_, refl, sym, ap, _∙_}
 use mathlib.Core.Bool.{Bool, true, false, not, _||_}
 use mathlib.Core.Option.{Option, none, some}
 use mathlib.Core.List.{List, [], _∷_}
@@ -7,14 +7,12 @@ use Prim.Native.Nat.{ℕ, suc, _+_, _-_, _≤_, _<_}
 use native.Mathlib.Numerals.{add-one}
 use native.Mathlib.Omega.{arith}
 use borrow.Author.Tests.{eq-eqb, ne-eqb}
-use lib.ListN.{length, getD, take}
+use lib.ListN.{length, getD}
 use lib.Dec.{eqb}
-use Rattle.definition.specs.declared.paths.PathKind.{PathKind}
 use Rattle.definition.specs.declared.answers.Answer.{Answer}
 use Rattle.definition.specs.declared.format.Header.{Header}
-use Rattle.definition.specs.Paths.{extend, extendAll}
 use Rattle.definition.specs.Nested.{NestedGoals}
-use Rattle.definition.specs.Stack.{Frame, Stack, OnStack, stepKinds, cyclePathKind, stackFind}
+use Rattle.definition.specs.Stack.{Frame, Stack, OnStack, stackFind}
 use Rattle.definition.specs.Lookup.{allowedDepthForNested, anyOnStack}
 use Rattle.definition.proofs.Lists.{first-same, rest-same}
 use Rattle.layout.specs.Frame.{frameOf}
@@ -77,24 +75,6 @@ at-below i p j q height lt e = let f : i ≡ j = cc in omega arith
 
 pub nowhere-below : (j : ℕ) (q : Provisional) (height : ℕ) → Nowhere ≡ At j q → j < height
 nowhere-below j q height e = let z : _≡_ {A = ℕ} 0 1 = cc in absurd (omega arith)
-
--- ---- `cycle_path_kind`
-abbrev pub kindOver : ℕ → ℕ → ℕ → List ℕ → PathKind → PathKind
-kindOver goals head i bs kind = extendAll kind (stepKinds (take (i - suc head) (stackOf goals i bs)))
-
-pub kind-whole : (goals head height : ℕ) (bs : List ℕ) (step : PathKind) → kindOver goals head height bs step ≡ cyclePathKind (stackOf goals height bs) step head
-kind-whole goals head height bs step = ap (λ (n : ℕ). extendAll step (stepKinds (take (n - suc head) (stackOf goals height bs)))) (sym (length-stack goals height bs))
-
-pub kind-done : (goals head i : ℕ) (bs : List ℕ) (kind : PathKind) → i ≤ suc head → kind ≡ kindOver goals head i bs kind
-kind-done goals head i bs kind h =
-    let e : i - suc head ≡ 0 = omega arith in
-    sym (ap (λ (n : ℕ). extendAll kind (stepKinds (take n (stackOf goals i bs)))) e)
-
-pub kind-next : (goals head i : ℕ) (bs : List ℕ) (kind : PathKind) → suc head < i
-    → kindOver goals head (i - 1) bs (extend kind ((frameAt goals (i - 1) bs) .stepKindFromParent)) ≡ kindOver goals head i bs kind
-kind-next goals head i bs kind h =
-    let e : i - suc head ≡ suc (i - 1 - suc head) = omega arith in
-    sym (ap₂ (λ (n : ℕ) (s : Stack). extendAll kind (stepKinds (take n s))) e (top goals bs i (omega arith)))
 
 -- ---- `any_on_stack`
 module _ (goals : ℕ) (bs : List ℕ) (nested : NestedGoals) (i : ℕ) (whole : Bool) (rest : anyOnStack (stackOf goals i bs) nested ≡ whole) where

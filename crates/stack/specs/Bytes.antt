@@ -3,10 +3,10 @@ use mathlib.Core.Path.{_≡_}
 use mathlib.Core.List.{List}
 use Prim.Native.Nat.{ℕ, _≤_}
 use lib.ListN.{length}
-use Rattle.definition.specs.Stack.{Frame}
+use Rattle.definition.specs.Stack.{Frame, CountsTrue}
 use Rattle.buffer.specs.Regions.{region}
 use Rattle.layout.specs.Frame.{frameSize, frameOf}
-use Rattle.layout.specs.Work.{frameStart, graphLength}
+use Rattle.layout.specs.Work.{frameStart, graphLength, stackOf}
 
 pub record FrameBytes (goals : ℕ) (bs : List ℕ) : Type 0 where
   pub few : goals ≤ 64
@@ -16,6 +16,16 @@ pub record GraphBytes (goals : ℕ) (bs : List ℕ) : Type 0 where
   pub some : 1 ≤ goals
   pub few : goals ≤ 64
   pub long : length bs ≡ graphLength goals
+
+-- a graph with `height` frames, whose counts of steps are true
+pub record StackBytes (goals height : ℕ) (bs : List ℕ) : Type 0 where
+  pub bytes : GraphBytes goals bs
+  pub high : height ≤ goals
+  pub counts : CountsTrue (stackOf goals height bs)
+
+-- they are true still
+abbrev pub CountsKept : ℕ → ℕ → List ℕ → List ℕ → Type 0
+CountsKept goals height old new = CountsTrue (stackOf goals height old) → CountsTrue (stackOf goals height new)
 
 -- the frame became what `make` makes of it
 abbrev pub FrameChanged : ℕ → (Frame → Frame) → List ℕ → List ℕ → Type 0

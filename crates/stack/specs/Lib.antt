@@ -1,5 +1,6 @@
 pub mod Bytes
 pub mod Child
+pub mod Counts
 pub mod Records
 pub mod Results
 pub mod Tracked

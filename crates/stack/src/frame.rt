@@ -12,13 +12,15 @@ ghost use mathlib.Core.List.{[], _∷_};
 ghost use Prim.Native.Nat.{ℕ, _<_};
 ghost use lib.ListN.{length};
 ghost use Rattle.definition.specs.Paths.{kindNumber};
-ghost use Rattle.definition.specs.Stack.{Stack, requiredDepthOf};
+ghost use Rattle.definition.specs.Steps.{countSteps};
+ghost use Rattle.definition.specs.Stack.{Stack, stepKinds, requiredDepthOf};
 ghost use Rattle.definition.specs.Parent.{orNoUsages, markOverflow};
 ghost use Rattle.definition.specs.Task.{rerunFrame};
 ghost use Rattle.definition.specs.Evaluate.{newFrame};
 ghost use Rattle.buffer.specs.Regions.{region};
 ghost use Rattle.layout.specs.Blocks.{headsSize};
 ghost use Rattle.layout.specs.Frame.{headsStart, frameOf};
+ghost use Rattle.layout.specs.Steps.{unpacked};
 ghost use Rattle.stack.specs.Bytes.{FrameBytes, FrameChanged};
 ghost use Rattle.stack.specs.Results.{isSome, provisionalOf, NestedDepth};
 
@@ -133,6 +135,14 @@ pub fn nested(frame: &[u8], goals: usize) -> &[u8]
     &frame[start..end]
 }
 
+// How many steps of each kind lie at or below it.
+pub fn steps(frame: &[u8], goals: usize) -> u64
+    requires { ⌜ FrameBytes goals (now frame) ⌝ }
+    ensures { λ r. ⌜ unpacked r ≡ (frameOf goals (now (frame .entry))) .stepCounts ⌝ }
+{
+    buffer::read_u64(frame, offsets::counts_start(goals))
+}
+
 // StackEntry::required_depth
 pub fn required_depth(frame: &[u8], goals: usize) -> usize
     requires { ⌜ FrameBytes goals (now frame) ⌝ }
@@ -182,10 +192,18 @@ fn start_fields(b: &mut [u8], goal: usize, step: PathKind, available: usize)
     b[offsets::FRAME_TRACKS] = 0;
 }
 
-// A new frame.
-pub fn start(frame: &mut [u8], goals: usize, goal: usize, step: PathKind, available: usize)
+// A new frame, on a stack s; `steps` are those of s and its own.
+pub fn start(
+    frame: &mut [u8],
+    goals: usize,
+    goal: usize,
+    step: PathKind,
+    available: usize,
+    steps: u64,
+)
     requires { ⌜ FrameBytes goals (now frame) × ((goal < 256) × (available < 256)) ⌝ }
-    ensures { λ _. ⌜ frameOf goals (now (frame .exit)) ≡ newFrame goals goal step available ⌝ }
+    ensures { λ _. ⌜ ((s : Stack) → unpacked steps ≡ countSteps (step ∷ stepKinds s)
+        → frameOf goals (now (frame .exit)) ≡ newFrame goals goal step available s) ⌝ }
 {
     start_fields(&mut frame[0..offsets::FRAME_USAGES], goal, step, available);
     let c = offsets::candidate_start(goals);
@@ -193,6 +211,7 @@ pub fn start(frame: &mut [u8], goals: usize, goal: usize, step: PathKind, availa
     let start = offsets::nested_start(goals);
     let end = start + goals;
     buffer::fill_zero(&mut frame[start..end]);
+    buffer::write_u64(frame, offsets::counts_start(goals), steps);
 }
 
 // Before the next iteration: the provisional result is the last one's. Heads, nested goals

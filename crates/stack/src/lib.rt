@@ -5,15 +5,18 @@ use definition::paths::PathKind;
 use frame::Depth;
 use frame::Provisional;
 use layout::offsets;
+use layout::steps;
 ghost use mathlib.Core.Path.{_≡_};
 ghost use Prim.Native.Nat.{_<_, _≤_};
-ghost use Rattle.definition.specs.Stack.{cyclePathKind};
+ghost use Rattle.definition.specs.Steps.{countSteps};
+ghost use Rattle.definition.specs.Stack.{stepKinds, cyclePathKind};
 ghost use Rattle.definition.specs.Parent.{handleOverflow};
 ghost use Rattle.definition.specs.Task.{rerunFrame};
 ghost use Rattle.definition.specs.Evaluate.{newFrame};
 ghost use Rattle.definition.specs.Lookup.{anyOnStack};
+ghost use Rattle.layout.specs.Steps.{packed};
 ghost use Rattle.layout.specs.Work.{stackOf};
-ghost use Rattle.stack.specs.Bytes.{GraphBytes, frameBytes};
+ghost use Rattle.stack.specs.Bytes.{GraphBytes, StackBytes, frameBytes};
 ghost use Rattle.stack.specs.Results.{Found, NestedDepth};
 ghost use Rattle.stack.specs.Written.{TopWritten, StackChanged, TopChanged};
 
@@ -35,6 +38,17 @@ pub fn frame_at(graph: &[u8], goals: usize, i: usize) -> &[u8]
     &graph[start..end]
 }
 
+// The steps of each kind on a stack of some height.
+fn steps_of(graph: &[u8], goals: usize, height: usize) -> u64
+    requires { ⌜ StackBytes goals height (now graph) ⌝ }
+    ensures { λ r. ⌜ r ≡ packed (countSteps (stepKinds (stackOf goals height (now (graph .entry))))) ⌝ }
+{
+    if height == 0 {
+        return 0;
+    }
+    frame::steps(frame_at(graph, goals, height - 1), goals)
+}
+
 // A new frame on top.
 pub fn push(
     graph: &mut [u8],
@@ -44,13 +58,16 @@ pub fn push(
     step: PathKind,
     available: usize,
 )
-    requires { ⌜ GraphBytes goals (now graph) × ((height < goals) × ((goal < 256) × (available < 256))) ⌝ }
-    ensures { λ _. ⌜ TopWritten goals height (newFrame goals goal step available) (now (graph .entry))
-        (now (graph .exit)) ⌝ }
+    requires { ⌜ StackBytes goals height (now graph) × ((height < goals) × ((goal < 256) × (available < 256))) ⌝ }
+    ensures { λ _. ⌜ TopWritten goals height
+        (newFrame goals goal step available (stackOf goals height (now (graph .entry))))
+        (now (graph .entry)) (now (graph .exit)) ⌝ }
 {
+    let below = steps_of(graph, goals, height);
+    let all = steps::with(below, step);
     let start = offsets::frame_start(goals, height);
     let end = start + offsets::frame_size(goals);
-    frame::start(&mut graph[start..end], goals, goal, step, available);
+    frame::start(&mut graph[start..end], goals, goal, step, available, all);
 }
 
 // The frame at index `own`, on top again, before its next iteration.
@@ -93,7 +110,8 @@ pub fn find(graph: &[u8], goals: usize, height: usize, goal: usize) -> OnStack
 }
 
 // cycle_path_kind: the kind of the path from a head to the top of the stack and on by
-// one step; the head's own step is left out.
+// one step; the head's own step is left out. The steps above the head are those of the whole
+// stack without those up to the head, and the latest kind among them is the path's.
 pub fn cycle_path_kind(
     graph: &[u8],
     goals: usize,
@@ -101,20 +119,14 @@ pub fn cycle_path_kind(
     step: PathKind,
     head: usize,
 ) -> PathKind
-    requires { ⌜ GraphBytes goals (now graph) × (height ≤ goals) ⌝ }
+    requires { ⌜ StackBytes goals height (now graph) ⌝ }
     ensures { λ r. ⌜ r ≡ cyclePathKind (stackOf goals height (now (graph .entry))) step head ⌝ }
 {
     if height <= head {
         return step;
     }
-    let mut kind = step;
-    let mut i = height;
-    while head + 1 < i {
-        i = i - 1;
-        let f = frame_at(graph, goals, i);
-        kind = kind.extend(frame::step_kind(f, goals));
-    }
-    kind
+    let above = steps_of(graph, goals, height) - steps_of(graph, goals, head + 1);
+    steps::latest(steps::with(above, step))
 }
 
 // Whether one of the nested goals is on the stack.

@@ -1,4 +1,5 @@
 pub mod Choices
 pub mod Nested
 pub mod Insertions
+pub mod Counts
 pub mod Turns

@@ -6,15 +6,16 @@ use mathlib.Core.List.{List}
 use Prim.Native.Nat.{ℕ, _+_}
 use Rattle.definition.specs.declared.answers.Answer.{Answer}
 use Rattle.definition.specs.declared.answers.RebaseReason.{RebaseReason}
+use Rattle.definition.specs.Stack.{CountsTrue}
 use Rattle.definition.specs.Graph.{Graph}
 use Rattle.definition.specs.Task as task
-use Rattle.layout.specs.Work.{graphOf}
+use Rattle.layout.specs.Work.{stackOf, graphOf}
 use Rattle.stack.specs.Bytes.{frameAt}
 use Rattle.evaluation.specs.declared.Outcome.{Outcome}
 use Rattle.evaluation.specs.declared.TaskOutcome.{TaskOutcome}
 use Rattle.evaluation.specs.Outcomes.{outcomeOf, taskOutcomeOf, FewTaskEntries}
 use Rattle.task.specs.declared.Iteration.{Iteration}
-use Rattle.task.specs.Turns.{rerunBy, turn, turned, FewTurned}
+use Rattle.task.specs.Turns.{rerunBy, turn, turned, CountsTurned, FewTurned}
 
 pub record TaskRebased (goals own n : ℕ) (reason : RebaseReason) (overflow : Bool) (answer : Answer)
     (old new : List ℕ) (r : TaskOutcome) : Type 0 where
@@ -28,6 +29,7 @@ pub record RunAgain (goals own n left : ℕ) (overflow : Bool) (answer : Answer)
       → rerunBy left next overflow (graphOf goals root own n old cache) (frameAt goals own old) answer
       ≡ turned goals root (own + 1) next new cache r
   pub few : FewTurned goals left r
+  pub counts : CountsTrue (stackOf goals (own + 1) old) → CountsTurned (stackOf goals (own + 1) new) r
 
 pub record FramePopped (goals own n left : ℕ) (overflow : Bool) (answer : Answer) (old new : List ℕ) (r : Iteration) : Type 0 where
   pub is : (root : ℕ) (cache : List ℕ) (next : Bool → Graph → task.TaskOutcome)
@@ -35,8 +37,10 @@ pub record FramePopped (goals own n left : ℕ) (overflow : Bool) (answer : Answ
       (graphOf goals root own n old cache) (frameAt goals own old) answer
       ≡ turned goals root (own + 1) next new cache r
   pub few : FewTurned goals left r
+  pub counts : CountsTrue (stackOf goals (own + 1) old) → CountsTurned (stackOf goals (own + 1) new) r
 
 pub record TurnTaken (goals height left : ℕ) (overflow : Bool) (o : Outcome) (old new : List ℕ) (r : Iteration) : Type 0 where
   pub is : (root : ℕ) (cache : List ℕ) (next : Bool → Graph → task.TaskOutcome)
       → turn left next overflow (outcomeOf goals root height old cache o) ≡ turned goals root height next new cache r
   pub few : FewTurned goals left r
+  pub counts : CountsTurned (stackOf goals height new) r

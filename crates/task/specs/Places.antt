@@ -2,22 +2,25 @@
 use mathlib.Core.List.{List}
 use Prim.Native.Nat.{ℕ, _*_, _≤_, _<_}
 use Rattle.definition.specs.declared.format.Header.{Header}
-use Rattle.stack.specs.Bytes.{GraphBytes}
+use Rattle.layout.specs.Work.{stackOf}
+use Rattle.stack.specs.Bytes.{GraphBytes, StackBytes}
 use Rattle.global_cache.specs.Cache.{CacheBytes}
 use Rattle.evaluation.specs.declared.Outcome.{Outcome}
 use Rattle.evaluation.specs.declared.TaskOutcome.{TaskOutcome}
-use Rattle.evaluation.specs.Outcomes.{FewEntries, FewTaskEntries}
+use Rattle.evaluation.specs.Outcomes.{CountsIn, TaskCountsIn, FewEntries, FewTaskEntries}
 
 -- after an iteration of the frame on top
 pub record IterationEnded (goals height : ℕ) (graph : List ℕ) (o : Outcome) : Type 0 where
   pub bytes : GraphBytes goals graph
   pub low : 1 ≤ height
   pub high : height ≤ goals
+  pub counts : CountsIn (stackOf goals height graph) o
   pub few : FewEntries goals o
 
 -- after the last iteration of the frame that stood at index `height`
 pub record TaskEnded (h : Header) (height goal : ℕ) (graph cache : List ℕ) (o : TaskOutcome) : Type 0 where
   pub bytes : GraphBytes (h .goals) graph
+  pub counts : TaskCountsIn (stackOf (h .goals) height graph) o
   pub cache-bytes : CacheBytes (h .goals) (h .top) cache
   pub under : height < h .goals
   pub known : goal < h .goals
@@ -25,7 +28,7 @@ pub record TaskEnded (h : Header) (height goal : ℕ) (graph cache : List ℕ) (
 
 -- the goal's result goes to the provisional cache
 pub record Room (h : Header) (height entries goal : ℕ) (graph : List ℕ) : Type 0 where
-  pub bytes : GraphBytes (h .goals) graph
+  pub stack : StackBytes (h .goals) height graph
   pub under : height < h .goals
   pub known : goal < h .goals
   pub few : entries ≤ 2 * h .goals

@@ -5,7 +5,7 @@ use mathlib.Core.List.{List}
 use Prim.Native.Nat.{ℕ, zero, suc, _-_, _*_, _≤_, _<_}
 use Rattle.definition.specs.declared.answers.Answer.{Answer}
 use Rattle.definition.specs.declared.answers.RebaseReason.{RebaseReason}
-use Rattle.definition.specs.Stack.{Frame}
+use Rattle.definition.specs.Stack.{Frame, Stack, CountsTrue}
 use Rattle.definition.specs.Graph.{Graph, Outcome}
 use Rattle.definition.specs.Task as task
 use Rattle.layout.specs.Work.{graphOf}
@@ -39,6 +39,11 @@ turn left next overflow o = task.iteration (rerunBy left next) overflow o
 unfoldable pub turned : ℕ → ℕ → ℕ → (Bool → Graph → task.TaskOutcome) → List ℕ → List ℕ → Iteration → task.TaskOutcome
 turned goals root height next bs cache (End t) = taskOutcomeOf goals root (height - 1) bs cache t
 turned goals root height next bs cache (Again met n) = next met (graphOf goals root height n bs cache)
+
+-- where there is a next turn, the counts of steps on the stack s are true
+abbrev pub CountsTurned : Stack → Iteration → Type 0
+CountsTurned s (End t) = Unit {0}
+CountsTurned s (Again met n) = CountsTrue s
 
 -- no more entries than the graph has room for, and no turn where none is left
 abbrev pub FewTurned : ℕ → ℕ → Iteration → Type 0

@@ -12,7 +12,7 @@ use stack::frame;
 ghost use mathlib.Core.Path.{_≡_};
 ghost use Prim.Native.Nat.{_*_, _≤_, _<_};
 ghost use lib.ListN.{length};
-ghost use Rattle.stack.specs.Bytes.{GraphBytes};
+ghost use Rattle.stack.specs.Bytes.{GraphBytes, StackBytes};
 ghost use Rattle.task.specs.Places.{IterationEnded, TaskEnded};
 ghost use Rattle.task.specs.Iterations.{TaskRebased, RunAgain, FramePopped, TurnTaken};
 ghost use Rattle.task.specs.Results.{ParentUpdated, Finished};
@@ -39,7 +39,7 @@ fn rebased(
     overflow: bool,
     answer: Answer,
 ) -> TaskOutcome
-    requires { ⌜ GraphBytes goals (now graph) × ((own < goals) × (entries ≤ 2 * goals)) ⌝ }
+    requires { ⌜ StackBytes goals own (now graph) × ((own < goals) × (entries ≤ 2 * goals)) ⌝ }
     ensures { λ r. ⌜ TaskRebased goals own entries reason overflow answer
         (now (graph .entry)) (now (graph .exit)) r ⌝ }
 {
@@ -59,7 +59,7 @@ fn again(
     overflow: bool,
     answer: Answer,
 ) -> Iteration
-    requires { ⌜ GraphBytes goals (now graph) × ((own < goals) × (entries ≤ 2 * goals)) ⌝ }
+    requires { ⌜ StackBytes goals own (now graph) × ((own < goals) × (entries ≤ 2 * goals)) ⌝ }
     ensures { λ r. ⌜ RunAgain goals own entries left overflow answer
         (now (graph .entry)) (now (graph .exit)) r ⌝ }
 {
@@ -92,7 +92,7 @@ fn popped(
     overflow: bool,
     answer: Answer,
 ) -> Iteration
-    requires { ⌜ GraphBytes goals (now graph) × ((own < goals) × (entries ≤ 2 * goals)) ⌝ }
+    requires { ⌜ StackBytes goals own (now graph) × ((own < goals) × (entries ≤ 2 * goals)) ⌝ }
     ensures { λ r. ⌜ FramePopped goals own entries left overflow answer
         (now (graph .entry)) (now (graph .exit)) r ⌝ }
 {

@@ -17,7 +17,7 @@ lookup-at-depth-requires c κs =
     let p = c .before .before .depth in
     let allowed-depth-for-nested = c .before .before .before .before .allowed-depth-for-nested in
     record {
-      graph = record { bytes = q .bytes; height = q .height; entries = q .entries };
+      graph = q .graph;
       cache = q .cache;
       goal = q .goal;
       available = allowed-depth-for-nested .ensures .small (p .given .0 .0) (p .given .1);
@@ -41,6 +41,7 @@ returns c =
           (p .given .1)
           ∙ y .ensures .is (a .root) compute;
       low = y .ensures .low;
+      missed = y .ensures .missed;
     }
 
 enum-told : tie.Need-enum-told
@@ -66,6 +67,7 @@ returns-2 c =
           (a .cache .now) (allowed-depth-for-nested .result) (allowed-depth-for-nested .ensures .is (a .h) refl) compute
           (enum-told .given .1) (y .last .0) (y .ensures .stack) (y .ensures .entries);
       low = λ d e. known-pushes answer.Overflow d e;
+      missed = λ d e. known-pushes answer.Overflow d e;
     }
 
 pub lookup-spec : {M : Type 1} → statement M

@@ -1,3 +1,6 @@
+use mathlib.Core.Path.{_∙_, sym, subst}
+use Rattle.stack.specs.Bytes.{StackBytes}
+use Rattle.lookup.specs.Lookups.{Counted}
 use Rattle.lookup.proofs.Hits.{known-pushes, push-small, at-entry, at-slot, at-cycle, at-push}
 use borrow.Author.Needs.{needs}
 use Rattle.lookup.proofs.lookup_at_depth.Statement.{statement}
@@ -24,13 +27,22 @@ returns c =
           (a .graph .now) (lookup-provisional-cache .last .0) (lookup-provisional-cache .result)
           (lookup-provisional-cache .ensures .is root (a .cache .now)) (p .given .0 .0) (p .given .1);
       low = λ d e. known-pushes (p .given .0 .0) d e;
+      missed = λ d e. known-pushes (p .given .0 .0) d e;
     }
 
 enum-told : tie.Need-enum-told
 enum-told c = search needs
 
 lookup-global-cache-requires : tie.Need-lookup-global-cache-requires
-lookup-global-cache-requires c κs = search needs
+lookup-global-cache-requires c κs =
+    let s = c .before .before .before .before .before .before .before .before .before in
+    let a = s .args in
+    record {
+      graph = subst (Counted (a .h .goals) (a .height) (a .entries)) (sym (c .before .before .before .before .before .lookup-provisional-cache .ensures .missed (c .before .enum-told .given .1))) (s .pre .graph);
+      cache = s .pre .cache;
+      goal = s .pre .goal;
+      available = s .pre .available;
+    }
 
 enum-known-global : tie.Need-enum-known-global
 enum-known-global c = search needs
@@ -55,13 +67,19 @@ returns-2 c =
           (lookup-provisional-cache .ensures .missed (enum-told .given .1)) (lookup-global-cache .last .1 .0)
           (lookup-global-cache .result) (lookup-global-cache .ensures .is root) (p .given .0 .0) (p .given .1);
       low = λ d e. known-pushes (p .given .0 .0) d e;
+      missed = λ d e. known-pushes (p .given .0 .0) d e;
     }
 
 enum-told-2 : tie.Need-enum-told-2
 enum-told-2 c = search needs
 
 check-cycle-on-stack-requires : tie.Need-check-cycle-on-stack-requires
-check-cycle-on-stack-requires c κs = search needs
+check-cycle-on-stack-requires c κs =
+    let s = c .before .before .before .before .before .before .before .before .before .before .before .before .before .before .before in
+    let a = s .args in
+    subst (StackBytes (a .h .goals) (a .height))
+    (sym (c .before .before .before .before .before .lookup-global-cache .ensures .missed (c .before .enum-told2 .given .1) ∙ c .before .before .before .before .before .before .before .before .before .before .before .lookup-provisional-cache .ensures .missed (c .before .before .before .before .before .before .before .enum-told .given .1)))
+    (s .pre .graph .stack)
 
 enum-known-cycle : tie.Need-enum-known-cycle
 enum-known-cycle c = search needs
@@ -91,6 +109,7 @@ returns-3 c =
           (lookup-global-cache .ensures .missed (enum-told2 .given .1)) (check-cycle-on-stack .last .0) (check-cycle-on-stack .result)
           (check-cycle-on-stack .ensures .is root (a .entries) (a .cache .now)) (p .given .0 .0) (p .given .1);
       low = λ d e. known-pushes (p .given .0 .0) d e;
+      missed = λ d e. known-pushes (p .given .0 .0) d e;
     }
 
 enum-told-3 : tie.Need-enum-told-3
@@ -121,6 +140,9 @@ returns-4 c =
           (check-cycle-on-stack .ensures .is root (a .entries) (a .cache .now)) (enum-told3 .given .1)
           (check-cycle-on-stack .ensures .missed (enum-told3 .given .1));
       low = λ d e. push-small (a .available) d (s .pre .available) e;
+      missed =
+          λ d e. check-cycle-on-stack .ensures .missed (enum-told3 .given .1)
+          ∙ lookup-global-cache .ensures .missed (enum-told2 .given .1) ∙ lookup-provisional-cache .ensures .missed (enum-told .given .1);
     }
 
 pub lookup-at-depth-spec : {M : Type 1} → statement M

@@ -4,7 +4,7 @@ use native.Mathlib.Omega.{arith}
 use Rattle.definition.specs.Parent.{ProvisionalCacheHit}
 use Rattle.layout.specs.Work.{entryStart}
 use Rattle.buffer.specs.Regions.{region}
-use Rattle.layout.specs.Entry.{entrySize, entryOf}
+use Rattle.layout.specs.Entry.{entryHeadsStart, entrySize, entryOf}
 use Rattle.parent.proofs.Update as update
 use borrow.Author.Needs.{needs}
 use Rattle.parent.proofs.update_from_entry.Statement.{statement}
@@ -23,7 +23,7 @@ sub-add-heads : tie.Need-sub-add-heads
 sub-add-heads c = omega arith
 
 add-heads-requires : tie.Need-add-heads-requires
-add-heads-requires c κs = let s = c .before .before .before .before in let a = s .args in let e = ap (λ (x : ℕ). x + 8) (c .before .entry-start .ensures .0) in let lt : a .height - 1 < a .goals = omega arith in (s .pre .0, (lt, (update.entry-behind (a .goals) (a .height - 1) (a .i) (c .before .entry-start .result + 8) lt e, update.entry-fits (a .goals) (a .graph .now) (a .i) (c .before .entry-start .result + 8) (s .pre .0 .long) (s .pre .1 .1) e)))
+add-heads-requires c κs = let s = c .before .before .before .before in let a = s .args in let e = ap (λ (x : ℕ). x + entryHeadsStart) (c .before .entry-start .ensures .0) in let lt : a .height - 1 < a .goals = omega arith in (s .pre .0, (lt, (update.entry-behind (a .goals) (a .height - 1) (a .i) (c .before .entry-start .result + entryHeadsStart) lt e, update.entry-fits (a .goals) (a .graph .now) (a .i) (c .before .entry-start .result + entryHeadsStart) (s .pre .0 .long) (s .pre .1 .1) e)))
 
 sub-add-entry : tie.Need-sub-add-entry
 sub-add-entry c = omega arith
@@ -35,7 +35,7 @@ same-length : tie.Need-same-length
 same-length c = search needs
 
 returns-2 : tie.Need-returns-2
-returns-2 c = let a = c .before .before .before .before .before .before .before .before .before .before .before .args in let y = c .before .before .before .before .before .before .add-heads in let z = c .before .before .add-entry in update.update-entry (a .goals) (a .height) (a .i) (c .before .before .before .before .before .before .before .before .entry-start .result + 8) (a .graph .now) (y .last .0) (z .last .0) (a .step) (a .overflow) (a .reached) (omega arith) (ap (λ (x : ℕ). x + 8) (c .before .before .before .before .before .before .before .before .entry-start .ensures .0)) (y .ensures) (z .ensures)
+returns-2 c = let a = c .before .before .before .before .before .before .before .before .before .before .before .args in let y = c .before .before .before .before .before .before .add-heads in let z = c .before .before .add-entry in update.update-entry (a .goals) (a .height) (a .i) (c .before .before .before .before .before .before .before .before .entry-start .result + entryHeadsStart) (a .graph .now) (y .last .0) (z .last .0) (a .step) (a .overflow) (a .reached) (omega arith) (ap (λ (x : ℕ). x + entryHeadsStart) (c .before .before .before .before .before .before .before .before .entry-start .ensures .0)) (y .ensures) (z .ensures)
 
 pub update-from-entry-spec : {M : Type 1} → statement M
 update-from-entry-spec =

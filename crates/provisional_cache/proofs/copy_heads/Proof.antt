@@ -1,5 +1,6 @@
 use mathlib.Core.Path.{ap}
 use Prim.Native.Nat.{ℕ, _+_}
+use Rattle.layout.specs.Entry.{entryHeadsStart}
 use Rattle.provisional_cache.proofs.Writes.{copy-room, copy-is}
 use borrow.Author.Needs.{needs}
 use Rattle.provisional_cache.proofs.copy_heads.Statement.{statement}
@@ -26,9 +27,9 @@ copy-up-requires c κs =
     let frame-start = c .before .before .before .frame-start in
     let entry-start = c .before .before .entry-start in
     let heads-size = c .heads-size in
-    copy-room (s .args .goals) (s .args .height) (s .args .i) (frame-start .result + 40) (entry-start .result + 8) (heads-size .result)
+    copy-room (s .args .goals) (s .args .height) (s .args .i) (frame-start .result + 40) (entry-start .result + entryHeadsStart) (heads-size .result)
     (s .args .graph .now) (s .pre .0) (s .pre .1 .0) (s .pre .1 .1) (ap (λ (x : ℕ). x + 40) (frame-start .ensures .0))
-    (ap (λ (x : ℕ). x + 8) (entry-start .ensures .0)) (heads-size .ensures)
+    (ap (λ (x : ℕ). x + entryHeadsStart) (entry-start .ensures .0)) (heads-size .ensures)
 
 same-length : tie.Need-same-length
 same-length c = search needs
@@ -40,9 +41,9 @@ returns c =
     let entry-start = c .before .before .before .before .before .entry-start in
     let heads-size = c .before .before .before .heads-size in
     let copy-up = c .before .before .copy-up in
-    copy-is (s .args .goals) (s .args .height) (s .args .i) (frame-start .result + 40) (entry-start .result + 8) (heads-size .result)
+    copy-is (s .args .goals) (s .args .height) (s .args .i) (frame-start .result + 40) (entry-start .result + entryHeadsStart) (heads-size .result)
     (s .args .graph .now) (copy-up .last .0) (ap (λ (x : ℕ). x + 40) (frame-start .ensures .0))
-    (ap (λ (x : ℕ). x + 8) (entry-start .ensures .0)) (heads-size .ensures) (copy-up .ensures)
+    (ap (λ (x : ℕ). x + entryHeadsStart) (entry-start .ensures .0)) (heads-size .ensures) (copy-up .ensures)
 
 pub copy-heads-spec : {M : Type 1} → statement M
 copy-heads-spec =

@@ -23,16 +23,16 @@ loop-holds : tie.Need-loop-holds Inv-loop μ-loop
 loop-holds c = (omega arith, refl)
 
 entry-at-requires : tie.Need-entry-at-requires Inv-loop μ-loop
-entry-at-requires c κs = let s = c .before .before .before in (s .pre .0, omega arith)
+entry-at-requires c κs = let s = c .before .before .before in (s .pre .0 .bytes, omega arith)
 
 is-match-requires : tie.Need-is-match-requires Inv-loop μ-loop
 is-match-requires c κs =
     let s = c .before .before .before .before in
     let lt : c .before .before .loop .i < 2 * s .args .goals = omega arith in
     let entry-at = c .entry-at in (
-      entry-bytes (s .args .goals) (s .args .graph .now) (entry-at .result .now) (c .before .before .loop .i) (s .pre .0) lt
+      entry-bytes (s .args .goals) (s .args .graph .now) (entry-at .result .now) (c .before .before .loop .i) (s .pre .0 .bytes) lt
           (entry-at .ensures),
-      (s .pre .0, s .pre .1 .0),
+      s .pre .0,
     )
 
 returns : tie.Need-returns Inv-loop μ-loop

@@ -17,7 +17,7 @@ path-from-head-requires : tie.Need-path-from-head-requires
 path-from-head-requires c κs = search needs
 
 write-entry-requires : tie.Need-write-entry-requires
-write-entry-requires c κs = let s = c .before .before .before .before .before in (s .pre .0, (s .pre .1 .0, (omega arith, s .pre .1 .1)))
+write-entry-requires c κs = let s = c .before .before .before .before .before in (s .pre .0 .bytes, (s .pre .1 .0, (omega arith, s .pre .1 .1)))
 
 same-length : tie.Need-same-length
 same-length c = search needs

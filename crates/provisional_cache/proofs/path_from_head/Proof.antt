@@ -12,7 +12,7 @@ heads-requires : tie.Need-heads-requires
 heads-requires c κs =
     let s = c .before .before in
     let frame-at = c .frame-at in
-    frame-bytes (s .args .goals) (s .args .graph .now) (frame-at .result .now) (s .args .height) (s .pre .0) (s .pre .1)
+    frame-bytes (s .args .goals) (s .args .graph .now) (frame-at .result .now) (s .args .height) (s .pre .0 .bytes) (s .pre .1)
     (frame-at .ensures)
 
 highest-requires : tie.Need-highest-requires
@@ -21,7 +21,7 @@ highest-requires c κs =
     let frame-at = c .before .frame-at in
     let heads = c .heads in
     heads-block (s .args .goals) (frame-at .result .now) (heads .result .now)
-    (frame-bytes (s .args .goals) (s .args .graph .now) (frame-at .result .now) (s .args .height) (s .pre .0) (s .pre .1)
+    (frame-bytes (s .args .goals) (s .args .graph .now) (frame-at .result .now) (s .args .height) (s .pre .0 .bytes) (s .pre .1)
     (frame-at .ensures)) (heads .ensures)
 
 cycle-path-kind-requires : tie.Need-cycle-path-kind-requires

@@ -15,7 +15,7 @@ step-kind-requires : tie.Need-step-kind-requires
 step-kind-requires c κs =
     let s = c .before .before in
     let frame-at = c .frame-at in
-    frame-bytes (s .args .goals) (s .args .graph .now) (frame-at .result .now) (s .args .popped) (s .pre .0) (s .pre .1)
+    frame-bytes (s .args .goals) (s .args .graph .now) (frame-at .result .now) (s .args .popped) (s .pre .0 .bytes) (s .pre .1)
     (frame-at .ensures)
 
 cycle-path-kind-requires : tie.Need-cycle-path-kind-requires

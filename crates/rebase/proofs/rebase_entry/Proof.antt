@@ -6,7 +6,7 @@ use Rattle.layout.proofs.Graphs.{length-stack}
 use Rattle.stack.specs.Bytes.{frameAt}
 use Rattle.provisional_cache.specs.Entries.{entryAt}
 use Rattle.provisional_cache.proofs.Entries.{entry-bytes}
-use Rattle.provisional_cache.proofs.Loops.{graph-bytes, read-at}
+use Rattle.provisional_cache.proofs.Loops.{stack-bytes, read-at}
 use Rattle.rebase.specs.Rebased.{keptEntry}
 use Rattle.rebase.proofs.Writes.{others-same, others-then, frame-after, stack-after}
 use Rattle.rebase.proofs.Entries.{entry-other, entry-dropped, entry-under}
@@ -21,7 +21,7 @@ highest-head-requires : tie.Need-highest-head-requires
 highest-head-requires c κs =
     let s = c .before .before .before in
     let entry-at = c .entry-at in
-    entry-bytes (s .args .goals) (s .args .graph .now) (entry-at .result .now) (s .args .k) (s .pre .0) (s .pre .1 .1) (entry-at .ensures)
+    entry-bytes (s .args .goals) (s .args .graph .now) (entry-at .result .now) (s .args .k) (s .pre .0 .bytes) (s .pre .1 .1) (entry-at .ensures)
 
 same-length : tie.Need-same-length
 same-length c = search needs
@@ -71,8 +71,11 @@ returns-2 c =
 rebase-path-requires : tie.Need-rebase-path-requires
 rebase-path-requires c κs =
     let c4 = c .before .before .before .before in let s = c4 .before .before .before .before .before .before .before in
-    let rebase-heads = c4 .rebase-heads in
-    (graph-bytes (s .args .goals) (s .args .graph .now) (rebase-heads .last .0) (s .pre .0) (rebase-heads .kept .0), s .pre .1)
+    let rebase-heads = c4 .rebase-heads in (
+      stack-bytes (s .args .goals) (s .args .popped) (s .args .graph .now) (rebase-heads .last .0) (s .pre .0) (rebase-heads .kept .0)
+          (rebase-heads .ensures .others .frames),
+      s .pre .1,
+    )
 
 same-length-3 : tie.Need-same-length-3
 same-length-3 c = search needs

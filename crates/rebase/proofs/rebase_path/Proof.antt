@@ -15,7 +15,7 @@ is-empty-requires : tie.Need-is-empty-requires
 is-empty-requires c κs =
     let s = c .before .before .before in
     let entry-heads = c .entry-heads in
-    entry-heads-at (s .args .goals) (s .args .k) (s .args .graph .now) (entry-heads .result .now) (s .pre .0) (s .pre .1 .1)
+    entry-heads-at (s .args .goals) (s .args .k) (s .args .graph .now) (entry-heads .result .now) (s .pre .0 .bytes) (s .pre .1 .1)
     (entry-heads .ensures)
 
 same-length : tie.Need-same-length
@@ -39,7 +39,7 @@ highest-requires : tie.Need-highest-requires
 highest-requires c κs =
     let s = c .before .before .before .before .before in
     let entry-heads = c .before .before .entry-heads in
-    entry-heads-at (s .args .goals) (s .args .k) (s .args .graph .now) (entry-heads .result .now) (s .pre .0) (s .pre .1 .1)
+    entry-heads-at (s .args .goals) (s .args .k) (s .args .graph .now) (entry-heads .result .now) (s .pre .0 .bytes) (s .pre .1 .1)
     (entry-heads .ensures)
 
 path-to-popped-requires : tie.Need-path-to-popped-requires

@@ -1,6 +1,6 @@
 use native.Mathlib.Omega.{arith}
 use Prim.Native.Nat.{_-_}
-use Rattle.provisional_cache.proofs.Loops.{graph-bytes}
+use Rattle.provisional_cache.proofs.Loops.{graph-bytes, stack-bytes}
 use Rattle.rebase.proofs.Rounds.{Rebasing, rebasing-start, rebasing-next, rebasing-done}
 use Rattle.rebase.proofs.rebase_provisional_cache_entries.Statement.{statement}
 use Rattle.rebase.proofs.rebase_provisional_cache_entries.Tie as tie
@@ -19,7 +19,7 @@ rebase-entry-requires c κs =
     let s = c .before .before .before .before in
     let a = s .args in
     let l = c .before .before .loop in
-    (graph-bytes (a .goals) (a .graph .now) (l .graph) (s .pre .0) (l .inv .same-length), (s .pre .1 .0, omega arith))
+    (stack-bytes (a .goals) (a .popped) (a .graph .now) (l .graph) (s .pre .0) (l .inv .same-length) (l .inv .frames), (s .pre .1 .0, omega arith))
 
 keep-if-requires : tie.Need-keep-if-requires Inv-loop μ-loop
 keep-if-requires c κs =
@@ -28,7 +28,7 @@ keep-if-requires c κs =
     let l = c .before .before .before .before .before .before .loop in
     let rebase-entry = c .before .before .before .rebase-entry in (
       graph-bytes (a .goals) (l .graph) (rebase-entry .last .0)
-          (graph-bytes (a .goals) (a .graph .now) (l .graph) (s .pre .0) (l .inv .same-length)) (rebase-entry .kept .0),
+          (graph-bytes (a .goals) (a .graph .now) (l .graph) (s .pre .0 .bytes) (l .inv .same-length)) (rebase-entry .kept .0),
       (l .inv .kept-few, omega arith),
     )
 

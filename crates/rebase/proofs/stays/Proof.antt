@@ -16,7 +16,7 @@ path-from-head-requires : tie.Need-path-from-head-requires
 path-from-head-requires c κs =
     let s = c .before .before in
     let entry-at = c .entry-at in
-    entry-bytes (s .args .goals) (s .args .graph .now) (entry-at .result .now) (s .args .k) (s .pre .0) (s .pre .1 .1) (entry-at .ensures)
+    entry-bytes (s .args .goals) (s .args .graph .now) (entry-at .result .now) (s .args .k) (s .pre .0 .bytes) (s .pre .1 .1) (entry-at .ensures)
 
 paths-keep-kind-requires : tie.Need-paths-keep-kind-requires
 paths-keep-kind-requires c κs = search needs
@@ -36,7 +36,7 @@ result-requires : tie.Need-result-requires
 result-requires c κs =
     let s = c .before .before .before .before .before in
     let entry-at = c .before .before .before .entry-at in
-    entry-bytes (s .args .goals) (s .args .graph .now) (entry-at .result .now) (s .args .k) (s .pre .0) (s .pre .1 .1) (entry-at .ensures)
+    entry-bytes (s .args .goals) (s .args .graph .now) (entry-at .result .now) (s .args .k) (s .pre .0 .bytes) (s .pre .1 .1) (entry-at .ensures)
 
 reason-keeps-requires : tie.Need-reason-keeps-requires
 reason-keeps-requires c κs = search needs

@@ -7,12 +7,15 @@ use lib.ListN.{length}
 use Prim.Native.Nat.{ℕ, _+_, _-_, _*_, _<_}
 use Rattle.book.specs.Lines.{lineIn}
 use Rattle.book.proofs.Walk.{a-line, first-reads}
+use Rattle.definition.specs.Stack.{CountsTrue}
+use Rattle.search_graph.specs.Between.{stackIn}
 use Rattle.search_graph.specs.Calls.{Running, computed, partFrom, taskFrom, Comes, keptBelow}
 use Rattle.search_graph.proofs.Cycle.{rank, lower, fewer, work-next, cache-next, running-next, known, full, framed}
+use Rattle.search_graph.proofs.Cycle.{part-counts, task-counts, looked-counts, pushed-counts, ran-counts}
 use Rattle.search_graph.proofs.Cycle.{Turn, turn-starts, turn-ends, turn-left, turn-again}
 use Rattle.search_graph.proofs.Walks.{call-known, call-comes, undecided-comes, comes-as, passed, none-left}
 use Rattle.search_graph.proofs.Walks.{GroupWalk, group-starts, group-ends, group-stops, group-next}
-use Rattle.search_graph.proofs.Walks.{PickWalk, pickFrom, pick-starts, pick-whole, pick-ends, pick-stops, pick-next}
+use Rattle.search_graph.proofs.Walks.{PickWalk, pickFrom, entered-counts, pick-starts, pick-whole, pick-ends, pick-stops, pick-next}
 use borrow.Fn.Kinds.{In, Out}
 use borrow.Fn.PlainCycle.{Measures, is, falls, and}
 use Rattle.search_graph.proofs.evaluate.Reads as evaluate
@@ -169,7 +172,7 @@ evaluate-push-requires : (t : ℕ) → evaluate-lts.Need-push-requires (evaluate
 evaluate-push-requires t c κs =
     let room = c .before in let told = room .before in let up = evaluate-looked told in let s = evaluate-start up in
     let run = s .pre .1 .0 in let lt = room .if1 .left in let known = s .pre .1 .1 in let few = run .bytes .few in (
-      work-next _ (run .bytes) (up .look-up .kept .1 .0),
+      (work-next _ (run .bytes) (up .look-up .kept .1 .0), looked-counts run (up .look-up .ensures) (told .before .found2 .given .1)),
       (omega arith, (omega arith, up .look-up .ensures .low _ (told .before .found2 .given .1))),
     )
 
@@ -187,6 +190,15 @@ evaluate-one-less-requires t c κs = search needs
 evaluate-add-rerun : (t : ℕ) → evaluate-lts.Need-add-rerun (evaluate-claims t) (evaluate-at t) evaluate.Post
 evaluate-add-rerun t c = search needs
 
+-- the counts with the new frame
+evaluate-counted : (t : ℕ) (c : evaluate-lts.After-push (evaluate-claims t) (evaluate-at t) evaluate.Post)
+    → let a = evaluate-start (evaluate-looked (evaluate-room c .before)) .args in
+    CountsTrue (stackIn (a .h .goals) (a .height + 1) (c .push .last .0))
+evaluate-counted t c =
+    let told = evaluate-room c .before in let up = evaluate-looked told in let s = evaluate-start up in let a = s .args in
+    pushed-counts (a .h .goals) (a .height) (a .goal) (a .step) _ (c .push .ensures)
+    (looked-counts (s .pre .1 .0) (up .look-up .ensures) (told .before .found2 .given .1))
+
 evaluate-rerun-requires : (t : ℕ) → evaluate-lts.Need-rerun-requires (evaluate-claims t) (evaluate-at t) evaluate.Post
 evaluate-rerun-requires t c κs =
     let less = c .before .before in let pushed = evaluate-pushed less in let room = evaluate-room pushed in
@@ -199,7 +211,7 @@ evaluate-rerun-requires t c κs =
           (omega arith) (omega arith),
       (
         running-next _ _ (a .height + 1) (a .entries) run refl (pushed .push .kept .0 ∙ up .look-up .kept .1 .0)
-            (omega arith) (run .entries),
+            (omega arith) (run .entries) (evaluate-counted t pushed),
         (
           omega arith,
           (
@@ -214,9 +226,10 @@ evaluate-rerun-requires t c κs =
 evaluate-finish-requires : (t : ℕ)
     → evaluate-lts.Need-finish-requires (evaluate-claims t) (evaluate-at t) evaluate.Post
 evaluate-finish-requires t c κs =
-    let ran = c .before .before .before .before .before .before in let pushed = evaluate-pushed (evaluate-less ran) in
+    let ran = c .before .before .before .before .before .before in let less = evaluate-less ran in
+    let pushed = evaluate-pushed less in
     let room = evaluate-room pushed in let up = evaluate-looked (room .before) in
-    let s = evaluate-start up in let run = s .pre .1 .0 in
+    let s = evaluate-start up in let a = s .args in let run = s .pre .1 .0 in
     let lt = room .if1 .left in
     record {
       bytes = work-next _ (run .bytes)
@@ -225,6 +238,10 @@ evaluate-finish-requires t c κs =
       stack = omega arith;
       known = s .pre .1 .1;
       few = ran .rerun .ensures .few;
+      counts =
+          ran-counts (a .h .goals) (a .height) _ (ran .rerun .result)
+          (task-counts (a .book .now) (a .h) (a .root) (a .height + 1) (a .entries) (pushed .push .last .0) (a .cache .now)
+          (evaluate-counted t pushed) (less .before .of-goal .result .now) (less .one-less .result) (ran .rerun .ensures));
     }
 
 evaluate-same-length-3 : (t : ℕ) → evaluate-lts.Need-same-length-3 (evaluate-claims t) (evaluate-at t) evaluate.Post
@@ -332,7 +349,7 @@ group-running : (t : ℕ)
     (c .loop .group .entries)
 group-running t c =
     let run = group-entry c .pre .1 .0 in let inv = c .loop .inv in
-    running-next _ _ _ _ run (inv .1 .1) (inv .1 .0) (run .stack) (inv .0 .few)
+    running-next _ _ _ _ run (inv .1 .1) (inv .1 .0) (run .stack) (inv .0 .few) (inv .0 .counts)
 
 -- a part below a group, by either call
 joined : (t : ℕ)
@@ -676,7 +693,7 @@ read-part-read-part-requires-2 t c κs =
       (
         running-next _ _ _ _ run (l .inv .1 .1)
             (entered .enter-candidate .kept .0 ∙ l .inv .1 .0 ∙ pick-begin turn .begin .kept .0) (run .stack)
-            (l .inv .0 .few),
+            (l .inv .0 .few) (entered-counts (entered .enter-candidate .ensures) (l .inv .0 .counts)),
         (
           s .pre .1 .1 .0,
           first-reads (a .h .goals) true (l .k) (l .t .now) (l .inv .0 .parts)
@@ -919,7 +936,7 @@ rerun-loop-holds : (t : ℕ)
     → rerun-lts.Need-loop-holds (rerun-claims t) (rerun-at t) rerun.Post rerun-Inv-loop rerun-μ-loop
 rerun-loop-holds t c =
     let s = c .before .before .before .before .before in
-    (turn-starts (s .pre .1 .0 .entries), (refl, refl))
+    (turn-starts (s .pre .1 .0 .entries) (s .pre .1 .0 .counts), (refl, refl))
 
 rerun-read-part-requires : (t : ℕ)
     → rerun-lts.Need-read-part-requires (rerun-claims t) (rerun-at t) rerun.Post rerun-Inv-loop rerun-μ-loop
@@ -930,7 +947,7 @@ rerun-read-part-requires t c κs =
       lower ((a .h .goals - a .height) * 128 + (a .left + 1)) ((a .h .goals - a .height) * 128 + 0) 0
           (length (a .p .now)) t (s .pre .0) (omega arith) short,
       (
-        running-next _ _ (a .height) _ run (here .1 .1) (here .1 .0) (run .stack) (here .0 .few),
+        running-next _ _ (a .height) _ run (here .1 .1) (here .1 .0) (run .stack) (here .0 .few) (here .0 .counts),
         (s .pre .1 .1 .0, s .pre .1 .1 .1 .1),
       ),
     )
@@ -939,8 +956,12 @@ rerun-end-iteration-requires : (t : ℕ)
     → rerun-lts.Need-end-iteration-requires (rerun-claims t) (rerun-at t) rerun.Post rerun-Inv-loop rerun-μ-loop
 rerun-end-iteration-requires t c κs =
     let read = c .before .before .before .before .before in let turn = rerun-turn read in
-    let s = rerun-start turn in let run = s .pre .1 .0 in (
-      work-next _ (run .bytes) (read .read-part .kept .1 .1 .1 .1 .0 ∙ turn .loop .inv .1 .0),
+    let s = rerun-start turn in let a = s .args in let run = s .pre .1 .0 in (
+      (
+        work-next _ (run .bytes) (read .read-part .kept .1 .1 .1 .1 .0 ∙ turn .loop .inv .1 .0),
+        part-counts (a .book .now) (a .h) (a .root) (a .height) (turn .loop .kept) (turn .loop .work) (turn .loop .cache)
+            (turn .loop .inv .0 .counts) false (a .p .now) (read .read-part .ensures),
+      ),
       (s .pre .1 .1 .0, (run .stack, read .read-part .ensures .few)),
     )
 

@@ -1,4 +1,5 @@
 use native.Mathlib.Omega.{arith}
+use Rattle.task.proofs.Counts.{again-counts}
 use Rattle.task.proofs.Turns.{again-none, again-some}
 use borrow.Author.Needs.{needs}
 use Rattle.task.proofs.again.Statement.{statement}
@@ -20,6 +21,7 @@ returns c =
           λ root cache next. again-none (a .goals) root (a .own) (a .entries) (a .left) (a .graph .now) cache next (a .overflow)
           (a .answer) (if1 .taken) (y .last .0) (y .result) (y .ensures .is root cache);
       few = y .ensures .few;
+      counts = λ true. tt;
     }
 
 clear-for-rerun-requires : tie.Need-clear-for-rerun-requires
@@ -42,6 +44,7 @@ returns-2 c =
           λ root cache next. again-some (a .goals) root (a .own) (a .entries) (a .left) (a .graph .now) cache next (a .overflow)
           (a .answer) (omega arith) (s .pre .1 .0) (y .result) (y .last .0) (z .last .0) (y .ensures) (z .ensures .stack) (z .ensures .entries);
       few = (omega (arith, y .ensures .few), omega arith);
+      counts = again-counts (a .goals) (a .own) (a .answer) (a .graph .now) (y .last .0) (z .last .0) (s .pre .1 .0) (y .ensures .frames) (z .ensures);
     }
 
 pub again-spec : {M : Type 1} → statement M

@@ -1,3 +1,4 @@
+use Rattle.task.proofs.Counts.{popped-stack, turn-counts}
 use native.Mathlib.Omega.{arith}
 use Rattle.evaluation.proofs.Outcomes.{few-done}
 use Rattle.task.proofs.Turns.{turn-stopped, turn-done}
@@ -18,7 +19,7 @@ popped-requires : tie.Need-popped-requires
 popped-requires c κs =
     let s = c .before .before .before .before .before in
     let o = c .before .before .o2 .given in (
-      s .pre .bytes,
+      popped-stack (s .args .goals) (s .args .height) (s .args .graph .now) (s .args .o) (s .pre) (o .0 .0) (o .0 .1 .0) (o .1),
       (omega (arith, s .pre .low, s .pre .high), few-done (s .args .goals) (s .args .o) (o .0 .0) (o .0 .1 .0) (o .1) (s .pre .few)),
     )
 
@@ -31,6 +32,7 @@ returns c =
           λ root cache next. turn-stopped (a .goals) root (a .height) (a .left) next (a .overflow) (a .graph .now) cache (a .o)
           (o .given .0 .0) (o .given .1);
       few = tt;
+      counts = tt;
     }
 
 same-length : tie.Need-same-length
@@ -47,6 +49,9 @@ returns-2 c =
           λ root cache next. turn-done (a .goals) root (a .height) (a .left) next (a .overflow) (a .graph .now) cache (a .o) (o .0 .0)
           (o .0 .1 .0) (o .1) (s .pre .low) (y .last .0) (y .result) (y .ensures .is root cache next);
       few = y .ensures .few;
+      counts =
+          turn-counts (a .goals) (a .height) (a .graph .now) (y .last .0) (a .o) (s .pre) (o .0 .0) (o .0 .1 .0) (o .1) (y .result)
+          (y .ensures .counts);
     }
 
 pub end-iteration-spec : {M : Type 1} → statement M

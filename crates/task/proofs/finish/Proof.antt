@@ -1,6 +1,6 @@
 use mathlib.Core.Path.{_∙_}
 use Rattle.stack.proofs.Graph.{frame-bytes}
-use Rattle.provisional_cache.proofs.Loops.{graph-bytes}
+use Rattle.task.proofs.Counts.{ended-stack, parent-counts}
 use Rattle.task.proofs.Nested.{required-is}
 use Rattle.task.proofs.Insertions.{finish-stopped, finish-evaluated, few-evaluated}
 use borrow.Author.Needs.{needs}
@@ -39,7 +39,9 @@ result-requires c κs =
     record {
       room =
           record {
-            bytes = graph-bytes (a .h .goals) (a .graph .now) (y .last .0) (s .pre .bytes) (y .kept .0);
+            stack = parent-counts (a .h .goals) (a .height) (a .step) _ _ (a .graph .now) (y .last .0)
+                (ended-stack (a .h) (a .height) (a .goal) (a .graph .now) (a .cache .now) (a .o) (s .pre) (o .0 .0) (o .0 .1 .0) (o .0 .1 .1 .0) (o .1))
+                (y .kept .0) (y .ensures);
             under = s .pre .under;
             known = s .pre .known;
             few = few-evaluated (a .h .goals) (a .o) (o .0 .0) (o .0 .1 .0) (o .0 .1 .1 .0) (o .1) (s .pre .few);

@@ -15,7 +15,7 @@ overflow-requires : tie.Need-overflow-requires
 overflow-requires c κs =
     let s = c .before .before .before in
     let frame-at = c .frame-at in
-    frame-bytes (s .args .goals) (s .args .graph .now) (frame-at .result .now) (s .args .own) (s .pre .0) (s .pre .1 .0)
+    frame-bytes (s .args .goals) (s .args .graph .now) (frame-at .result .now) (s .args .own) (s .pre .0 .bytes) (s .pre .1 .0)
     (frame-at .ensures)
 
 either-requires : tie.Need-either-requires
@@ -25,7 +25,7 @@ next-of-requires : tie.Need-next-of-requires
 next-of-requires c κs =
     let s = c .before .before .before .before .before in
     let frame-at = c .before .before .frame-at in
-    frame-bytes (s .args .goals) (s .args .graph .now) (frame-at .result .now) (s .args .own) (s .pre .0) (s .pre .1 .0)
+    frame-bytes (s .args .goals) (s .args .graph .now) (frame-at .result .now) (s .args .own) (s .pre .0 .bytes) (s .pre .1 .0)
     (frame-at .ensures)
 
 enum-told : tie.Need-enum-told
@@ -65,6 +65,7 @@ returns c =
           (next-of .ensures)) (c .enum-told .given .1)
           ∙ finished-turn (a .goals) root (a .own) (a .entries) next (a .graph .now) cache (either .result) (a .answer);
       few = s .pre .1 .1;
+      counts = λ true. tt;
     }
 
 same-length-2 : tie.Need-same-length-2
@@ -93,6 +94,7 @@ returns-2 c =
           ∙ sym (y .ensures .is root cache)
           ∙ end-turn (a .goals) root (a .own) next (y .last .0) cache (y .result);
       few = y .ensures .few;
+      counts = λ true. tt;
     }
 
 same-length-3 : tie.Need-same-length-3
@@ -120,6 +122,7 @@ returns-3 c =
           (next-of .ensures)) (enum-told2 .given .1)
           ∙ y .ensures .is root cache next;
       few = y .ensures .few;
+      counts = y .ensures .counts;
     }
 
 pub popped-spec : {M : Type 1} → statement M

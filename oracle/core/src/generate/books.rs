@@ -199,6 +199,33 @@ pub fn large(r: &mut Random) -> Book {
     of_shape(r, &shape, goals, top)
 }
 
+/// Each goal calls the next, so that all of them come to stand on the stack at once, and some of a few goals further down:
+/// cycles of many steps, of every mix of kinds.
+pub fn deep(r: &mut Random) -> Book {
+    let shape = Shape { lower: r.choose(&[0, 5, 60]), ..Shape::new(some_kinds(r)) };
+    let (goals, top) = (r.between(9, 64), r.between(20, 50));
+    let mut header = header(r, goals, top);
+    header.step_limit = r.choose(&[1, 2, 3]);
+    let heads = [r.below(4), r.below(goals), r.below(goals)];
+    let part = |goal: usize| {
+        let next = (goal + 1 < goals).then(|| shape.call(r, goal + 1));
+        let mut parts: Vec<Part> = next.into_iter().collect();
+        for head in heads.into_iter().filter(|head| *head <= goal) {
+            let more = if r.chance(85) { shape.call(r, head) } else { empty(r) };
+            let place = r.below(parts.len() + 1);
+            if r.chance(40) {
+                parts.insert(place, more);
+            }
+        }
+        match r.below(5) {
+            0 => Part::Pick(parts),
+            1 | 2 => Part::All(parts),
+            _ => Part::Any(parts),
+        }
+    };
+    Book { header, parts: (0..goals).map(part).collect() }
+}
+
 pub fn long(r: &mut Random) -> Book {
     let kinds = some_kinds(r);
     let (goals, top) = (r.between(1, 40), r.between(0, 4));

@@ -36,6 +36,7 @@ pub const CLASSES: &[Class] = &[
     class("uncached", "provisional cache off", |r| honest(r, books::uncached)),
     class("many-entries", "many provisional entries at once", |r| honest(r, books::many_entries)),
     class("large", "17 to 64 goals", |r| honest(r, books::large)),
+    class("deep", "up to 64 goals on the stack at once", |r| honest(r, books::deep)),
     class("long", "up to 1,000 lines", |r| honest(r, books::long)),
     class("extremes", "header fields at their limits", |r| honest(r, books::extremes)),
     class("only-inductive", "calls of kind 0 only", |r| honest(r, books::only_inductive)),

@@ -1,3 +1,4 @@
+use Rattle.layout.specs.Entry.{entryHeadsStart}
 use Rattle.layout.specs.Blocks.{headsSize}
 use Rattle.provisional_cache.proofs.Entries.{heads-part}
 use borrow.Author.Needs.{needs}
@@ -23,7 +24,7 @@ returns : tie.Need-returns
 returns c =
     let a = c .before .before .before .args in
     let heads-size = c .before .heads-size in
-    heads-part (a .entry .now) 8 (heads-size .result) (headsSize (a .goals)) (heads-size .ensures)
+    heads-part (a .entry .now) entryHeadsStart (heads-size .result) (headsSize (a .goals)) (heads-size .ensures)
 
 pub heads-spec : {M : Type 1} → statement M
 heads-spec =

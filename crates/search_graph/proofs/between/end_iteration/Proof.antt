@@ -1,4 +1,6 @@
-use Rattle.search_graph.proofs.Lending.{iteration-ended}
+use Rattle.evaluation.specs.Outcomes.{CountsIn}
+use Rattle.evaluation.proofs.Lent.{lent-bytes}
+use Rattle.search_graph.proofs.Lending.{lent-stack, iteration-ended}
 use borrow.Author.Needs.{needs}
 use Rattle.search_graph.proofs.between.end_iteration.Statement.{statement}
 use Rattle.search_graph.proofs.between.end_iteration.Tie as tie
@@ -16,7 +18,18 @@ part-end-iteration-end : tie.Need-part-end-iteration-end
 part-end-iteration-end c = search needs
 
 end-iteration-requires : tie.Need-end-iteration-requires
-end-iteration-requires c κs = search needs
+end-iteration-requires c κs =
+    let s = c .before .before .before in
+    let graph-length = c .before .graph-length in
+    record {
+      bytes = lent-bytes (s .args .goals) (s .args .work .now) (s .pre .0 .0) (graph-length .result) (graph-length .ensures .0);
+      low = s .pre .1 .0;
+      high = s .pre .1 .1 .0;
+      few = s .pre .1 .1 .1;
+      counts =
+          lent-stack (s .args .goals) (s .args .work .now) (graph-length .result) (s .pre .0 .0) (graph-length .ensures .0)
+          (λ st. CountsIn st (s .args .o)) (s .args .height) (s .pre .0 .1);
+    }
 
 same-length : tie.Need-same-length
 same-length c = search needs
@@ -26,7 +39,7 @@ returns c =
     let s = c .before .before .before .before .before .before in
     let l = c .before .before .end-iteration in
     let graph-length = c .before .before .before .before .graph-length in
-    iteration-ended (s .args .goals) (s .args .work .now) (graph-length .result) (s .pre .0) (graph-length .ensures .0) (l .last .1 .0)
+    iteration-ended (s .args .goals) (s .args .work .now) (graph-length .result) (s .pre .0 .0) (graph-length .ensures .0) (l .last .1 .0)
     (l .kept .1 .0) (s .args .height) (s .args .left) (s .args .overflow) (s .args .o) (l .result) (l .ensures)
 
 pub end-iteration-spec : {M : Type 1} → statement M

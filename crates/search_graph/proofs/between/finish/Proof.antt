@@ -1,5 +1,6 @@
+use Rattle.evaluation.specs.Outcomes.{TaskCountsIn}
 use Rattle.evaluation.proofs.Lent.{lent-bytes}
-use Rattle.search_graph.proofs.Lending.{finished}
+use Rattle.search_graph.proofs.Lending.{lent-stack, finished}
 use borrow.Author.Needs.{needs}
 use Rattle.search_graph.proofs.between.finish.Statement.{statement}
 use Rattle.search_graph.proofs.between.finish.Tie as tie
@@ -26,6 +27,9 @@ finish-requires c κs =
       under = s .pre .stack;
       known = s .pre .known;
       few = s .pre .few;
+      counts =
+          lent-stack (s .args .h .goals) (s .args .work .now) (graph-length .result) (s .pre .bytes) (graph-length .ensures .0)
+          (λ st. TaskCountsIn st (s .args .o)) (s .args .height) (s .pre .counts);
     }
 
 same-length : tie.Need-same-length

@@ -1,4 +1,6 @@
-use Rattle.search_graph.proofs.Lending.{looked-up}
+use Rattle.definition.specs.Stack.{CountsTrue}
+use Rattle.evaluation.proofs.Lent.{lent-bytes}
+use Rattle.search_graph.proofs.Lending.{lent-stack, looked-up}
 use borrow.Author.Needs.{needs}
 use Rattle.search_graph.proofs.between.look_up.Statement.{statement}
 use Rattle.search_graph.proofs.between.look_up.Tie as tie
@@ -16,7 +18,27 @@ part-lookup-end : tie.Need-part-lookup-end
 part-lookup-end c = search needs
 
 lookup-requires : tie.Need-lookup-requires
-lookup-requires c κs = search needs
+lookup-requires c κs =
+    let s = c .before .before .before .before in
+    let graph-length = c .before .graph-length in
+    record {
+      graph =
+          record {
+            stack =
+                record {
+                  bytes = lent-bytes (s .args .h .goals) (s .args .work .now) (s .pre .bytes) (graph-length .result) (graph-length .ensures .0);
+                  high = s .pre .stack;
+                  counts =
+                      lent-stack (s .args .h .goals) (s .args .work .now) (graph-length .result) (s .pre .bytes) (graph-length .ensures .0)
+                      CountsTrue (s .args .height) (s .pre .counts);
+                };
+            entries = s .pre .entries;
+          };
+      cache = s .pre .slots;
+      goal = s .pre .known;
+      divisor = s .pre .divides;
+      root = s .pre .shallow;
+    }
 
 same-length : tie.Need-same-length
 same-length c = search needs

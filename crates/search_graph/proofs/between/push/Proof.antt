@@ -1,4 +1,7 @@
-use Rattle.search_graph.proofs.Lending.{pushed}
+use native.Mathlib.Omega.{arith}
+use Rattle.definition.specs.Stack.{CountsTrue}
+use Rattle.evaluation.proofs.Lent.{lent-bytes}
+use Rattle.search_graph.proofs.Lending.{lent-stack, pushed}
 use borrow.Author.Needs.{needs}
 use Rattle.search_graph.proofs.between.push.Statement.{statement}
 use Rattle.search_graph.proofs.between.push.Tie as tie
@@ -16,7 +19,19 @@ part-push-end : tie.Need-part-push-end
 part-push-end c = search needs
 
 push-requires : tie.Need-push-requires
-push-requires c κs = search needs
+push-requires c κs =
+    let s = c .before .before .before in
+    let graph-length = c .before .graph-length in
+    let lt = s .pre .1 .0 in (
+      record {
+        bytes = lent-bytes (s .args .goals) (s .args .work .now) (s .pre .0 .0) (graph-length .result) (graph-length .ensures .0);
+        high = omega arith;
+        counts =
+            lent-stack (s .args .goals) (s .args .work .now) (graph-length .result) (s .pre .0 .0) (graph-length .ensures .0)
+            CountsTrue (s .args .height) (s .pre .0 .1);
+      },
+      s .pre .1,
+    )
 
 same-length : tie.Need-same-length
 same-length c = search needs
@@ -26,7 +41,7 @@ returns c =
     let s = c .before .before .before .before .before .before in
     let l = c .before .before .push in
     let graph-length = c .before .before .before .before .graph-length in
-    pushed (s .args .goals) (s .args .work .now) (graph-length .result) (s .pre .0) (graph-length .ensures .0) (l .last .0) (l .kept .0)
+    pushed (s .args .goals) (s .args .work .now) (graph-length .result) (s .pre .0 .0) (graph-length .ensures .0) (l .last .0) (l .kept .0)
     (s .args .height) (s .args .goal) (s .args .step) (s .args .available) (l .ensures .stack) (l .ensures .entries)
 
 pub push-spec : {M : Type 1} → statement M

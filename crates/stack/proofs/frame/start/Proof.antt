@@ -48,11 +48,24 @@ part-fill-zero-end c = search needs
 fill-zero-requires : tie.Need-fill-zero-requires
 fill-zero-requires c κs = search needs
 
+counts-start-requires : tie.Need-counts-start-requires
+counts-start-requires c κs = search needs
+
+write-u64-requires : tie.Need-write-u64-requires
+write-u64-requires c κs = search needs
+
 same-length : tie.Need-same-length
 same-length c = search needs
 
 returns : tie.Need-returns
-returns c = let a = c .before .before .before .before .before .before .before .before .before .before .before .before .before .before .before .args in start-frame (a .goals) (a .goal) (a .available) (a .step) (a .frame .now) (c .before .before .before .before .before .before .before .before .before .before .before .before .start-fields .last .0) (c .before .before .before .before .before .before .before .clear .last .0) (c .before .before .fill-zero .last .0) (c .before .before .before .before .before .before .before .before .before .candidate-start .result) (c .before .before .before .before .nested-start .result) (c .before .before .before .before .before .before .before .before .before .before .before .before .before .before .before .pre .0 .long) (c .before .before .before .before .before .before .before .before .before .candidate-start .ensures) (c .before .before .before .before .nested-start .ensures) (c .before .before .before .before .before .before .before .before .before .before .before .before .start-fields .ensures) (c .before .before .before .before .before .before .before .clear .kept .0) (c .before .before .before .before .before .before .before .clear .ensures) (c .before .before .fill-zero .kept .0) (c .before .before .fill-zero .ensures)
+returns c =
+    let s = c .before .before .before .before .before .before .before .before .before .before .before .before .before .before .before .before .before .before .before .before in
+    start-frame (s .args .goals) (s .args .goal) (s .args .available) (s .args .step) (s .args .frame .now)
+    (c .before .before .before .before .before .before .before .before .before .before .before .before .before .before .before .before .before .start-fields .last .0) (c .before .before .before .before .before .before .before .before .before .before .before .before .clear .last .0) (c .before .before .before .before .before .before .before .fill-zero .last .0) (c .before .before .before .before .before .before .before .before .before .before .before .before .before .before .candidate-start .result)
+    (c .before .before .before .before .before .before .before .before .before .nested-start .result) (s .pre .0 .long) (c .before .before .before .before .before .before .before .before .before .before .before .before .before .before .candidate-start .ensures) (c .before .before .before .before .before .before .before .before .before .nested-start .ensures)
+    (c .before .before .before .before .before .before .before .before .before .before .before .before .before .before .before .before .before .start-fields .ensures) (c .before .before .before .before .before .before .before .before .before .before .before .before .clear .kept .0) (c .before .before .before .before .before .before .before .before .before .before .before .before .clear .ensures) (c .before .before .before .before .before .before .before .fill-zero .kept .0)
+    (c .before .before .before .before .before .before .before .fill-zero .ensures) (c .before .before .write-u64 .last .0) (c .before .before .before .counts-start .result) (s .args .steps)
+    (c .before .before .before .counts-start .ensures) (search needs) (c .before .before .write-u64 .ensures)
 
 pub start-spec : {M : Type 1} → statement M
 start-spec =
@@ -73,5 +86,7 @@ start-spec =
     part-fill-zero-start
     part-fill-zero-end
     fill-zero-requires
+    counts-start-requires
+    write-u64-requires
     same-length
     returns)

@@ -15,7 +15,7 @@ required-depth-requires : tie.Need-required-depth-requires
 required-depth-requires c κs =
     let s = c .before .before .before in
     let frame-at = c .frame-at in
-    frame-bytes (s .args .h .goals) (s .args .graph .now) (frame-at .result .now) (s .args .height) (s .pre .room .bytes)
+    frame-bytes (s .args .h .goals) (s .args .graph .now) (frame-at .result .now) (s .args .height) (s .pre .room .stack .bytes)
     (s .pre .room .under) (frame-at .ensures)
 
 returns : tie.Need-returns
@@ -43,7 +43,7 @@ insert-requires c κs =
       s .pre .room .known,
       omega arith,
       ap length (c .before .nested-at .ensures)
-          ∙ nested-length (s .args .h .goals) (s .args .graph .now) (s .args .height) (s .pre .room .bytes) (s .pre .room .under),
+          ∙ nested-length (s .args .h .goals) (s .args .graph .now) (s .args .height) (s .pre .room .stack .bytes) (s .pre .room .under),
     )
 
 enum-told : tie.Need-enum-told
