@@ -135,16 +135,18 @@ pub const CLASSES: &[Class] = &[
 
 /// Rings on which goal 0 takes at least 8 runs a goal.
 fn rings(goals: usize, provisional_cache: bool) -> Vec<List> {
-    let book = |seed| shapes::ring(&mut Random::new(seed), goals, provisional_cache);
-    let lists = (0..20_000).filter_map(|seed| List::of_book(&book(seed), FUEL));
-    lists.filter(|list| list.runs >= 8 * goals as u64).take(LISTS).collect()
+    shaped(|r| shapes::ring(r, goals, provisional_cache), 8 * goals as u64)
 }
 
 /// Books in which every goal comes to stand on the stack.
 fn deep(goals: usize, provisional_cache: bool) -> Vec<List> {
-    let book = |seed| shapes::deep(&mut Random::new(seed), goals, provisional_cache);
-    let lists = (0..20_000).filter_map(|seed| List::of_book(&book(seed), FUEL));
-    lists.filter(|list| list.runs >= goals as u64).take(LISTS).collect()
+    shaped(|r| shapes::deep(r, goals, provisional_cache), goals as u64)
+}
+
+/// Books of a shape whose goal 0 takes at least `least` goal runs.
+fn shaped(book: impl Fn(&mut Random) -> Book, least: u64) -> Vec<List> {
+    let lists = (0..20_000).filter_map(|seed| List::of_book(&book(&mut Random::new(seed)), FUEL));
+    lists.filter(|list| list.runs >= least).take(LISTS).collect()
 }
 
 /// Cases of a generated class, with those queries that evaluate something, that take at least `least` goal runs.

@@ -44,7 +44,3 @@ WorkTopChanged goals own make old new = FrameWritten goals own (make (topOf goal
 
 abbrev pub MergedChanged : ℕ → ℕ → (List HeadUsages → List HeadUsages) → List ℕ → List ℕ → Type 0
 MergedChanged goals own make old new = MergedWritten goals own (make (mergedOf goals own old)) old new
-
--- the stack of a workspace, with the frame on top
-abbrev pub stackIn : ℕ → ℕ → List ℕ → Stack
-stackIn goals own work = stackOf goals (own + 1) (graphIn goals work)

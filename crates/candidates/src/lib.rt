@@ -15,10 +15,10 @@ ghost use Rattle.layout.specs.Frame.{frameOf};
 ghost use Rattle.layout.specs.Work.{mergedOf};
 ghost use Rattle.stack.specs.Bytes.{FrameBytes, GraphBytes};
 ghost use Rattle.stack.specs.Written.{StackChanged};
-ghost use Rattle.evaluation.specs.Workspace.{WorkBytes};
+ghost use Rattle.evaluation.specs.Workspace.{WorkBytes, stackIn};
 ghost use Rattle.layout.specs.AtIndex.{addAt};
 ghost use Rattle.stack.specs.Tracked.{ignoreHeadAt, ignoreHeads, ignoreOwn};
-ghost use Rattle.candidates.specs.Written.{mergedBytes, topBytes, stackIn, MergedWritten, MergedChanged, WorkWritten, WorkTopChanged};
+ghost use Rattle.candidates.specs.Written.{mergedBytes, topBytes, MergedWritten, MergedChanged, WorkWritten, WorkTopChanged};
 
 // ---- one candidate
 
@@ -89,7 +89,7 @@ fn add_at(work: &mut [u8], goals: usize, own: usize, i: usize, u: HeadUsages)
 pub fn merge(work: &mut [u8], goals: usize, own: usize)
     requires { ⌜ WorkBytes goals (now work) × (own < goals) ⌝ }
     ensures { λ _. ⌜ MergedChanged goals own
-        (λ us. mergeUsages us (candidateUsagesOf goals (stackIn goals own (now (work .entry))))) (now (work .entry))
+        (λ us. mergeUsages us (candidateUsagesOf goals (stackIn goals (own + 1) (now (work .entry))))) (now (work .entry))
         (now (work .exit)) ⌝ }
 {
     let mut left = tracked::mask(top(work, goals, own), goals);
@@ -124,7 +124,7 @@ fn heads_cover(f: &[u8], b: &[u8], goals: usize, own: usize) -> bool
 // Whether no subtraction fails where the merged usages are ignored.
 pub fn can_ignore(work: &[u8], goals: usize, own: usize) -> bool
     requires { ⌜ WorkBytes goals (now work) × (own < goals) ⌝ }
-    ensures { λ r. ⌜ r ≡ canIgnore (mergedOf goals own (now (work .entry))) (stackIn goals own (now (work .entry))) ⌝ }
+    ensures { λ r. ⌜ r ≡ canIgnore (mergedOf goals own (now (work .entry))) (stackIn goals (own + 1) (now (work .entry))) ⌝ }
 {
     let f = top(work, goals, own);
     let b = merged(work, goals, own);
@@ -174,7 +174,7 @@ fn ignore_at_heads(work: &mut [u8], goals: usize, own: usize)
 pub fn ignore(work: &mut [u8], goals: usize, own: usize)
     requires { ⌜ WorkBytes goals (now work) × (own < goals) ⌝ }
     ensures { λ _. ⌜ WorkWritten goals (own + 1)
-        (ignoreOnTop (mergedOf goals own (now (work .entry))) (stackIn goals own (now (work .entry))))
+        (ignoreOnTop (mergedOf goals own (now (work .entry))) (stackIn goals (own + 1) (now (work .entry))))
         (now (work .entry)) (now (work .exit)) ⌝ }
 {
     ignore_at_heads(work, goals, own);

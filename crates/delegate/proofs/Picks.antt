@@ -23,7 +23,7 @@ use Rattle.definition.specs.Evaluate.{mergeUnless, endPick, evalPick}
 use Rattle.layout.specs.Work.{stackOf, entriesOf, mergedOf, graphOf}
 use Rattle.evaluation.specs.declared.Outcome.{Outcome}
 use Rattle.evaluation.specs.declared.Outcome.the-variants.{Done, Stopped}
-use Rattle.evaluation.specs.Workspace.{graphIn}
+use Rattle.evaluation.specs.Workspace.{graphIn, stackIn}
 use Rattle.evaluation.specs.Outcomes.{outcomeOf}
 use Rattle.candidates.specs.Written.{MergedWritten}
 use Rattle.delegate.specs.declared.pick.Pick.{Pick}
@@ -97,7 +97,7 @@ module _ (goals own entries : ℕ) (pick : Pick) (answer : Answer) (old half new
       t .merged own lt ∙ m .written
       ∙ ap (λ (b : Bool). mergeUnless b (mergedOf goals own old) (trackedIn goals own old)) is-first
 
-  stack-after : stackOf goals (own + 1) (graphIn goals new) ≡ setCandidateUsages none (stackOf goals (own + 1) (graphIn goals old))
+  stack-after : stackIn goals (own + 1) new ≡ setCandidateUsages none (stackIn goals (own + 1) old)
   stack-after = t .stack ∙ ap (λ (bs : List ℕ). setCandidateUsages none (stackOf goals (own + 1) bs)) (m .graph)
 
   graph-after : (root n : ℕ) (cache : List ℕ)
@@ -116,7 +116,7 @@ module _ (goals own entries : ℕ) (pick : Pick) (answer : Answer) (old half new
             evalPick evaluate goals ps (is-met i) (is-c i) (usages-after i) (graph-after root n cache i);
         count = refl;
         kept = λ i below. t .merged i (omega (arith, below, lt)) ∙ m .others i below;
-        counts = λ c0. subst CountsTrue (sym stack-after) (candidate-counted none (stackOf goals (own + 1) (graphIn goals old)) c0);
+        counts = λ c0. subst CountsTrue (sym stack-after) (candidate-counted none (stackIn goals (own + 1) old) c0);
       }
 
 -- ---- `finish_candidate`

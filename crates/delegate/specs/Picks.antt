@@ -17,10 +17,10 @@ use Rattle.definition.specs.Graph as graph
 use Rattle.definition.specs.Candidates.{setCandidateUsages, candidateUsagesOf, finishedUsages}
 use Rattle.definition.specs.Candidates.{enterSingleCandidate, finishSingleCandidate}
 use Rattle.definition.specs.Evaluate.{Evaluator, mergeUnless, endPick, evalPart, evalPick}
-use Rattle.layout.specs.Work.{stackOf, entriesOf, mergedOf, graphOf}
+use Rattle.layout.specs.Work.{entriesOf, mergedOf, graphOf}
 use Rattle.stack.specs.Bytes.{CountsKept}
 use Rattle.evaluation.specs.declared.Outcome.{Outcome}
-use Rattle.evaluation.specs.Workspace.{graphIn}
+use Rattle.evaluation.specs.Workspace.{graphIn, stackIn}
 use Rattle.evaluation.specs.Outcomes.{outcomeOf, CountsIn, FewEntries}
 use Rattle.candidates.specs.Written.{MergedWritten}
 use Rattle.delegate.specs.declared.pick.Pick.{Pick}
@@ -91,8 +91,7 @@ pub record CandidateFinished (goals height : ℕ) (o : Outcome) (pick : Pick) (o
       (next evaluate goals pick ps (mergedOf goals (height - 1) old))
   pub few : FewLeft goals r
   pub kept : KeptBelow goals (height - 1) old new
-  pub counts : CountsIn (stackOf goals height (graphIn goals old)) o
-      → CountsLeft (stackOf goals height (graphIn goals new)) r
+  pub counts : CountsIn (stackIn goals height old) o → CountsLeft (stackIn goals height new) r
 
 -- ---- `end`
 pub record PickEnded (goals height : ℕ) (pick : Pick) (old new : List ℕ) (o : Outcome) : Type 0 where
@@ -107,13 +106,12 @@ pub record PickEnded (goals height : ℕ) (pick : Pick) (old new : List ℕ) (o 
 
 -- the frame's candidate usages are c
 pub record Tracked (goals own : ℕ) (c : Option (List HeadUsages)) (old new : List ℕ) : Type 0 where
-  pub stack : stackOf goals (own + 1) (graphIn goals new)
-      ≡ setCandidateUsages c (stackOf goals (own + 1) (graphIn goals old))
+  pub stack : stackIn goals (own + 1) new ≡ setCandidateUsages c (stackIn goals (own + 1) old)
   pub entries : (n : ℕ) → entriesOf goals n (graphIn goals new) ≡ entriesOf goals n (graphIn goals old)
   pub merged : MergedKept goals old new
 
 abbrev pub trackedIn : ℕ → ℕ → List ℕ → List HeadUsages
-trackedIn goals own work = candidateUsagesOf goals (stackOf goals (own + 1) (graphIn goals work))
+trackedIn goals own work = candidateUsagesOf goals (stackIn goals (own + 1) work)
 
 -- the frame's candidate usages are merged, unless its candidate is the first Yes
 abbrev pub MergedUnless : Bool → ℕ → ℕ → List ℕ → List ℕ → Type 0

@@ -26,7 +26,7 @@ use Rattle.global_cache.specs.Cache.{CacheBytes}
 use Rattle.evaluation.specs.declared.Outcome.{Outcome}
 use Rattle.evaluation.specs.declared.Outcome.the-variants.{Done, Stopped}
 use Rattle.evaluation.specs.declared.TaskOutcome.{TaskOutcome}
-use Rattle.evaluation.specs.Workspace.{WorkBytes, graphIn}
+use Rattle.evaluation.specs.Workspace.{WorkBytes, graphIn, stackIn}
 use Rattle.evaluation.specs.Outcomes.{outcomeOf, taskOutcomeOf, CountsIn, TaskCountsIn}
 use Rattle.delegate.specs.Picks.{graphAt}
 use Rattle.lookup.specs.declared.Found.{Found}
@@ -37,7 +37,7 @@ use Rattle.task.specs.declared.Iteration.the-variants.{End, Again}
 use Rattle.task.specs.Turns.{turn, turned, FewTurned, CountsTurned}
 use Rattle.task.proofs.Turns.{turn-is}
 use Rattle.search_graph.specs.Calls.{Running, evaluator, goalFrom, taskFrom, Comes, TaskComes, partFrom, computed}
-use Rattle.search_graph.specs.Between.{LookedUp, Pushed, IterationEnded, Finished, stackIn}
+use Rattle.search_graph.specs.Between.{LookedUp, Pushed, IterationEnded, Finished}
 
 -- ---- the measure: goals off the stack, then iterations left, then bytes left
 abbrev pub rank : ℕ → ℕ → ℕ → ℕ

@@ -2,19 +2,20 @@
 use mathlib.Core.Path.{_≡_, sym, ap, _∙_, subst}
 use mathlib.Core.Bool.{Bool}
 use mathlib.Core.List.{List, _∷_}
-use Prim.Native.Nat.{ℕ, _+_}
+use Prim.Native.Nat.{ℕ, _+_, _≤_}
 use lib.ListN.{length}
 use Rattle.definition.specs.declared.paths.PathKind.{PathKind}
 use Rattle.definition.specs.declared.format.Header.{Header}
-use Rattle.definition.specs.Stack.{Stack}
+use Rattle.definition.specs.Stack.{Stack, CountsTrue}
 use Rattle.definition.specs.Evaluate.{evaluateGoalWith, newFrame, afterTask}
 use Rattle.layout.specs.Work.{graphLength, stackOf, entriesOf, graphOf}
+use Rattle.stack.specs.Bytes.{StackBytes}
 use Rattle.stack.proofs.Parts.{part, returned}
 use Rattle.evaluation.specs.declared.Outcome.{Outcome}
 use Rattle.evaluation.specs.declared.TaskOutcome.{TaskOutcome}
-use Rattle.evaluation.specs.Workspace.{WorkBytes, graphIn}
+use Rattle.evaluation.specs.Workspace.{WorkBytes, graphIn, stackIn}
 use Rattle.evaluation.specs.Outcomes.{outcomeOf, taskOutcomeOf}
-use Rattle.evaluation.proofs.Lent.{lent-graph, graph-back, merged-back}
+use Rattle.evaluation.proofs.Lent.{lent-bytes, lent-graph, graph-back, merged-back}
 use Rattle.lookup.specs.declared.Found.{Found}
 use Rattle.lookup.specs.Lookups.{found}
 use Rattle.lookup.specs.Answers.{Answered}
@@ -22,7 +23,7 @@ use Rattle.task.specs.declared.Iteration.{Iteration}
 use Rattle.task.specs.Turns.{turn, turned, CountsTurned}
 use Rattle.task.specs.Iterations.{TurnTaken}
 use Rattle.task.specs.Results as results
-use Rattle.search_graph.specs.Between.{stackIn, LookedUp, Pushed, IterationEnded, Finished}
+use Rattle.search_graph.specs.Between.{LookedUp, Pushed, IterationEnded, Finished}
 
 -- what is so of the stack of a workspace is so where its graph is lent
 pub lent-stack : (goals : ℕ) (work : List ℕ) (n : ℕ) → WorkBytes goals work → n ≡ graphLength goals
@@ -30,6 +31,15 @@ pub lent-stack : (goals : ℕ) (work : List ℕ) (n : ℕ) → WorkBytes goals w
     → P (stackIn goals height work) → P (stackOf goals height (part work 0 n))
 lent-stack goals work n w is P height c = subst (λ (bs : List ℕ). P (stackOf goals height bs))
     (sym (lent-graph goals work w n is)) c
+
+pub lent-frames : (goals : ℕ) (work : List ℕ) (n : ℕ) → WorkBytes goals work → n ≡ graphLength goals → (height : ℕ)
+    → height ≤ goals → CountsTrue (stackIn goals height work) → StackBytes goals height (part work 0 n)
+lent-frames goals work n w is height le c =
+    record {
+      bytes = lent-bytes goals work w n is;
+      high = le;
+      counts = lent-stack goals work n w is CountsTrue height c;
+    }
 
 module _
     (h : Header) (work : List ℕ) (n : ℕ) (w : WorkBytes (h .goals) work) (is : n ≡ graphLength (h .goals))

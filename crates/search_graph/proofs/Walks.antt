@@ -10,7 +10,6 @@ use types.Run.{OneOf}
 use denote.Enum.Declared.{tagOf}
 use mathlib.Core.Option.{some}
 use Rattle.search_graph.proofs.Cycle.{part-counts}
-use Rattle.search_graph.specs.Between.{stackIn}
 use Rattle.definition.proofs.StepCounts.{candidate-counted}
 use Rattle.definition.specs.Stack.{CountsTrue}
 use Rattle.definition.specs.declared.format.Header.{Header}
@@ -36,7 +35,7 @@ use Rattle.book.proofs.Walk.{a-line, no-goal-line, known-code, is-call, is-grou
 use Rattle.book.proofs.Walk.{no-parts, others-of, first-and, none-read, none-then, others-read, first-then}
 use Rattle.evaluation.specs.declared.Outcome.{Outcome}
 use Rattle.evaluation.specs.declared.Outcome.the-variants.{Done}
-use Rattle.evaluation.specs.Workspace.{graphIn}
+use Rattle.evaluation.specs.Workspace.{graphIn, stackIn}
 use Rattle.evaluation.specs.Outcomes.{outcomeOf, FewEntries}
 use Rattle.delegate.specs.declared.group.Group.{Group}
 use Rattle.delegate.specs.declared.group.Weighed.{Weighed}

@@ -5,26 +5,22 @@ use mathlib.Core.List.{List, _∷_}
 use Prim.Native.Nat.{ℕ, _+_, _*_, _≤_, _<_}
 use Rattle.definition.specs.declared.paths.PathKind.{PathKind}
 use Rattle.definition.specs.declared.format.Header.{Header}
-use Rattle.definition.specs.Stack.{Stack, CountsTrue}
+use Rattle.definition.specs.Stack.{CountsTrue}
 use Rattle.definition.specs.Graph.{Graph, withStack}
 use Rattle.definition.specs.Graph as graph
 use Rattle.definition.specs.Task as task
 use Rattle.definition.specs.Evaluate.{evaluateGoalWith, newFrame, afterTask}
-use Rattle.layout.specs.Work.{stackOf, graphOf, mergedOf}
+use Rattle.layout.specs.Work.{graphOf, mergedOf}
 use Rattle.global_cache.specs.Cache.{CacheBytes}
 use Rattle.evaluation.specs.declared.Outcome.{Outcome}
 use Rattle.evaluation.specs.declared.TaskOutcome.{TaskOutcome}
-use Rattle.evaluation.specs.Workspace.{WorkBytes, graphIn}
+use Rattle.evaluation.specs.Workspace.{WorkBytes, graphIn, stackIn}
 use Rattle.evaluation.specs.Outcomes.{outcomeOf, taskOutcomeOf, TaskCountsIn, FewEntries, FewTaskEntries}
 use Rattle.lookup.specs.declared.Found.{Found}
 use Rattle.lookup.specs.declared.Found.the-variants.{Push}
 use Rattle.lookup.specs.Lookups.{found}
 use Rattle.task.specs.declared.Iteration.{Iteration}
 use Rattle.task.specs.Turns.{turn, turned, CountsTurned, FewTurned}
-
--- the stack of a workspace
-abbrev pub stackIn : ℕ → ℕ → List ℕ → Stack
-stackIn goals height work = stackOf goals height (graphIn goals work)
 
 -- the merged usages are as they were
 abbrev pub MergedKept : ℕ → List ℕ → List ℕ → Type 0

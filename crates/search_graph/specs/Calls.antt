@@ -17,10 +17,9 @@ use Rattle.book.specs.Read.{IsBook, bookIn}
 use Rattle.global_cache.specs.Cache.{CacheBytes}
 use Rattle.evaluation.specs.declared.Outcome.{Outcome}
 use Rattle.evaluation.specs.declared.TaskOutcome.{TaskOutcome}
-use Rattle.evaluation.specs.Workspace.{WorkBytes, graphIn}
+use Rattle.evaluation.specs.Workspace.{WorkBytes, graphIn, stackIn}
 use Rattle.evaluation.specs.Outcomes.{outcomeOf, taskOutcomeOf, FewEntries, FewTaskEntries}
 use Rattle.delegate.specs.Picks.{graphAt}
-use Rattle.search_graph.specs.Between.{stackIn}
 
 -- a book that was read, cache and workspace of the right lengths, `height` frames with true counts of steps,
 -- and n entries

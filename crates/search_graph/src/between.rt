@@ -10,10 +10,9 @@ use task::Iteration;
 ghost use mathlib.Core.Path.{_≡_};
 ghost use Prim.Native.Nat.{_≤_, _<_, pred};
 ghost use Rattle.definition.specs.Stack.{CountsTrue};
-ghost use Rattle.evaluation.specs.Workspace.{WorkBytes};
+ghost use Rattle.evaluation.specs.Workspace.{WorkBytes, stackIn};
 ghost use Rattle.evaluation.specs.Outcomes.{CountsIn, FewEntries};
 ghost use Rattle.search_graph.specs.Between.{Looking, LookedUp, Pushed, IterationEnded, Finishing, Finished};
-ghost use Rattle.search_graph.specs.Between.{stackIn};
 
 // One iteration less; 0 iterations act as 1.
 pub fn one_less(limit: usize) -> usize

@@ -5,10 +5,10 @@ use mathlib.Core.Logic.{⊎-elim}
 use native.Mathlib.Omega.{arith}
 use lib.ListN.{length}
 use Prim.Native.Nat.{ℕ, _+_, _-_, _*_, _<_}
+use Rattle.evaluation.specs.Workspace.{stackIn}
 use Rattle.book.specs.Lines.{lineIn}
 use Rattle.book.proofs.Walk.{a-line, first-reads}
 use Rattle.definition.specs.Stack.{CountsTrue}
-use Rattle.search_graph.specs.Between.{stackIn}
 use Rattle.search_graph.specs.Calls.{Running, computed, partFrom, taskFrom, Comes, keptBelow}
 use Rattle.search_graph.proofs.Cycle.{rank, lower, fewer, work-next, cache-next, running-next, known, full, framed}
 use Rattle.search_graph.proofs.Cycle.{part-counts, task-counts, looked-counts, pushed-counts, ran-counts}

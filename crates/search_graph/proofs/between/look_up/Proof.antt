@@ -1,6 +1,4 @@
-use Rattle.definition.specs.Stack.{CountsTrue}
-use Rattle.evaluation.proofs.Lent.{lent-bytes}
-use Rattle.search_graph.proofs.Lending.{lent-stack, looked-up}
+use Rattle.search_graph.proofs.Lending.{lent-frames, looked-up}
 use borrow.Author.Needs.{needs}
 use Rattle.search_graph.proofs.between.look_up.Statement.{statement}
 use Rattle.search_graph.proofs.between.look_up.Tie as tie
@@ -25,13 +23,8 @@ lookup-requires c κs =
       graph =
           record {
             stack =
-                record {
-                  bytes = lent-bytes (s .args .h .goals) (s .args .work .now) (s .pre .bytes) (graph-length .result) (graph-length .ensures .0);
-                  high = s .pre .stack;
-                  counts =
-                      lent-stack (s .args .h .goals) (s .args .work .now) (graph-length .result) (s .pre .bytes) (graph-length .ensures .0)
-                      CountsTrue (s .args .height) (s .pre .counts);
-                };
+                lent-frames (s .args .h .goals) (s .args .work .now) (graph-length .result) (s .pre .bytes) (graph-length .ensures .0)
+                (s .args .height) (s .pre .stack) (s .pre .counts);
             entries = s .pre .entries;
           };
       cache = s .pre .slots;

@@ -1,7 +1,5 @@
 use native.Mathlib.Omega.{arith}
-use Rattle.definition.specs.Stack.{CountsTrue}
-use Rattle.evaluation.proofs.Lent.{lent-bytes}
-use Rattle.search_graph.proofs.Lending.{lent-stack, pushed}
+use Rattle.search_graph.proofs.Lending.{lent-frames, pushed}
 use borrow.Author.Needs.{needs}
 use Rattle.search_graph.proofs.between.push.Statement.{statement}
 use Rattle.search_graph.proofs.between.push.Tie as tie
@@ -23,13 +21,8 @@ push-requires c κs =
     let s = c .before .before .before in
     let graph-length = c .before .graph-length in
     let lt = s .pre .1 .0 in (
-      record {
-        bytes = lent-bytes (s .args .goals) (s .args .work .now) (s .pre .0 .0) (graph-length .result) (graph-length .ensures .0);
-        high = omega arith;
-        counts =
-            lent-stack (s .args .goals) (s .args .work .now) (graph-length .result) (s .pre .0 .0) (graph-length .ensures .0)
-            CountsTrue (s .args .height) (s .pre .0 .1);
-      },
+      lent-frames (s .args .goals) (s .args .work .now) (graph-length .result) (s .pre .0 .0) (graph-length .ensures .0)
+          (s .args .height) (omega arith) (s .pre .0 .1),
       s .pre .1,
     )
 
