@@ -105,7 +105,7 @@ impl Run {
         let engine = ENGINES.iter().find(|e| e.name == self.engine).ok_or("no such engine")?;
         let text = fs::read_to_string(&self.file).map_err(|e| format!("{}: {e}", self.file))?;
         for case in read_cases(&text)? {
-            (engine.run)(&List { case, runs: 1 }, self.times);
+            (engine.run)(&List { case, runs: 1, entries: 0 }, self.times);
         }
         Ok(())
     }

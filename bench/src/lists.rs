@@ -4,7 +4,7 @@ use oracle_core::book::Book;
 use oracle_core::case::{Case, Query};
 use oracle_core::generate::class_named;
 use oracle_core::random::Random;
-use oracle_core::{Outcome, reply, work_len};
+use oracle_core::{Outcome, Report, reply, work_len};
 
 use crate::shapes;
 
@@ -20,16 +20,20 @@ pub struct List {
     pub case: Case,
     /// The goal runs of all queries together.
     pub runs: u64,
+    /// The most provisional entries that were live at once.
+    pub entries: usize,
 }
 
 impl List {
     /// None where a query is refused, or the list takes more than `fuel` goal runs.
     pub fn tried(case: Case, fuel: u64) -> Option<List> {
-        let (mut cache, mut runs) = (case.cache.clone(), 0);
+        let (mut cache, mut runs, mut entries) = (case.cache.clone(), 0, 0);
         for query in &case.queries {
-            runs += accepted(&case.book, &mut cache, query, fuel - runs)?;
+            let report = accepted(&case.book, &mut cache, query, fuel - runs)?;
+            runs += report.goal_runs;
+            entries = entries.max(report.high_water);
         }
-        Some(List { case, runs })
+        Some(List { case, runs, entries })
     }
 
     /// The book's goal 0, asked at its top depth with a cache of zeros.
@@ -67,7 +71,8 @@ fn kept(case: &Case, fuel: u64, wanted: fn(u64) -> bool) -> (Vec<Query>, Vec<u8>
     let (mut queries, mut left) = (Vec::new(), case.cache.clone());
     for query in &case.queries {
         let mut cache = left.clone();
-        if accepted(&case.book, &mut cache, query, fuel).is_some_and(wanted) {
+        let report = accepted(&case.book, &mut cache, query, fuel);
+        if report.is_some_and(|report| wanted(report.goal_runs)) {
             queries.push(query.clone());
             left = cache;
         }
@@ -75,11 +80,11 @@ fn kept(case: &Case, fuel: u64, wanted: fn(u64) -> bool) -> (Vec<Query>, Vec<u8>
     (queries, left)
 }
 
-/// The goal runs of a query; none where it is refused or takes more than `fuel`.
-fn accepted(book: &[u8], cache: &mut [u8], query: &Query, fuel: u64) -> Option<u64> {
+/// What a query takes; none where it is refused or takes more than `fuel` goal runs.
+fn accepted(book: &[u8], cache: &mut [u8], query: &Query, fuel: u64) -> Option<Report> {
     let mut work = vec![0; query.work_len];
     let report = reply(book, cache, &mut work, query.goal, query.depth, fuel);
-    matches!(report.outcome, Outcome::Replied { refusal: 0, .. }).then_some(report.goal_runs)
+    matches!(report.outcome, Outcome::Replied { refusal: 0, .. }).then_some(report)
 }
 
 pub fn query(book: &Book, goal: usize) -> Query {
@@ -120,6 +125,8 @@ pub const CLASSES: &[Class] = &[
     of("rings-64-off", "rings of 64 goals, provisional cache off", || rings(64, false)),
     of("deep-64", "64 goals on the stack, each with cycles to the lowest", || deep(64, true)),
     of("deep-64-off", "64 goals on the stack likewise, provisional cache off", || deep(64, false)),
+    of("closing-16", "rings of 16 goals that close with 24 entries or more", || closing(16)),
+    of("closing-64", "rings of 64 goals that close with 96 entries or more", || closing(64)),
     of("picks", "picks of calls, empty parts and undecided lines", || generated("picks", 30)),
     of("tangled", "cycles that cross each other", || generated("tangled", 50)),
     of("nested", "parts nested up to 8 deep", || generated("nested", 30)),
@@ -135,18 +142,25 @@ pub const CLASSES: &[Class] = &[
 
 /// Rings on which goal 0 takes at least 8 runs a goal.
 fn rings(goals: usize, provisional_cache: bool) -> Vec<List> {
-    shaped(|r| shapes::ring(r, goals, provisional_cache), 8 * goals as u64)
+    let book = |r: &mut Random| shapes::ring(r, goals, provisional_cache);
+    shaped(book, |list| list.runs >= 8 * goals as u64)
 }
 
 /// Books in which every goal comes to stand on the stack.
 fn deep(goals: usize, provisional_cache: bool) -> Vec<List> {
-    shaped(|r| shapes::deep(r, goals, provisional_cache), goals as u64)
+    let book = |r: &mut Random| shapes::deep(r, goals, provisional_cache);
+    shaped(book, |list| list.runs >= goals as u64)
 }
 
-/// Books of a shape whose goal 0 takes at least `least` goal runs.
-fn shaped(book: impl Fn(&mut Random) -> Book, least: u64) -> Vec<List> {
+/// Rings whose heads close while there are three quarters of the 2 G entries that there may be.
+fn closing(goals: usize) -> Vec<List> {
+    shaped(|r| shapes::closing(r, goals), |list| 2 * list.entries >= 3 * goals)
+}
+
+/// Books of a shape whose goal 0 is asked, as far as they are wanted.
+fn shaped(book: impl Fn(&mut Random) -> Book, wanted: impl Fn(&List) -> bool) -> Vec<List> {
     let lists = (0..20_000).filter_map(|seed| List::of_book(&book(&mut Random::new(seed)), FUEL));
-    lists.filter(|list| list.runs >= least).take(LISTS).collect()
+    lists.filter(wanted).take(LISTS).collect()
 }
 
 /// Cases of a generated class, with those queries that evaluate something, that take at least `least` goal runs.

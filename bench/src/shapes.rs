@@ -1,6 +1,6 @@
 //! Books made for timing.
 
-use oracle_core::book::{Book, COINDUCTIVE, Header, INDUCTIVE, Part};
+use oracle_core::book::{Book, COINDUCTIVE, Header, INDUCTIVE, Part, UNKNOWN};
 use oracle_core::random::Random;
 
 /// A ring: each goal leans on the next, and some of them, more or less many, on other goals or a fact too.
@@ -40,6 +40,26 @@ pub fn deep(r: &mut Random, goals: usize, provisional_cache: bool) -> Book {
         let next = (goal + 1 < goals).then(|| call(r, goal + 1));
         let low: Vec<_> = (0..calls).map(|_| r.below(goal.min(3) + 1)).collect();
         Part::Any(next.into_iter().chain(low.into_iter().map(|low| call(r, low))).collect())
+    };
+    Book { header, parts: (0..goals).map(part).collect() }
+}
+
+/// A chain of heads, and above it a chain of the other goals, which the last head calls twice, by steps of two kinds, so
+/// that these goals come to have two provisional entries each. Every goal leans on some heads, by a step of unknown kind
+/// at least. All of it is ambiguous: as one head after the other is done, the entries stay, and are rebased to the next.
+pub fn closing(r: &mut Random, goals: usize) -> Book {
+    let header =
+        Header { provisional_cache: true, goals, top_depth: 40, step_limit: 8, divisor: 2 };
+    let (heads, calls) = (r.between(goals / 8, goals / 4), r.between(1, 9));
+    let part = |goal: usize| {
+        let call = |goal, kind| Part::Call { goal, kind, lower: false };
+        let up = if goal + 1 < heads { UNKNOWN } else { INDUCTIVE };
+        let next = (goal + 1 < goals).then(|| call(goal + 1, up));
+        let again = (goal + 1 == heads).then(|| call(heads, UNKNOWN));
+        let mut back = |kind| call(r.below(heads.min(goal + 1)), kind);
+        let mut low = vec![back(UNKNOWN)];
+        low.extend((0..calls).map(|_| back(INDUCTIVE)));
+        Part::Any(next.into_iter().chain(again).chain(low).collect())
     };
     Book { header, parts: (0..goals).map(part).collect() }
 }

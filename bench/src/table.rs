@@ -6,18 +6,23 @@ use crate::rounds::{Rounds, all_agree, median};
 
 /// What each class is.
 pub fn classes(made: &[(&Class, Vec<List>)]) {
-    println!("| class | what | lists | queries | goal runs a query | bytes of a book |");
-    println!("|---|---|---|---|---|---|");
+    println!(
+        "| class | what | lists | queries | goal runs a query | most entries, median | bytes of a book |"
+    );
+    println!("|---|---|---|---|---|---|---|");
     for (class, lists) in made {
         let queries: usize = lists.iter().map(|list| list.case.queries.len()).sum();
         let runs: u64 = lists.iter().map(|list| list.runs).sum();
         let bytes: usize = lists.iter().map(|list| list.case.book.len()).sum();
+        let mut entries: Vec<usize> = lists.iter().map(|list| list.entries).collect();
+        entries.sort();
         println!(
-            "| {} | {} | {} | {queries} | {:.0} | {} |",
+            "| {} | {} | {} | {queries} | {:.0} | {} | {} |",
             class.name,
             class.what,
             lists.len(),
             runs as f64 / queries as f64,
+            entries[entries.len() / 2],
             bytes / lists.len()
         );
     }

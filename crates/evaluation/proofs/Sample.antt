@@ -13,7 +13,7 @@ use Rattle.definition.specs.Task as task
 use Rattle.buffer.specs.Tables.{listUp}
 use Rattle.layout.specs.Entry.{entryOf}
 use Rattle.layout.specs.Frame.{frameOf}
-use Rattle.layout.specs.Work.{entriesOf, stackOf}
+use Rattle.layout.specs.Work.{entriesFrom, stackOf}
 use Rattle.evaluation.specs.declared.Outcome.the-variants.{Done, Stopped}
 use Rattle.evaluation.specs.declared.TaskOutcome.the-variants.{Evaluated, TaskStopped}
 use Rattle.evaluation.specs.Outcomes.{FewEntries, FewTaskEntries, outcomeOf, taskOutcomeOf}
@@ -50,13 +50,13 @@ module _ (cache : List ℕ) where
       }
 
   done-is : outcomeOf 2 9 1 bytes cache (Done Yes 2) ≡ graph.Done held Yes
-  unfolding outcomeOf stackOf entriesOf listUp
+  unfolding outcomeOf stackOf entriesFrom listUp
   done-is = refl
 
   -- the frame that was popped stands above it
   evaluated-is : taskOutcomeOf 2 9 1 bytes cache (Evaluated No true 2)
       ≡ task.Evaluated held (finalize (frameOf 2 top) true No)
-  unfolding taskOutcomeOf stackOf entriesOf listUp
+  unfolding taskOutcomeOf stackOf entriesFrom listUp
   evaluated-is = refl
 
   stopped-is : (r : Refusal) → (outcomeOf 2 9 1 bytes cache (Stopped r) ≡ graph.Stopped r)

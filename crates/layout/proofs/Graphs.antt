@@ -2,21 +2,21 @@
 use mathlib.Core.Path.{_≡_, refl, sym, ap, ap₂, _∙_, subst}
 use mathlib.Core.List.{List, [], _∷_, _++_}
 use Prim.Native.Nat.{ℕ, suc, _+_, _*_, _≤_, _<_}
-use native.Mathlib.Nat.{zero-add, add-zero, le-trans, le-add-right, mul-le-mul-right}
+use native.Mathlib.Nat.{zero-add, add-zero, add-assoc, le-trans, le-add-right, mul-le-mul-right}
 use native.Mathlib.Omega.{arith}
 use native.Mathlib.Decide.{decLt}
-use lib.ListN.{length, getD, set, drop}
-use lib.Seq.{drop-set-lt}
+use lib.ListN.{length, getD, set, take, drop}
+use lib.Seq.{drop-drop, drop-set-lt}
 use Rattle.definition.specs.Graph.{Entry}
 use Rattle.definition.specs.Query.{workLength}
 use Rattle.buffer.specs.Regions.{region, overwrite}
 use Rattle.buffer.specs.Tables.{listUp, recordAt, tableDown}
 use Rattle.buffer.proofs.Regions.{region-before, region-after}
-use Rattle.buffer.proofs.Tables.{length-up, up-at, up-snoc, length-down, apart, table-below, table-above, table-whole, tableDown-below, tableDown-push, record-whole, record-other}
+use Rattle.buffer.proofs.Tables.{length-up, up-at, up-same, up-snoc, length-down, apart, table-below, table-above, table-whole, tableDown-push, record-whole, record-other}
 use Rattle.layout.specs.Blocks.{blockSize, candidateOf}
 use Rattle.layout.specs.Frame.{frameSize, frameOf}
 use Rattle.layout.specs.Entry.{entrySize, entryOf}
-use Rattle.layout.specs.Work.{frameStart, entriesStart, entryStart, graphLength, mergedStart, stackOf, entriesOf, mergedOf}
+use Rattle.layout.specs.Work.{frameStart, entriesStart, entryStartFrom, entriesLength, graphLength, mergedStart, stackOf, entriesFrom, entryFrom, entriesOf, mergedOf}
 
 -- ---- a table that starts at 0, the last record first
 module _ {A : Type 0} (dec : List ℕ → A) (size : ℕ) where
@@ -58,107 +58,108 @@ module _ (goals : ℕ) where
   unfolding stackOf
   stack-unfold i bs = down-unfold (frameOf goals) (frameSize goals) i bs
 
-  -- a write above the frames
-  pub stack-below : (h : ℕ) (bs : List ℕ) (a : ℕ) (ys : List ℕ) → frameStart goals h ≤ a → a + length ys ≤ length bs → stackOf goals h (overwrite bs a ys) ≡ stackOf goals h bs
-  unfolding stackOf
-  stack-below h bs a ys up fits = tableDown-below (frameOf goals) (frameSize goals) 0 bs a ys fits h (subst (λ (x : ℕ). x ≤ a) (sym (zero-add (frameStart goals h))) up)
+-- ---- entries that start at `base`
+module _ (goals base : ℕ) where
+  pub length-entries : (n : ℕ) (bs : List ℕ) → length (entriesFrom goals base n bs) ≡ n
+  unfolding entriesFrom
+  length-entries n bs = length-up (recordAt (entryOf goals) (entrySize goals) base bs) n
 
-  -- ---- the entries
-  pub length-entries : (n : ℕ) (bs : List ℕ) → length (entriesOf goals n bs) ≡ n
-  unfolding entriesOf
-  length-entries n bs = length-up (recordAt (entryOf goals) (entrySize goals) (entriesStart goals) bs) n
-
-  pub no-entries : (bs : List ℕ) → entriesOf goals 0 bs ≡ []
-  unfolding entriesOf listUp
+  pub no-entries : (bs : List ℕ) → entriesFrom goals base 0 bs ≡ []
+  unfolding entriesFrom listUp
   no-entries bs = refl
 
-  pub entries-snoc : (n : ℕ) (bs : List ℕ) → entriesOf goals (suc n) bs ≡ entriesOf goals n bs ++ (entryOf goals (region (entryStart goals n) (entrySize goals) bs) ∷ [])
-  unfolding entriesOf
-  entries-snoc n bs = up-snoc (recordAt (entryOf goals) (entrySize goals) (entriesStart goals) bs) n
+  pub entries-snoc : (n : ℕ) (bs : List ℕ) → entriesFrom goals base (suc n) bs ≡ entriesFrom goals base n bs ++ (entryFrom goals base n bs ∷ [])
+  unfolding entriesFrom
+  entries-snoc n bs = up-snoc (recordAt (entryOf goals) (entrySize goals) base bs) n
 
-  pub entries-at : (d : Entry) (n k : ℕ) (bs : List ℕ) → k < n → getD (entriesOf goals n bs) k d ≡ entryOf goals (region (entryStart goals k) (entrySize goals) bs)
-  unfolding entriesOf
-  entries-at d n k bs lt = up-at d (recordAt (entryOf goals) (entrySize goals) (entriesStart goals) bs) n k lt
+  pub entries-at : (d : Entry) (n k : ℕ) (bs : List ℕ) → k < n → getD (entriesFrom goals base n bs) k d ≡ entryFrom goals base k bs
+  unfolding entriesFrom
+  entries-at d n k bs lt = up-at d (recordAt (entryOf goals) (entrySize goals) base bs) n k lt
 
   -- a write below the entries
-  pub entries-above : (n : ℕ) (bs : List ℕ) (a : ℕ) (ys : List ℕ) → a + length ys ≤ entriesStart goals → a + length ys ≤ length bs → entriesOf goals n (overwrite bs a ys) ≡ entriesOf goals n bs
-  unfolding entriesOf
-  entries-above n bs a ys down fits = table-above (entryOf goals) (entrySize goals) (entriesStart goals) bs a ys fits n down
+  pub entries-above : (n : ℕ) (bs : List ℕ) (a : ℕ) (ys : List ℕ) → a + length ys ≤ base → a + length ys ≤ length bs → entriesFrom goals base n (overwrite bs a ys) ≡ entriesFrom goals base n bs
+  unfolding entriesFrom
+  entries-above n bs a ys down fits = table-above (entryOf goals) (entrySize goals) base bs a ys fits n down
 
   -- a write above n entries
-  pub entries-below : (n : ℕ) (bs : List ℕ) (a : ℕ) (ys : List ℕ) → entryStart goals n ≤ a → a + length ys ≤ length bs → entriesOf goals n (overwrite bs a ys) ≡ entriesOf goals n bs
-  unfolding entriesOf
-  entries-below n bs a ys up fits = table-below (entryOf goals) (entrySize goals) (entriesStart goals) bs a ys fits n up
+  pub entries-below : (n : ℕ) (bs : List ℕ) (a : ℕ) (ys : List ℕ) → entryStartFrom goals base n ≤ a → a + length ys ≤ length bs → entriesFrom goals base n (overwrite bs a ys) ≡ entriesFrom goals base n bs
+  unfolding entriesFrom
+  entries-below n bs a ys up fits = table-below (entryOf goals) (entrySize goals) base bs a ys fits n up
 
-  -- ---- in the graph's bytes
-  module _ (bs : List ℕ) (long : length bs ≡ graphLength goals) where
-    frames-end : entriesStart goals ≤ length bs
-    frames-end = omega arith
+  -- the first `start` bytes are left out
+  pub entries-dropped : (start n : ℕ) (bs : List ℕ) → entriesFrom goals base n (drop start bs) ≡ entriesFrom goals (start + base) n bs
+  unfolding entriesFrom
+  entries-dropped start n bs =
+      up-same (recordAt (entryOf goals) (entrySize goals) base (drop start bs)) (recordAt (entryOf goals) (entrySize goals) (start + base) bs) n
+      (λ i lt. ap (λ (l : List ℕ). entryOf goals (take (entrySize goals) l))
+      (drop-drop (base + i * entrySize goals) start bs ∙ ap (λ (k : ℕ). drop k bs) (sym (add-assoc start base (i * entrySize goals)))))
 
-    -- frame i is there
-    pub frame-room : (i : ℕ) → i < goals → frameStart goals i + frameSize goals ≤ length bs
-    frame-room i lt = le-trans (apart i goals (frameSize goals) lt) frames-end
-
-    pub entry-room : (k : ℕ) → k < 2 * goals → entryStart goals k + entrySize goals ≤ length bs
-    entry-room k lt = room-of (entrySize goals) (entriesStart goals) (2 * goals) k lt (at-least long)
-
-    -- ---- a write of frame i
-    module _ (i : ℕ) (ys : List ℕ) (lt : i < goals) (whole : length ys ≡ frameSize goals) where
-      -- the top
-      pub stack-push : stackOf goals (suc i) (overwrite bs (frameStart goals i) ys) ≡ frameOf goals ys ∷ stackOf goals i bs
-      unfolding stackOf
-      stack-push = down-push (frameOf goals) (frameSize goals) bs i (frame-room i lt) ys whole
-
-      pub entries-push : (n : ℕ) → entriesOf goals n (overwrite bs (frameStart goals i) ys) ≡ entriesOf goals n bs
-      entries-push n =
-          let below : frameStart goals i + length ys ≤ entriesStart goals = whole-fits (frameStart goals i) whole (apart i goals (frameSize goals) lt) in
-          entries-above n bs (frameStart goals i) ys below (le-trans below frames-end)
+  module _ (bs : List ℕ) (long : length bs ≡ base + entriesLength goals) where
+    pub entry-room : (k : ℕ) → k < 2 * goals → entryStartFrom goals base k + entrySize goals ≤ length bs
+    entry-room k lt = room-of (entrySize goals) base (2 * goals) k lt (at-least long)
 
     -- ---- a write in entry k, j bytes into it
     module _ (k j : ℕ) (ys : List ℕ) (lt : k < 2 * goals) (inner : j + length ys ≤ entrySize goals) where
-      pub fits-entry : entryStart goals k + j + length ys ≤ length bs
-      fits-entry = into-fits (entryStart goals k) j (length ys) inner (entry-room k lt)
+      pub fits-entry : entryStartFrom goals base k + j + length ys ≤ length bs
+      fits-entry = into-fits (entryStartFrom goals base k) j (length ys) inner (entry-room k lt)
 
-      pub entries-under : (n : ℕ) → n ≤ k → entriesOf goals n (overwrite bs (entryStart goals k + j) ys) ≡ entriesOf goals n bs
-      entries-under n le = entries-below n bs (entryStart goals k + j) ys (add-both (entriesStart goals) j (mul-le-mul-right (entrySize goals) le)) fits-entry
-
-      pub stack-entry : (h : ℕ) → h ≤ goals → stackOf goals h (overwrite bs (entryStart goals k + j) ys) ≡ stackOf goals h bs
-      stack-entry h le = stack-below h bs (entryStart goals k + j) ys (le-trans (mul-le-mul-right (frameSize goals) le) (le-trans (le-add-right (entriesStart goals) (k * entrySize goals)) (le-add-right (entryStart goals k) j))) fits-entry
+      pub entries-under : (n : ℕ) → n ≤ k → entriesFrom goals base n (overwrite bs (entryStartFrom goals base k + j) ys) ≡ entriesFrom goals base n bs
+      entries-under n le = entries-below n bs (entryStartFrom goals base k + j) ys (add-both base j (mul-le-mul-right (entrySize goals) le)) fits-entry
 
     -- ---- a write of entry k
     module _ (k : ℕ) (ys : List ℕ) (lt : k < 2 * goals) (whole : length ys ≡ entrySize goals) where
-      pub entries-whole : (n : ℕ) → k < n → entriesOf goals n (overwrite bs (entryStart goals k) ys) ≡ set (entriesOf goals n bs) k (entryOf goals ys)
-      unfolding entriesOf
-      entries-whole n under = table-whole (entryOf goals) (entrySize goals) (entriesStart goals) bs k ys whole (entry-room k lt) n under
+      pub entry-written : entryFrom goals base k (overwrite bs (entryStartFrom goals base k) ys) ≡ entryOf goals ys
+      entry-written = record-whole (entryOf goals) (entrySize goals) base bs k ys whole (entry-room k lt)
 
-      pub fits-whole : entryStart goals k + length ys ≤ length bs
-      fits-whole = whole-fits (entryStart goals k) whole (entry-room k lt)
+      pub entries-whole : (n : ℕ) → k < n → entriesFrom goals base n (overwrite bs (entryStartFrom goals base k) ys) ≡ set (entriesFrom goals base n bs) k (entryOf goals ys)
+      unfolding entriesFrom
+      entries-whole n under = table-whole (entryOf goals) (entrySize goals) base bs k ys whole (entry-room k lt) n under
+
+      pub fits-whole : entryStartFrom goals base k + length ys ≤ length bs
+      fits-whole = whole-fits (entryStartFrom goals base k) whole (entry-room k lt)
 
       -- those before it, and those behind entry i
-      pub entries-before : (n : ℕ) → n ≤ k → entriesOf goals n (overwrite bs (entryStart goals k) ys) ≡ entriesOf goals n bs
-      entries-before n le = entries-below n bs (entryStart goals k) ys (later (entriesStart goals) (mul-le-mul-right (entrySize goals) le)) fits-whole
+      pub entries-before : (n : ℕ) → n ≤ k → entriesFrom goals base n (overwrite bs (entryStartFrom goals base k) ys) ≡ entriesFrom goals base n bs
+      entries-before n le = entries-below n bs (entryStartFrom goals base k) ys (later (mul-le-mul-right (entrySize goals) le)) fits-whole
         where
-          later : (base : ℕ) {x y : ℕ} → x ≤ y → base + x ≤ base + y
-          later base h = omega arith
+          later : {x y : ℕ} → x ≤ y → base + x ≤ base + y
+          later h = omega arith
 
-      pub entries-behind : (i : ℕ) → k ≤ i → (n : ℕ) → drop (i + 1) (entriesOf goals n (overwrite bs (entryStart goals k) ys)) ≡ drop (i + 1) (entriesOf goals n bs)
+      pub entries-behind : (i : ℕ) → k ≤ i → (n : ℕ) → drop (i + 1) (entriesFrom goals base n (overwrite bs (entryStartFrom goals base k) ys)) ≡ drop (i + 1) (entriesFrom goals base n bs)
       entries-behind i le n =
           elim (decLt k n) [
             | yes under ↦
                 ap (drop (i + 1)) (entries-whole n under)
-                ∙ drop-set-lt (i + 1) (entriesOf goals n bs) k (entryOf goals ys) (omega arith)
+                ∙ drop-set-lt (i + 1) (entriesFrom goals base n bs) k (entryOf goals ys) (omega arith)
             | no past ↦ ap (drop (i + 1)) (entries-before n (omega arith))
           ]
 
       -- one more
-      pub entries-push-back : entriesOf goals (suc k) (overwrite bs (entryStart goals k) ys) ≡ entriesOf goals k bs ++ (entryOf goals ys ∷ [])
-      unfolding entriesOf
+      pub entries-push-back : entriesFrom goals base (suc k) (overwrite bs (entryStartFrom goals base k) ys) ≡ entriesFrom goals base k bs ++ (entryOf goals ys ∷ [])
       entries-push-back =
-          entries-snoc k (overwrite bs (entryStart goals k) ys)
-          ∙ ap₂ (λ (l : List Entry) (e : Entry). l ++ (e ∷ [])) (entries-below k bs (entryStart goals k) ys (at-least refl) fits-whole) (record-whole (entryOf goals) (entrySize goals) (entriesStart goals) bs k ys whole (entry-room k lt))
+          entries-snoc k (overwrite bs (entryStartFrom goals base k) ys)
+          ∙ ap₂ (λ (l : List Entry) (e : Entry). l ++ (e ∷ [])) (entries-below k bs (entryStartFrom goals base k) ys (at-least refl) fits-whole) entry-written
 
-      pub stack-entry-whole : (h : ℕ) → h ≤ goals → stackOf goals h (overwrite bs (entryStart goals k) ys) ≡ stackOf goals h bs
-      stack-entry-whole h le = stack-below h bs (entryStart goals k) ys (le-trans (mul-le-mul-right (frameSize goals) le) (le-add-right (entriesStart goals) (k * entrySize goals))) fits-whole
+-- ---- in the graph's bytes
+module _ (goals : ℕ) (bs : List ℕ) (long : length bs ≡ graphLength goals) where
+  frames-end : entriesStart goals ≤ length bs
+  frames-end = omega arith
+
+  -- frame i is there
+  pub frame-room : (i : ℕ) → i < goals → frameStart goals i + frameSize goals ≤ length bs
+  frame-room i lt = le-trans (apart i goals (frameSize goals) lt) frames-end
+
+  -- ---- a write of frame i
+  module _ (i : ℕ) (ys : List ℕ) (lt : i < goals) (whole : length ys ≡ frameSize goals) where
+    -- the top
+    pub stack-push : stackOf goals (suc i) (overwrite bs (frameStart goals i) ys) ≡ frameOf goals ys ∷ stackOf goals i bs
+    unfolding stackOf
+    stack-push = down-push (frameOf goals) (frameSize goals) bs i (frame-room i lt) ys whole
+
+    pub entries-push : (n : ℕ) → entriesOf goals n (overwrite bs (frameStart goals i) ys) ≡ entriesOf goals n bs
+    entries-push n =
+        let below : frameStart goals i + length ys ≤ entriesStart goals = whole-fits (frameStart goals i) whole (apart i goals (frameSize goals) lt) in
+        entries-above goals (entriesStart goals) n bs (frameStart goals i) ys below (le-trans below frames-end)
 
 -- ---- the workspace: the graph, then the merged usages
 pub work-length : (goals : ℕ) → workLength goals ≡ graphLength goals + goals * blockSize goals

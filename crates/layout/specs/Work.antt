@@ -17,12 +17,20 @@ frameStart goals i = i * frameSize goals
 abbrev pub entriesStart : ℕ → ℕ
 entriesStart goals = goals * frameSize goals
 
+-- entry i of those that start at `base`
+abbrev pub entryStartFrom : ℕ → ℕ → ℕ → ℕ
+entryStartFrom goals base i = base + i * entrySize goals
+
+-- in the graph
 abbrev pub entryStart : ℕ → ℕ → ℕ
-entryStart goals i = entriesStart goals + i * entrySize goals
+entryStart goals i = entryStartFrom goals (entriesStart goals) i
+
+abbrev pub entriesLength : ℕ → ℕ
+entriesLength goals = 2 * goals * entrySize goals
 
 -- frames and entries
 abbrev pub graphLength : ℕ → ℕ
-graphLength goals = entriesStart goals + 2 * goals * entrySize goals
+graphLength goals = entriesStart goals + entriesLength goals
 
 abbrev pub mergedStart : ℕ → ℕ → ℕ
 mergedStart goals i = graphLength goals + i * blockSize goals
@@ -31,8 +39,16 @@ mergedStart goals i = graphLength goals + i * blockSize goals
 unfoldable pub stackOf : ℕ → ℕ → List ℕ → Stack
 stackOf goals height bs = tableDown (frameOf goals) (frameSize goals) 0 height bs
 
-unfoldable pub entriesOf : ℕ → ℕ → List ℕ → List Entry
-entriesOf goals n bs = table (entryOf goals) (entrySize goals) (entriesStart goals) n bs
+-- n entries that start at `base`, and one of them
+unfoldable pub entriesFrom : ℕ → ℕ → ℕ → List ℕ → List Entry
+entriesFrom goals base n bs = table (entryOf goals) (entrySize goals) base n bs
+
+abbrev pub entryFrom : ℕ → ℕ → ℕ → List ℕ → Entry
+entryFrom goals base i bs = entryOf goals (region (entryStartFrom goals base i) (entrySize goals) bs)
+
+-- in the graph
+abbrev pub entriesOf : ℕ → ℕ → List ℕ → List Entry
+entriesOf goals n bs = entriesFrom goals (entriesStart goals) n bs
 
 -- the merged usages of a pick at frame i
 unfoldable pub mergedOf : ℕ → ℕ → List ℕ → List HeadUsages

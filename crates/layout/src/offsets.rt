@@ -5,7 +5,8 @@ ghost use Rattle.definition.specs.Query.{workLength};
 ghost use Rattle.layout.specs.Blocks.{headsSize, blockSize};
 ghost use Rattle.layout.specs.Frame.{candidateStart, nestedStart, countsStart, frameSize};
 ghost use Rattle.layout.specs.Entry.{entrySize};
-ghost use Rattle.layout.specs.Work.{frameStart, entryStart, graphLength, mergedStart};
+ghost use Rattle.layout.specs.Work.{frameStart, entriesStart, entryStartFrom, entryStart};
+ghost use Rattle.layout.specs.Work.{graphLength, mergedStart};
 
 // ---- the fields of a frame
 pub const FRAME_INPUT: usize = 0;
@@ -97,7 +98,7 @@ fn times(a: usize, b: usize) -> usize
     a * b
 }
 
-// In the graph: a frame, and an entry.
+// In the graph: a frame, the first entry, and any entry.
 pub fn frame_start(goals: usize, i: usize) -> usize
     requires { ⌜ (goals ≤ 64) × (i ≤ 64) ⌝ }
     ensures { λ r. ⌜ (r ≡ frameStart goals i) × (r ≤ 2097152) ⌝ }
@@ -105,11 +106,26 @@ pub fn frame_start(goals: usize, i: usize) -> usize
     times(i, frame_size(goals))
 }
 
+pub fn entries_start(goals: usize) -> usize
+    requires { ⌜ goals ≤ 64 ⌝ }
+    ensures { λ r. ⌜ (r ≡ entriesStart goals) × (r ≤ 2097152) ⌝ }
+{
+    frame_start(goals, goals)
+}
+
 pub fn entry_start(goals: usize, i: usize) -> usize
     requires { ⌜ (goals ≤ 64) × (i ≤ 128) ⌝ }
     ensures { λ r. ⌜ (r ≡ entryStart goals i) × (r ≤ 4194304) ⌝ }
 {
-    frame_start(goals, goals) + times(i, entry_size(goals))
+    entries_start(goals) + times(i, entry_size(goals))
+}
+
+// In bytes that hold the entries from `base` on: an entry.
+pub fn entry_start_from(goals: usize, base: usize, i: usize) -> usize
+    requires { ⌜ (goals ≤ 64) × ((base ≤ 2097152) × (i ≤ 128)) ⌝ }
+    ensures { λ r. ⌜ (r ≡ entryStartFrom goals base i) × (r ≤ 4194304) ⌝ }
+{
+    base + times(i, entry_size(goals))
 }
 
 pub fn graph_length(goals: usize) -> usize

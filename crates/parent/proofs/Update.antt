@@ -149,7 +149,7 @@ entry-behind goals own i start lt e = subst (λ (x : ℕ). frameStart goals own 
 
 pub entry-fits : (goals : ℕ) (bs : List ℕ) (i start : ℕ) → length bs ≡ graphLength goals → i < 2 * goals → start ≡ entryStart goals i + entryHeadsStart → start + headsSize goals ≤ length bs
 entry-fits goals bs i start long lt e =
-    subst (λ (x : ℕ). x + headsSize goals ≤ length bs) (sym e) (inner (entryStart goals i) (entrySize goals) (headsSize goals) (length bs) (omega arith) (entry-room goals bs long i lt))
+    subst (λ (x : ℕ). x + headsSize goals ≤ length bs) (sym e) (inner (entryStart goals i) (entrySize goals) (headsSize goals) (length bs) (omega arith) (entry-room goals (entriesStart goals) bs long i lt))
 
 -- ---- by what the calls say
 pub update-entry : (goals height i start : ℕ) (bs mid out : List ℕ) (step : PathKind) (o : Bool) (r : ℕ) → 0 < height → start ≡ entryStart goals i + entryHeadsStart

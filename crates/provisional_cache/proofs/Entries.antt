@@ -3,6 +3,7 @@ use mathlib.Core.Path.{_≡_, sym, ap, ap₂, _∙_, subst}
 use mathlib.Core.Bool.{Bool}
 use mathlib.Core.List.{List}
 use Prim.Native.Nat.{ℕ, _+_, _*_, _-_, _≤_, _<_}
+use native.Mathlib.Nat.{mul-le-mul}
 use native.Mathlib.Omega.{arith}
 use lib.ListN.{length, set, take, drop, length-set}
 use Rattle.definition.specs.declared.paths.PathKind.{PathKind}
@@ -15,32 +16,47 @@ use Rattle.definition.proofs.Numbers.{answer-back}
 use Rattle.buffer.specs.Regions.{region, overwrite}
 use Rattle.buffer.proofs.Regions.{length-region}
 use Rattle.layout.specs.Blocks.{headsSize, headsOf, HeadsBlock}
-use Rattle.layout.specs.Frame.{truth}
+use Rattle.layout.specs.Frame.{truth, frameSize}
 use Rattle.layout.specs.Entry.{entryHeadsStart, entrySize, entryOf}
-use Rattle.layout.specs.Work.{entryStart}
+use Rattle.layout.specs.Work.{entriesStart, entryStartFrom}
 use Rattle.layout.proofs.Frames.{entry-byte, entry-heads, withEntryByte}
 use Rattle.layout.proofs.Graphs.{entry-room}
 use Rattle.stack.specs.Bytes.{GraphBytes}
 use Rattle.stack.proofs.Parts.{part, returned, part-length, part-back}
 use Rattle.stack.proofs.Fields.{kind-back}
-use Rattle.provisional_cache.specs.Entries.{EntryBytes, entryBytes, withFields, withLongerPath}
+use Rattle.provisional_cache.specs.Entries.{EntryBytes, EntriesBytes, entryBytesFrom, entryBytes, withFields, withLongerPath}
+
+-- a graph holds them behind its frames
+pub graph-entries : (goals : ℕ) (bs : List ℕ) → GraphBytes goals bs → EntriesBytes goals (entriesStart goals) bs
+graph-entries goals bs g =
+    let f = g .few in
+    let wide : frameSize goals ≤ 4288 = omega arith in
+    record { few = f; low = omega (arith, mul-le-mul f wide); long = g .long }
+
+-- its frames are as many as `base` leaves room for
+pub entries-from : (goals base : ℕ) (bs : List ℕ) → GraphBytes goals bs → base ≡ entriesStart goals → EntriesBytes goals base bs
+entries-from goals base bs g e = subst (λ (x : ℕ). EntriesBytes goals x bs) (sym e) (graph-entries goals bs g)
 
 -- the bytes of an entry are an entry's
-pub entry-bytes : (goals : ℕ) (bs r : List ℕ) (i : ℕ) → GraphBytes goals bs → i < 2 * goals → r ≡ entryBytes goals i bs → EntryBytes goals r
-entry-bytes goals bs r i g lt e =
-    record { few = g .few; long = ap length e ∙ length-region (entryStart goals i) (entrySize goals) bs (entry-room goals bs (g .long) i lt) }
+pub entry-bytes : (goals base : ℕ) (bs r : List ℕ) (i : ℕ) → EntriesBytes goals base bs → i < 2 * goals → r ≡ entryBytesFrom goals base i bs → EntryBytes goals r
+entry-bytes goals base bs r i g lt e =
+    record { few = g .few; long = ap length e ∙ length-region (entryStartFrom goals base i) (entrySize goals) bs (entry-room goals base bs (g .long) i lt) }
+
+-- in a graph
+pub entry-at-bytes : (goals : ℕ) (bs r : List ℕ) (i : ℕ) → GraphBytes goals bs → i < 2 * goals → r ≡ entryBytes goals i bs → EntryBytes goals r
+entry-at-bytes goals bs r i g lt e = entry-bytes goals (entriesStart goals) bs r i (graph-entries goals bs g) lt e
 
 -- entry i, at a, of n bytes
-module _ (goals : ℕ) (bs : List ℕ) (i a n : ℕ) (g : GraphBytes goals bs) (lt : i < 2 * goals) (is-a : a ≡ entryStart goals i) (is-n : n ≡ entrySize goals) where
+module _ (goals base : ℕ) (bs : List ℕ) (i a n : ℕ) (g : EntriesBytes goals base bs) (lt : i < 2 * goals) (is-a : a ≡ entryStartFrom goals base i) (is-n : n ≡ entrySize goals) where
   pub part-room : a + n ≤ length bs
-  part-room = subst (λ (x : ℕ). x ≤ length bs) (sym (ap₂ (λ (x y : ℕ). x + y) is-a is-n)) (entry-room goals bs (g .long) i lt)
+  part-room = subst (λ (x : ℕ). x ≤ length bs) (sym (ap₂ (λ (x y : ℕ). x + y) is-a is-n)) (entry-room goals base bs (g .long) i lt)
 
-  pub part-is : part bs a (a + n) ≡ entryBytes goals i bs
+  pub part-is : part bs a (a + n) ≡ entryBytesFrom goals base i bs
   part-is = let e : a + n - a ≡ n = omega arith in ap₂ (λ (m k : ℕ). take m (drop k bs)) (e ∙ is-n) is-a
 
   -- it comes back with ys
   module _ (ys : List ℕ) (kept : length ys ≡ length (part bs a (a + n))) where
-    pub entry-back : returned bs a (a + n) ys ≡ overwrite bs (entryStart goals i) ys
+    pub entry-back : returned bs a (a + n) ys ≡ overwrite bs (entryStartFrom goals base i) ys
     entry-back = part-back bs a (a + n) ys (omega arith) part-room kept ∙ ap (λ (x : ℕ). overwrite bs x ys) is-a
 
     pub entry-whole : length ys ≡ entrySize goals

@@ -17,7 +17,7 @@ use Rattle.definition.specs.Heads.{highestIndex}
 use Rattle.definition.specs.Stack.{cyclePathKind}
 use Rattle.definition.specs.ProvisionalCache.{survivors, clearDependentProvisionalResultsForRerun}
 use Rattle.definition.specs.Evaluate.{newEntry, insertProvisionalCache}
-use Rattle.layout.specs.Work.{stackOf, entriesOf, graphOf}
+use Rattle.layout.specs.Work.{entriesStart, stackOf, entriesOf, graphOf}
 use Rattle.layout.proofs.Graphs.{length-stack, length-entries}
 use Rattle.stack.specs.Bytes.{frameAt}
 use Rattle.provisional_cache.specs.Entries.{entryAt, entryFound, entryOn, FramesKept}
@@ -45,7 +45,7 @@ module _ (h : Header) (root height n goal : ℕ) (step : PathKind) (overflow : B
       ]
 
   opened : insertProvisionalCache h (graphOf (h .goals) root height n old cache) goal step r ≡ choice (leb (2 * h .goals) n)
-  opened = ap (λ (k : ℕ). choice (leb (2 * h .goals) k)) (length-entries (h .goals) n old)
+  opened = ap (λ (k : ℕ). choice (leb (2 * h .goals) k)) (length-entries (h .goals) (entriesStart (h .goals)) n old)
 
   pub insert-stops : 2 * h .goals ≤ n → insertProvisionalCache h (graphOf (h .goals) root height n old cache) goal step r ≡ Stopped ProvisionalCacheFull
   insert-stops past = opened ∙ ap choice (le-leb (2 * h .goals) n past)

@@ -10,99 +10,115 @@ use lib.ListN.{length, getD, set, drop}
 use Rattle.definition.specs.declared.paths.PathKind.{PathKind}
 use Rattle.definition.specs.declared.answers.Answer.{Answer}
 use Rattle.definition.specs.Graph.{Entry}
+use Rattle.definition.specs.ProvisionalCache.{survivors}
 use Rattle.buffer.specs.Regions.{region, overwrite}
+use Rattle.buffer.specs.Tables.{recordAt}
 use Rattle.buffer.proofs.Regions.{length-region, region-before, region-region, region-inside, region-snoc, byte-before, overwrite-snoc, overwrite-back, length-overwrite}
-use Rattle.buffer.proofs.Tables.{apart}
+use Rattle.buffer.proofs.Tables.{apart, down-same}
 use Rattle.layout.specs.Blocks.{headsSize}
 use Rattle.layout.specs.Entry.{entryHeadsStart, entrySize, entryOf}
 use Rattle.layout.specs.Frame.{headsStart, frameSize, frameOf}
-use Rattle.layout.specs.Work.{entriesStart, entryStart, frameStart, entriesOf}
+use Rattle.layout.specs.Work.{entriesStart, entryStartFrom, entryStart, entriesLength, frameStart, stackOf, entriesFrom, entryFrom, entriesOf}
 use Rattle.layout.proofs.Frames.{entry-heads}
-use Rattle.layout.proofs.Graphs.{into-fits, entry-room, frame-room, fits-entry, fits-whole, entries-behind, entries-under, entries-push-back, stack-entry, stack-entry-whole}
+use Rattle.layout.proofs.Graphs.{into-fits, entry-room, frame-room, fits-entry, fits-whole, entries-behind, entries-under, entries-push-back}
 use Rattle.stack.specs.Bytes.{GraphBytes, frameBytes, frameAt}
 use Rattle.stack.proofs.Parts.{part, returned}
-use Rattle.provisional_cache.specs.Entries.{entryBytes, entryAt, entryOn, withFields, FramesKept}
-use Rattle.provisional_cache.specs.Reruns.{keptOf, Compacted}
+use Rattle.provisional_cache.specs.Entries.{EntriesBytes, entryBytesFrom, entryBytes, entryAt, entryOn, withFields, FramesKept}
+use Rattle.provisional_cache.specs.Reruns.{keptOf, Compacted, Cleared}
 use Rattle.provisional_cache.specs.Inserts.{Appended}
-use Rattle.provisional_cache.proofs.Entries.{part-is, entry-back, entry-whole}
-use Rattle.provisional_cache.proofs.Loops.{frames-same, frames-then, graph-bytes}
-
--- ---- orders, over what the sizes are
-start-of : (a x j : ℕ) → 0 + a ≤ a + x + j
-start-of a x j = omega arith
-
-start-at : (a x : ℕ) → 0 + a ≤ a + x
-start-at a x = omega arith
+use Rattle.provisional_cache.proofs.Entries.{graph-entries, part-is, entry-back, entry-whole}
+use Rattle.provisional_cache.proofs.Loops.{frames-then, graph-bytes, Compacting, Whole, whole-done}
 
 -- the bytes of a frame are among those that are kept
-pub frame-kept : (goals : ℕ) (old new : List ℕ) (i : ℕ) → FramesKept goals old new → i < goals → frameAt goals i new ≡ frameAt goals i old
-frame-kept goals old new i f lt = ap (frameOf goals) (sym (inside new) ∙ ap (region (frameStart goals i) (frameSize goals)) (f .bytes) ∙ inside old)
+frame-of : (goals : ℕ) (old new : List ℕ) (i : ℕ) → region 0 (entriesStart goals) new ≡ region 0 (entriesStart goals) old → i < goals → frameAt goals i new ≡ frameAt goals i old
+frame-of goals old new i e lt = ap (frameOf goals) (sym (inside new) ∙ ap (region (frameStart goals i) (frameSize goals)) e ∙ inside old)
   where
     inside : (l : List ℕ) → region (frameStart goals i) (frameSize goals) (region 0 (entriesStart goals) l) ≡ frameBytes goals i l
     inside l =
         region-region 0 (entriesStart goals) (frameStart goals i) (frameSize goals) l (apart i goals (frameSize goals) lt)
         ∙ ap (λ (a : ℕ). region a (frameSize goals) l) (zero-add (frameStart goals i))
 
-module _ (goals : ℕ) (bs : List ℕ) (g : GraphBytes goals bs) where
+pub frame-kept : (goals : ℕ) (old new : List ℕ) (i : ℕ) → FramesKept goals old new → i < goals → frameAt goals i new ≡ frameAt goals i old
+frame-kept goals old new i f lt = frame-of goals old new i (f .bytes) lt
+
+-- the bytes below the entries hold every stack
+pub frames-of : (goals : ℕ) (old new : List ℕ) → region 0 (entriesStart goals) new ≡ region 0 (entriesStart goals) old → FramesKept goals old new
+unfolding stackOf
+frames-of goals old new e =
+    record {
+      bytes = e;
+      stacks = λ h le. down-same (recordAt (frameOf goals) (frameSize goals) 0 new) (recordAt (frameOf goals) (frameSize goals) 0 old) h (λ i lt. at i (omega arith));
+    }
+  where
+    at : (i : ℕ) → i < goals → recordAt (frameOf goals) (frameSize goals) 0 new i ≡ recordAt (frameOf goals) (frameSize goals) 0 old i
+    at i lt = let z = zero-add (i * frameSize goals) in ap (λ (a : ℕ). frameOf goals (region a (frameSize goals) new)) z ∙ frame-of goals old new i e lt ∙ sym (ap (λ (a : ℕ). frameOf goals (region a (frameSize goals) old)) z)
+
+-- ---- in bytes that hold the entries from `base` on
+module _ (goals base : ℕ) (bs : List ℕ) (long : length bs ≡ base + entriesLength goals) where
   -- a write in entry k, j bytes into it
-  pub frames-inside : (k j : ℕ) (ys : List ℕ) → k < 2 * goals → j + length ys ≤ entrySize goals → FramesKept goals bs (overwrite bs (entryStart goals k + j) ys)
-  frames-inside k j ys lt inner =
-      record {
-        bytes = region-before bs (entryStart goals k + j) ys (fits-entry goals bs (g .long) k j ys lt inner) 0 (entriesStart goals) (start-of (entriesStart goals) (k * entrySize goals) j);
-        stacks = stack-entry goals bs (g .long) k j ys lt inner;
-      }
+  pub below-inside : (k j : ℕ) (ys : List ℕ) → k < 2 * goals → j + length ys ≤ entrySize goals → region 0 base (overwrite bs (entryStartFrom goals base k + j) ys) ≡ region 0 base bs
+  below-inside k j ys lt inner = region-before bs (entryStartFrom goals base k + j) ys (fits-entry goals base bs long k j ys lt inner) 0 base (omega arith)
 
   -- a write of entry k
-  pub frames-whole : (k : ℕ) (ys : List ℕ) → k < 2 * goals → length ys ≡ entrySize goals → FramesKept goals bs (overwrite bs (entryStart goals k) ys)
-  frames-whole k ys lt whole =
-      record {
-        bytes = region-before bs (entryStart goals k) ys (fits-whole goals bs (g .long) k ys lt whole) 0 (entriesStart goals) (start-at (entriesStart goals) (k * entrySize goals));
-        stacks = stack-entry-whole goals bs (g .long) k ys lt whole;
-      }
+  pub below-whole : (k : ℕ) (ys : List ℕ) → k < 2 * goals → length ys ≡ entrySize goals → region 0 base (overwrite bs (entryStartFrom goals base k) ys) ≡ region 0 base bs
+  below-whole k ys lt whole = region-before bs (entryStartFrom goals base k) ys (fits-whole goals base bs long k ys lt whole) 0 base (omega arith)
 
+module _ (goals base : ℕ) (bs : List ℕ) (g : EntriesBytes goals base bs) where
   -- ---- `move_entry`
-  pub move-none : (from to : ℕ) → from < 2 * goals → from ≡ to → bs ≡ overwrite bs (entryStart goals to) (entryBytes goals from bs)
+  pub move-none : (from to : ℕ) → from < 2 * goals → from ≡ to → bs ≡ overwrite bs (entryStartFrom goals base to) (entryBytesFrom goals base from bs)
   move-none from to lt e =
-      sym (overwrite-back bs (entryStart goals from) (entrySize goals) (entry-room goals bs (g .long) from lt))
-      ∙ ap (λ (k : ℕ). overwrite bs (entryStart goals k) (entryBytes goals from bs)) e
+      sym (overwrite-back bs (entryStartFrom goals base from) (entrySize goals) (entry-room goals base bs (g .long) from lt))
+      ∙ ap (λ (k : ℕ). overwrite bs (entryStartFrom goals base k) (entryBytesFrom goals base from bs)) e
 
-  pub move-room : (from to : ℕ) → to ≤ from → from < 2 * goals → (a b n : ℕ) → a ≡ entryStart goals from → b ≡ entryStart goals to → n ≡ entrySize goals → (b ≤ a) × (a + n ≤ length bs)
+  pub move-room : (from to : ℕ) → to ≤ from → from < 2 * goals → (a b n : ℕ) → a ≡ entryStartFrom goals base from → b ≡ entryStartFrom goals base to → n ≡ entrySize goals → (b ≤ a) × (a + n ≤ length bs)
   move-room from to le lt a b n is-a is-b is-n = (
-    subst (λ (x : ℕ). x ≤ a) (sym is-b) (subst (λ (x : ℕ). entryStart goals to ≤ x) (sym is-a) (add-le-add (le-refl (entriesStart goals)) (mul-le-mul-right (entrySize goals) le))),
-    subst (λ (x : ℕ). x ≤ length bs) (sym (ap₂ (λ (x y : ℕ). x + y) is-a is-n)) (entry-room goals bs (g .long) from lt),
+    subst (λ (x : ℕ). x ≤ a) (sym is-b) (subst (λ (x : ℕ). entryStartFrom goals base to ≤ x) (sym is-a) (add-le-add (le-refl base) (mul-le-mul-right (entrySize goals) le))),
+    subst (λ (x : ℕ). x ≤ length bs) (sym (ap₂ (λ (x y : ℕ). x + y) is-a is-n)) (entry-room goals base bs (g .long) from lt),
   )
 
-  pub move-is : (from to a b n : ℕ) (new : List ℕ) → a ≡ entryStart goals from → b ≡ entryStart goals to → n ≡ entrySize goals → new ≡ overwrite bs b (region a n bs)
-      → new ≡ overwrite bs (entryStart goals to) (entryBytes goals from bs)
+  pub move-is : (from to a b n : ℕ) (new : List ℕ) → a ≡ entryStartFrom goals base from → b ≡ entryStartFrom goals base to → n ≡ entrySize goals → new ≡ overwrite bs b (region a n bs)
+      → new ≡ overwrite bs (entryStartFrom goals base to) (entryBytesFrom goals base from bs)
   move-is from to a b n new is-a is-b is-n is = is ∙ ap₂ (λ (k : ℕ) (l : List ℕ). overwrite bs k l) is-b (ap₂ (λ (k m : ℕ). region k m bs) is-a is-n)
 
   -- ---- `keep_if`
-  pub keep-not : (i kept : ℕ) (keep : Bool) → keep ≡ false → Compacted goals i kept keep bs bs kept
+  pub keep-not : (i kept : ℕ) (keep : Bool) → keep ≡ false → Compacted goals base i kept keep bs bs kept
   keep-not i kept keep drops =
       record {
         least = omega arith;
         most = omega arith;
-        frames = frames-same goals bs;
-        entries = sym (append-nil (entriesOf goals kept bs)) ∙ sym (ap (λ (t : Bool). entriesOf goals kept bs ++ keptOf t (entryAt goals i bs)) drops);
-        rest = λ n few. refl;
+        below = refl;
+        entries = sym (append-nil (entriesFrom goals base kept bs)) ∙ sym (ap (λ (t : Bool). entriesFrom goals base kept bs ++ keptOf t (entryFrom goals base i bs)) drops);
+        rest = λ n. refl;
       }
 
-  pub keep-moved : (i kept : ℕ) (keep : Bool) (new : List ℕ) → keep ≡ true → kept ≤ i → i < 2 * goals → new ≡ overwrite bs (entryStart goals kept) (entryBytes goals i bs)
-      → Compacted goals i kept keep bs new (kept + 1)
+  pub keep-moved : (i kept : ℕ) (keep : Bool) (new : List ℕ) → keep ≡ true → kept ≤ i → i < 2 * goals → new ≡ overwrite bs (entryStartFrom goals base kept) (entryBytesFrom goals base i bs)
+      → Compacted goals base i kept keep bs new (kept + 1)
   keep-moved i kept keep new keeps le lt is =
-      let ys : List ℕ = entryBytes goals i bs in
-      let whole : length ys ≡ entrySize goals = length-region (entryStart goals i) (entrySize goals) bs (entry-room goals bs (g .long) i lt) in
+      let ys : List ℕ = entryBytesFrom goals base i bs in
+      let whole : length ys ≡ entrySize goals = length-region (entryStartFrom goals base i) (entrySize goals) bs (entry-room goals base bs (g .long) i lt) in
       let lo : kept < 2 * goals = omega arith in
       record {
         least = omega arith;
         most = omega arith;
-        frames = subst (FramesKept goals bs) (sym is) (frames-whole kept ys lo whole);
+        below = ap (region 0 base) is ∙ below-whole goals base bs (g .long) kept ys lo whole;
         entries =
-            ap₂ (λ (k : ℕ) (l : List ℕ). entriesOf goals k l) (add-one kept) is
-            ∙ entries-push-back goals bs (g .long) kept ys lo whole
-            ∙ sym (ap (λ (t : Bool). entriesOf goals kept bs ++ keptOf t (entryAt goals i bs)) keeps);
-        rest = λ n few. ap (λ (l : List ℕ). drop (i + 1) (entriesOf goals n l)) is ∙ entries-behind goals bs (g .long) kept ys lo whole i le n;
+            ap₂ (λ (k : ℕ) (l : List ℕ). entriesFrom goals base k l) (add-one kept) is
+            ∙ entries-push-back goals base bs (g .long) kept ys lo whole
+            ∙ sym (ap (λ (t : Bool). entriesFrom goals base kept bs ++ keptOf t (entryFrom goals base i bs)) keeps);
+        rest = λ n. ap (λ (l : List ℕ). drop (i + 1) (entriesFrom goals base n l)) is ∙ entries-behind goals base bs (g .long) kept ys lo whole i le n;
       }
+
+-- ---- `clear_for_rerun`
+pub cleared : (goals base rerun n : ℕ) (old new : List ℕ) (kept i : ℕ) → base ≡ entriesStart goals → Compacting base n old new kept i
+    → Whole (survivors rerun) goals base n old new kept i → n ≤ i → Cleared goals rerun n old new kept
+cleared goals base rerun n old new kept i is inv whole past =
+    let k0 = inv .kept-few in
+    let k1 = inv .few in
+    record {
+      few = omega arith;
+      entries = subst (λ (b : ℕ). entriesFrom goals b kept new ≡ survivors rerun (entriesFrom goals b n old)) is (whole-done (survivors rerun) goals base n old refl new kept i whole past);
+      frames = frames-of goals old new (subst (λ (b : ℕ). region 0 b new ≡ region 0 b old) is (inv .below));
+    }
 
 -- ---- `copy_up`
 pub copy-up-more : (bs s : List ℕ) (from to n i : ℕ) → s ≡ overwrite bs to (region from i bs) → from + n ≤ to → to + n ≤ length bs → i < n
@@ -127,7 +143,7 @@ copy-room goals height i a b n bs g under lt is-a is-b is-n =
     let wide : 40 + size ≤ frameSize goals = omega arith in
     let inner : entryHeadsStart + size ≤ entrySize goals = omega arith in
     let first = copy-order (entriesStart goals) (frameSize goals) size (frameStart goals height) (i * entrySize goals) (apart height goals (frameSize goals) under) wide in
-    let second = into-fits (entryStart goals i) entryHeadsStart size inner (entry-room goals bs (g .long) i lt) in (
+    let second = into-fits (entryStart goals i) entryHeadsStart size inner (entry-room goals (entriesStart goals) bs (g .long) i lt) in (
       subst (λ (x : ℕ). x ≤ b) (sym (ap₂ (λ (x y : ℕ). x + y) is-a is-n)) (subst (λ (x : ℕ). frameStart goals height + 40 + size ≤ x) (sym is-b) first),
       subst (λ (x : ℕ). x ≤ length bs) (sym (ap₂ (λ (x y : ℕ). x + y) is-b is-n)) second,
     )
@@ -149,7 +165,7 @@ module _ (goals height k : ℕ) (bs mid : List ℕ) (g : GraphBytes goals bs) (u
   wide-frame = length-region (frameStart goals height) (frameSize goals) bs (frame-room goals bs (g .long) height under)
 
   wide-entry : length (entryBytes goals k bs) ≡ entrySize goals
-  wide-entry = length-region (entryStart goals k) (entrySize goals) bs (entry-room goals bs (g .long) k lt)
+  wide-entry = length-region (entryStart goals k) (entrySize goals) bs (entry-room goals (entriesStart goals) bs (g .long) k lt)
 
   wide-heads : length hs ≡ headsSize goals
   wide-heads = length-region headsStart (headsSize goals) (frameBytes goals height bs) (subst (λ (x : ℕ). headsStart + headsSize goals ≤ x) (sym wide-frame) (omega arith))
@@ -158,33 +174,36 @@ module _ (goals height k : ℕ) (bs mid : List ℕ) (g : GraphBytes goals bs) (u
   inner = subst (λ (x : ℕ). entryHeadsStart + x ≤ entrySize goals) (sym wide-heads) (omega arith)
 
   pub mid-length : length mid ≡ length bs
-  mid-length = ap length is-mid ∙ length-overwrite bs (entryStart goals k + entryHeadsStart) hs (fits-entry goals bs (g .long) k entryHeadsStart hs lt inner)
+  mid-length = ap length is-mid ∙ length-overwrite bs (entryStart goals k + entryHeadsStart) hs (fits-entry goals (entriesStart goals) bs (g .long) k entryHeadsStart hs lt inner)
 
   pub mid-bytes : GraphBytes goals mid
   mid-bytes = graph-bytes goals bs mid g mid-length
 
+  pub mid-entries-bytes : EntriesBytes goals (entriesStart goals) mid
+  mid-entries-bytes = graph-entries goals mid mid-bytes
+
   mid-frames : FramesKept goals bs mid
-  mid-frames = subst (FramesKept goals bs) (sym is-mid) (frames-inside goals bs g k entryHeadsStart hs lt inner)
+  mid-frames = frames-of goals bs mid (ap (region 0 (entriesStart goals)) is-mid ∙ below-inside goals (entriesStart goals) bs (g .long) k entryHeadsStart hs lt inner)
 
   mid-entries : entriesOf goals k mid ≡ entriesOf goals k bs
-  mid-entries = ap (entriesOf goals k) is-mid ∙ entries-under goals bs (g .long) k entryHeadsStart hs lt inner k (omega arith)
+  mid-entries = ap (entriesOf goals k) is-mid ∙ entries-under goals (entriesStart goals) bs (g .long) k entryHeadsStart hs lt inner k (omega arith)
 
   mid-heads : (entryAt goals k mid) .heads ≡ (frameAt goals height bs) .heads
   unfolding frameOf
   mid-heads =
       ap (λ (l : List ℕ). (entryOf goals l) .heads)
-      (ap (region (entryStart goals k) (entrySize goals)) is-mid ∙ region-inside bs (entryStart goals k) (entrySize goals) entryHeadsStart hs inner (entry-room goals bs (g .long) k lt))
+      (ap (region (entryStart goals k) (entrySize goals)) is-mid ∙ region-inside bs (entryStart goals k) (entrySize goals) entryHeadsStart hs inner (entry-room goals (entriesStart goals) bs (g .long) k lt))
       ∙ ap (λ (e : Entry). e .heads) (entry-heads goals (entryBytes goals k bs) wide-entry hs wide-heads)
 
   module _ (a n : ℕ) (is-a : a ≡ entryStart goals k) (is-n : n ≡ entrySize goals) (ys : List ℕ) (kept : length ys ≡ length (part mid a (a + n))) where
     back : returned mid a (a + n) ys ≡ overwrite mid (entryStart goals k) ys
-    back = entry-back goals mid k a n mid-bytes lt is-a is-n ys kept
+    back = entry-back goals (entriesStart goals) mid k a n mid-entries-bytes lt is-a is-n ys kept
 
     whole : length ys ≡ entrySize goals
-    whole = entry-whole goals mid k a n mid-bytes lt is-a is-n ys kept
+    whole = entry-whole goals (entriesStart goals) mid k a n mid-entries-bytes lt is-a is-n ys kept
 
     append-frames : FramesKept goals bs (returned mid a (a + n) ys)
-    append-frames = subst (FramesKept goals bs) (sym back) (frames-then goals bs mid (overwrite mid (entryStart goals k) ys) mid-frames (frames-whole goals mid mid-bytes k ys lt whole))
+    append-frames = subst (FramesKept goals bs) (sym back) (frames-then goals bs mid (overwrite mid (entryStart goals k) ys) mid-frames (frames-of goals mid (overwrite mid (entryStart goals k) ys) (below-whole goals (entriesStart goals) mid (mid-bytes .long) k ys lt whole)))
 
     pub appended : (goal : ℕ) (overflow : Bool) (path : PathKind) (answer : Answer) → entryOf goals ys ≡ withFields (entryOf goals (part mid a (a + n))) goal overflow path answer
         → Appended goals k (entryOn goal overflow ((frameAt goals height bs) .heads) path answer) bs (returned mid a (a + n) ys)
@@ -192,9 +211,9 @@ module _ (goals height k : ℕ) (bs mid : List ℕ) (g : GraphBytes goals bs) (u
         record {
           entries =
               ap₂ (λ (m : ℕ) (l : List ℕ). entriesOf goals m l) (add-one k) back
-              ∙ entries-push-back goals mid (mid-bytes .long) k ys lt whole
+              ∙ entries-push-back goals (entriesStart goals) mid (mid-bytes .long) k ys lt whole
               ∙ ap₂ (λ (l : List Entry) (e : Entry). l ++ (e ∷ [])) mid-entries
-              (is ∙ (let e = ap (λ (l : List ℕ). (entryOf goals l) .heads) (part-is goals mid k a n mid-bytes lt is-a is-n) ∙ mid-heads in
+              (is ∙ (let e = ap (λ (l : List ℕ). (entryOf goals l) .heads) (part-is goals (entriesStart goals) mid k a n mid-entries-bytes lt is-a is-n) ∙ mid-heads in
               λ t. entryOn goal overflow (e t) path answer));
           frames = append-frames;
         }

@@ -3,7 +3,7 @@ use mathlib.Core.Path.{_≡_}
 use mathlib.Core.Bool.{Bool, true, false}
 use mathlib.Core.Option.{Option, none, some}
 use mathlib.Core.List.{List}
-use Prim.Native.Nat.{ℕ, _≤_}
+use Prim.Native.Nat.{ℕ, _+_, _≤_}
 use lib.Dec.{ltb}
 use lib.ListN.{length}
 use Rattle.definition.specs.declared.paths.PathKind.{PathKind}
@@ -13,21 +13,31 @@ use Rattle.definition.specs.Graph.{Entry, withEntryHeads, withPathFromHead}
 use Rattle.definition.specs.Paths.{extend}
 use Rattle.definition.specs.Heads.{CycleHeads, removeHead, insertHead}
 use Rattle.buffer.specs.Regions.{region}
-use Rattle.layout.specs.Entry.{entrySize, entryOf}
-use Rattle.layout.specs.Work.{entriesStart, entryStart, stackOf}
+use Rattle.layout.specs.Entry.{entrySize}
+use Rattle.layout.specs.Work.{entriesStart, entryStartFrom, entriesLength, entryFrom, stackOf}
 
 -- what the bytes of an entry must be
 pub record EntryBytes (goals : ℕ) (bs : List ℕ) : Type 0 where
   pub few : goals ≤ 64
   pub long : length bs ≡ entrySize goals
 
--- the bytes of entry i of a graph
+-- what bytes must be that hold the entries, from `base` on: those of a graph, or its end
+pub record EntriesBytes (goals base : ℕ) (bs : List ℕ) : Type 0 where
+  pub few : goals ≤ 64
+  pub low : base ≤ 2097152
+  pub long : length bs ≡ base + entriesLength goals
+
+-- the bytes of entry i
+abbrev pub entryBytesFrom : ℕ → ℕ → ℕ → List ℕ → List ℕ
+entryBytesFrom goals base i bs = region (entryStartFrom goals base i) (entrySize goals) bs
+
+-- in a graph
 abbrev pub entryBytes : ℕ → ℕ → List ℕ → List ℕ
-entryBytes goals i bs = region (entryStart goals i) (entrySize goals) bs
+entryBytes goals i bs = entryBytesFrom goals (entriesStart goals) i bs
 
 -- that entry
 abbrev pub entryAt : ℕ → ℕ → List ℕ → Entry
-entryAt goals i bs = entryOf goals (entryBytes goals i bs)
+entryAt goals i bs = entryFrom goals (entriesStart goals) i bs
 
 -- entry i, where it is one of the n first
 abbrev pub entryFound : ℕ → ℕ → ℕ → List ℕ → Option Entry

@@ -14,9 +14,9 @@ ghost use Rattle.definition.specs.Lookup.{noneOrAbove, entryMatches, entryAppli
 ghost use Rattle.layout.specs.Blocks.{headsSize};
 ghost use Rattle.layout.specs.Frame.{headsStart};
 ghost use Rattle.layout.specs.Entry.{entryHeadsStart, entryOf};
-ghost use Rattle.layout.specs.Work.{entryStart, stackOf, entriesOf};
+ghost use Rattle.layout.specs.Work.{entryStartFrom, entryStart, stackOf, entriesOf};
 ghost use Rattle.stack.specs.Bytes.{GraphBytes, StackBytes, frameBytes, frameAt};
-ghost use Rattle.provisional_cache.specs.Entries.{EntryBytes, entryBytes, entryOn};
+ghost use Rattle.provisional_cache.specs.Entries.{EntryBytes, EntriesBytes, entryBytesFrom, entryBytes, entryOn};
 ghost use Rattle.provisional_cache.specs.Matches.{lowestHead, hidden, FirstMatch};
 ghost use Rattle.provisional_cache.specs.Reruns.{Compacted, Cleared};
 ghost use Rattle.provisional_cache.specs.Inserts.{pathFromHighest, Appended, Inserted};
@@ -37,6 +37,16 @@ pub fn entry_at(graph: &[u8], goals: usize, i: usize) -> &[u8]
     let start = offsets::entry_start(goals, i);
     let end = start + offsets::entry_size(goals);
     &graph[start..end]
+}
+
+// The same in bytes that hold the entries from `base` on.
+pub fn entry_from(bytes: &[u8], goals: usize, base: usize, i: usize) -> &[u8]
+    requires { ⌜ EntriesBytes goals base (now bytes) × (i < 2 * goals) ⌝ }
+    ensures { λ r. ⌜ now r ≡ entryBytesFrom goals base i (now (bytes .entry)) ⌝ }
+{
+    let start = offsets::entry_start_from(goals, base, i);
+    let end = start + offsets::entry_size(goals);
+    &bytes[start..end]
 }
 
 // is_none_or(|lowest| lowest > head), of the lowest head of the top frame
@@ -172,29 +182,37 @@ pub fn any_applies(
 }
 
 // Entry `from` takes the place of entry `to`, which does not come after it.
-fn move_entry(graph: &mut [u8], goals: usize, from: usize, to: usize)
-    requires { ⌜ GraphBytes goals (now graph) × ((to ≤ from) × (from < 2 * goals)) ⌝ }
-    ensures { λ _. ⌜ now (graph .exit)
-        ≡ overwrite (now (graph .entry)) (entryStart goals to) (entryBytes goals from (now (graph .entry))) ⌝ }
+fn move_entry(bytes: &mut [u8], goals: usize, base: usize, from: usize, to: usize)
+    requires { ⌜ EntriesBytes goals base (now bytes) × ((to ≤ from) × (from < 2 * goals)) ⌝ }
+    ensures { λ _. ⌜ now (bytes .exit)
+        ≡ overwrite (now (bytes .entry)) (entryStartFrom goals base to)
+        (entryBytesFrom goals base from (now (bytes .entry))) ⌝ }
 {
     if from == to {
         return;
     }
-    let a = offsets::entry_start(goals, from);
-    let b = offsets::entry_start(goals, to);
-    buffer::copy_within(graph, a, b, offsets::entry_size(goals));
+    let a = offsets::entry_start_from(goals, base, from);
+    let b = offsets::entry_start_from(goals, base, to);
+    buffer::copy_within(bytes, a, b, offsets::entry_size(goals));
 }
 
 // Entry i is put after the `kept` first ones, where it is to be kept: how many these are
 // then.
-pub fn keep_if(graph: &mut [u8], goals: usize, keep: bool, i: usize, kept: usize) -> usize
-    requires { ⌜ GraphBytes goals (now graph) × ((kept ≤ i) × (i < 2 * goals)) ⌝ }
-    ensures { λ r. ⌜ Compacted goals i kept keep (now (graph .entry)) (now (graph .exit)) r ⌝ }
+pub fn keep_if(
+    bytes: &mut [u8],
+    goals: usize,
+    base: usize,
+    keep: bool,
+    i: usize,
+    kept: usize,
+) -> usize
+    requires { ⌜ EntriesBytes goals base (now bytes) × ((kept ≤ i) × (i < 2 * goals)) ⌝ }
+    ensures { λ r. ⌜ Compacted goals base i kept keep (now (bytes .entry)) (now (bytes .exit)) r ⌝ }
 {
     if !keep {
         return kept;
     }
-    move_entry(graph, goals, i, kept);
+    move_entry(bytes, goals, base, i, kept);
     kept + 1
 }
 
@@ -205,11 +223,12 @@ pub fn clear_for_rerun(graph: &mut [u8], goals: usize, rerun: usize, entries: us
     requires { ⌜ GraphBytes goals (now graph) × ((rerun < goals) × (entries ≤ 2 * goals)) ⌝ }
     ensures { λ r. ⌜ Cleared goals rerun entries (now (graph .entry)) (now (graph .exit)) r ⌝ }
 {
+    let base = offsets::entries_start(goals);
     let mut kept: usize = 0;
     let mut i: usize = 0;
     while i < entries {
-        let keep = entry::survives_rerun(entry_at(graph, goals, i), goals, rerun);
-        kept = keep_if(graph, goals, keep, i, kept);
+        let keep = entry::survives_rerun(entry_from(graph, goals, base, i), goals, rerun);
+        kept = keep_if(graph, goals, base, keep, i, kept);
         i = i + 1;
     }
     kept

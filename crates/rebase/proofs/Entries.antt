@@ -2,8 +2,8 @@
 use mathlib.Core.Path.{_≡_, refl, sym, ap, ap₂, _∙_}
 use mathlib.Core.Bool.{Bool, true, false, not, _&&_}
 use mathlib.Core.Option.{Option, none, some, Option·none-ne-some, Option·some-ne-none}
-use mathlib.Core.List.{List}
-use Prim.Native.Nat.{ℕ, _<_}
+use mathlib.Core.List.{List, [], _∷_}
+use Prim.Native.Nat.{ℕ, suc, _≤_, _<_}
 use native.Mathlib.Omega.{arith}
 use borrow.Author.Tests.{eq-eqb, ne-eqb, not-true, not-false}
 use lib.Dec.{eqb}
@@ -17,66 +17,82 @@ use Rattle.definition.specs.declared.answers.RebaseReason.the-variants.{Ambigui
 use Rattle.definition.specs.Paths.{extend, extendWithPaths, emptyPath}
 use Rattle.definition.specs.Usages.{noUsages, isEmpty, isSingle}
 use Rattle.definition.specs.Answers.{sameAnswer, isAmbiguous}
-use Rattle.definition.specs.Heads.{CycleHeads, optHighestIndex, headsEmpty, highestIndex, usagesAt, pathsAt, removeHead, forEachHead}
+use Rattle.definition.specs.Heads.{CycleHeads, optHighestIndex, headsEmpty, highestIndex, usagesAt, pathsAt}
+use Rattle.definition.specs.Heads.{removeHead, forEachHead}
 use Rattle.definition.specs.Stack.{Stack, Frame, cyclePathKind}
 use Rattle.definition.specs.Graph.{Entry, withEntryHeads, withPathFromHead}
-use Rattle.definition.specs.ProvisionalCache.{unusedHead, headThrough, pathsKeepKind, reasonKeeps, rebasedHeads, underNewHead, rebaseEntry}
-use Rattle.provisional_cache.specs.Entries.{entryAt, withoutHead}
+use Rattle.definition.specs.ProvisionalCache.{unusedHead, headThrough, pathsKeepKind, reasonKeeps, rebasedHeads}
+use Rattle.definition.specs.ProvisionalCache.{underNewHead, rebaseEntry}
+use Rattle.layout.specs.Frame.{frameSize}
+use Rattle.layout.specs.Work.{entryFrom}
+use Rattle.provisional_cache.specs.Entries.{withoutHead}
 use Rattle.rebase.specs.Heads.{gainedHead, gainHead, withGained, gainedEntry, replacedEntry}
 use Rattle.rebase.specs.Rebased.{underHeads, keptEntry, EntryWritten}
 use Rattle.rebase.proofs.Writes.{others-then, frame-after}
 
 -- ---- `gained`
 module _ (used : Bool) (ep : ℕ) (head : CycleHead) (paths : ℕ) where
-  pub gained-through : used ≡ true → paths ≡ extendWithPaths ep (head .paths) → record { paths = paths; usages = head .usages } ≡ gainedHead used ep head
-  gained-through t is = (λ i. record { paths = is i; usages = head .usages }) ∙ sym (ap (λ (x : Bool). gainedHead x ep head) t)
+  pub gained-through : used ≡ true → paths ≡ extendWithPaths ep (head .paths)
+      → record { paths = paths; usages = head .usages } ≡ gainedHead used ep head
+  gained-through t is =
+      (λ i. record { paths = is i; usages = head .usages }) ∙ sym (ap (λ (x : Bool). gainedHead x ep head) t)
 
-  pub gained-unused : used ≡ false → paths ≡ emptyPath → (u : HeadUsages) → u ≡ noUsages → record { paths = paths; usages = u } ≡ gainedHead used ep head
-  gained-unused t is u is-u = (λ i. record { paths = is i; usages = is-u i }) ∙ sym (ap (λ (x : Bool). gainedHead x ep head) t)
+  pub gained-unused : used ≡ false → paths ≡ emptyPath → (u : HeadUsages) → u ≡ noUsages
+      → record { paths = paths; usages = u } ≡ gainedHead used ep head
+  gained-unused t is u is-u =
+      (λ i. record { paths = is i; usages = is-u i }) ∙ sym (ap (λ (x : Bool). gainedHead x ep head) t)
 
 -- ---- `replace_head`: the head is taken out, then the heads of the popped frame are gained
-pub replaced : (goals popped k : ℕ) (used : Bool) (ep : ℕ) (old mid new : List ℕ) → popped < goals → EntryWritten goals k (withoutHead (entryAt goals k old) popped) old mid
-    → EntryWritten goals k (gainedEntry goals popped k used ep mid) mid new → EntryWritten goals k (replacedEntry goals popped k used ep old) old new
-replaced goals popped k used ep old mid new lt first second =
+pub replaced : (goals base popped k : ℕ) (used : Bool) (ep : ℕ) (old mid new : List ℕ) → frameSize goals ≤ base
+    → EntryWritten goals base k (withoutHead (entryFrom goals base k old) popped) old mid
+    → EntryWritten goals base k (gainedEntry goals base k used ep mid) mid new
+    → EntryWritten goals base k (replacedEntry goals base popped k used ep old) old new
+replaced goals base popped k used ep old mid new wide first second =
     record {
-      entry = second .entry ∙ ap₂ (λ (e : Entry) (f : Frame). withGained used ep e (f .heads)) (first .entry) (frame-after goals k old mid (first .others) popped lt);
-      others = others-then goals k old mid new (first .others) (second .others);
+      entry =
+          second .entry ∙ ap₂ (λ (e : Entry) (f : Frame). withGained used ep e (f .heads)) (first .entry)
+          (frame-after goals base old mid wide (first .others .below));
+      others = others-then goals base k old mid new (first .others) (second .others);
     }
 
 -- ---- `reason_keeps`
-module _ (reason : RebaseReason) (kind result : Answer) (u : HeadUsages) (is : reason ≡ Ambiguity kind) (t : Bool) (is-t : t ≡ isAmbiguous result) where
+module _ (reason : RebaseReason) (kind result : Answer) (u : HeadUsages) (is : reason ≡ Ambiguity kind) (t : Bool)
+    (is-t : t ≡ isAmbiguous result) where
   reason-open : (t && sameAnswer result kind) ≡ reasonKeeps reason result u
-  reason-open = ap (λ (x : Bool). x && sameAnswer result kind) is-t ∙ sym (ap (λ (x : RebaseReason). reasonKeeps x result u) is)
+  reason-open =
+      ap (λ (x : Bool). x && sameAnswer result kind) is-t ∙ sym (ap (λ (x : RebaseReason). reasonKeeps x result u) is)
 
   pub reason-same : t ≡ true → (r : Bool) → r ≡ sameAnswer result kind → r ≡ reasonKeeps reason result u
   reason-same e r is-r = is-r ∙ sym (ap (λ (x : Bool). x && sameAnswer result kind) e) ∙ reason-open
 
-pub reason-single : (reason : RebaseReason) (kind : PathKind) (result : Answer) (u : HeadUsages) → reason ≡ FirstFixpoint kind → (r : Bool) → r ≡ isSingle u kind → r ≡ reasonKeeps reason result u
+pub reason-single : (reason : RebaseReason) (kind : PathKind) (result : Answer) (u : HeadUsages)
+    → reason ≡ FirstFixpoint kind → (r : Bool) → r ≡ isSingle u kind → r ≡ reasonKeeps reason result u
 reason-single reason kind result u is r is-r = is-r ∙ sym (ap (λ (x : RebaseReason). reasonKeeps x result u) is)
 
--- ---- `path_to_popped`, of a frame f0 that is p
-pub path-to : (s : Stack) (i : ℕ) (f0 p : Frame) → f0 ≡ p → (k : PathKind) → k ≡ f0 .stepKindFromParent → (r : PathKind) → r ≡ cyclePathKind s k i → r ≡ cyclePathKind s (p .stepKindFromParent) i
-path-to s i f0 p is-p k is-k r is-r = is-r ∙ ap (λ (x : PathKind). cyclePathKind s x i) (is-k ∙ ap (λ (x : Frame). x .stepKindFromParent) is-p)
-
 -- ---- `stays`, of an entry e0 that is e
-module _ (s : Stack) (p : Frame) (reason : RebaseReason) (u : HeadUsages) (ep : ℕ) (e0 e : Entry) (is-e : e0 ≡ e) (k : PathKind) (is-k : k ≡ e0 .pathFromHead) (r : Bool)
+module _ (s : Stack) (p : Frame) (reason : RebaseReason) (u : HeadUsages) (ep : ℕ) (e0 e : Entry) (is-e : e0 ≡ e)
+    (k : PathKind) (is-k : k ≡ e0 .pathFromHead) (r : Bool)
     (is-r : r ≡ pathsKeepKind s (p .stepKindFromParent) k ep 0 (p .heads)) where
   abbrev both : Bool → Bool
   both t = t && reasonKeeps reason (e .result) u
 
   stays-open : both r ≡ both (pathsKeepKind s (p .stepKindFromParent) (e .pathFromHead) ep 0 (p .heads))
-  stays-open = ap both (is-r ∙ ap (λ (x : PathKind). pathsKeepKind s (p .stepKindFromParent) x ep 0 (p .heads)) (is-k ∙ ap (λ (x : Entry). x .pathFromHead) is-e))
+  stays-open =
+      ap both (is-r ∙ ap (λ (x : PathKind). pathsKeepKind s (p .stepKindFromParent) x ep 0 (p .heads)) (is-k ∙ ap (λ (x : Entry). x .pathFromHead) is-e))
 
-  pub stays-not : not r ≡ true → false ≡ both (pathsKeepKind s (p .stepKindFromParent) (e .pathFromHead) ep 0 (p .heads))
+  pub stays-not : not r ≡ true
+      → false ≡ both (pathsKeepKind s (p .stepKindFromParent) (e .pathFromHead) ep 0 (p .heads))
   stays-not d = sym (ap both (not-true r d)) ∙ stays-open
 
-  pub stays-by : not r ≡ false → (a : Answer) → a ≡ e0 .result → (t : Bool) → t ≡ reasonKeeps reason a u → t ≡ both (pathsKeepKind s (p .stepKindFromParent) (e .pathFromHead) ep 0 (p .heads))
+  pub stays-by : not r ≡ false → (a : Answer) → a ≡ e0 .result → (t : Bool) → t ≡ reasonKeeps reason a u
+      → t ≡ both (pathsKeepKind s (p .stepKindFromParent) (e .pathFromHead) ep 0 (p .heads))
   stays-by d a is-a t is-t =
       is-t ∙ ap (λ (x : Answer). reasonKeeps reason x u) (is-a ∙ ap (λ (x : Entry). x .result) is-e)
       ∙ sym (ap both (not-false r d)) ∙ stays-open
 
 -- ---- `rebase_heads`
-module _ (s : Stack) (p : Frame) (reason : RebaseReason) (e : Entry) (popped : ℕ) (high : length s ≡ popped) (u : HeadUsages) (ep : ℕ) where
+module _ (s : Stack) (p : Frame) (reason : RebaseReason) (e : Entry) (popped : ℕ) (high : length s ≡ popped)
+    (u : HeadUsages) (ep : ℕ) where
   abbrev headsBy : Bool → Bool → Option CycleHeads
   headsBy t v =
       elim t [
@@ -87,7 +103,8 @@ module _ (s : Stack) (p : Frame) (reason : RebaseReason) (e : Entry) (popped : �
   abbrev stay : Bool
   stay = pathsKeepKind s (p .stepKindFromParent) (e .pathFromHead) ep 0 (p .heads) && reasonKeeps reason (e .result) u
 
-  by : (t v : Bool) → t ≡ isEmpty u → v ≡ stay → underHeads e (headsBy t v) ≡ underHeads e (rebasedHeads s p reason e u ep)
+  by : (t v : Bool) → t ≡ isEmpty u → v ≡ stay
+      → underHeads e (headsBy t v) ≡ underHeads e (rebasedHeads s p reason e u ep)
   by t v is-t is-v = ap₂ (λ (x y : Bool). underHeads e (headsBy x y)) is-t is-v
 
   module _ (u0 : HeadUsages) (ep0 : ℕ) (is-u : u ≡ u0) (is-ep : ep ≡ ep0) where
@@ -95,7 +112,9 @@ module _ (s : Stack) (p : Frame) (reason : RebaseReason) (e : Entry) (popped : �
     same = ap₂ (λ (x : HeadUsages) (y : ℕ). underHeads e (rebasedHeads s p reason e x y)) is-u is-ep
 
     module _ (t : Bool) (is-t : t ≡ isEmpty u) where
-      pub heads-unused : t ≡ true → (n : Entry) → n ≡ withEntryHeads e (forEachHead (gainHead false ep) (removeHead (e .heads) popped) (p .heads)) → some n ≡ underHeads e (rebasedHeads s p reason e u0 ep0)
+      pub heads-unused : t ≡ true → (n : Entry)
+          → n ≡ withEntryHeads e (forEachHead (gainHead false ep) (removeHead (e .heads) popped) (p .heads))
+          → some n ≡ underHeads e (rebasedHeads s p reason e u0 ep0)
       heads-unused now n is =
           ap some (is ∙ ap (λ (x : ℕ). withEntryHeads e (forEachHead unusedHead (removeHead (e .heads) x) (p .heads))) (sym high))
           ∙ sym (ap (λ (x : Bool). underHeads e (headsBy x stay)) now)
@@ -103,14 +122,44 @@ module _ (s : Stack) (p : Frame) (reason : RebaseReason) (e : Entry) (popped : �
 
       module _ (now : t ≡ false) (v : Bool) (is-v : v ≡ stay) where
         pub heads-dropped : not v ≡ true → none ≡ underHeads e (rebasedHeads s p reason e u0 ep0)
-        heads-dropped d = sym (ap₂ (λ (x y : Bool). underHeads e (headsBy x y)) now (not-true v d)) ∙ by t v is-t is-v ∙ same
+        heads-dropped d =
+            sym (ap₂ (λ (x y : Bool). underHeads e (headsBy x y)) now (not-true v d)) ∙ by t v is-t is-v ∙ same
 
-        pub heads-through : not v ≡ false → (n : Entry) → n ≡ withEntryHeads e (forEachHead (gainHead true ep) (removeHead (e .heads) popped) (p .heads)) → some n ≡ underHeads e (rebasedHeads s p reason e u0 ep0)
+        pub heads-through : not v ≡ false → (n : Entry)
+            → n ≡ withEntryHeads e (forEachHead (gainHead true ep) (removeHead (e .heads) popped) (p .heads))
+            → some n ≡ underHeads e (rebasedHeads s p reason e u0 ep0)
         heads-through d n is =
             ap some (is ∙ ap (λ (x : ℕ). withEntryHeads e (forEachHead (headThrough ep) (removeHead (e .heads) x) (p .heads))) (sym high))
             ∙ sym (ap₂ (λ (x y : Bool). underHeads e (headsBy x y)) now (not-false v d)) ∙ by t v is-t is-v ∙ same
 
 -- ---- `rebase_path`
+
+-- the highest index is one of the heads'
+abbrev Under : Option ℕ → ℕ → Type 0
+Under none n = Unit {0}
+Under (some i) n = i < n
+
+highest-under : (hs : CycleHeads) → Under (optHighestIndex hs) (length hs)
+highest-under [] = tt
+highest-under (none ∷ hs) = go (optHighestIndex hs) (highest-under hs)
+  where
+    go : (o : Option ℕ) → Under o (length hs) → Under (elim o [ none ↦ none | some i ↦ some (suc i) ]) (suc (length hs))
+    go none u = tt
+    go (some i) u = omega arith
+highest-under (some h ∷ hs) = go (optHighestIndex hs) (highest-under hs)
+  where
+    go : (o : Option ℕ) → Under o (length hs)
+        → Under (elim o [ none ↦ some 0 | some i ↦ some (suc i) ]) (suc (length hs))
+    go none u = omega arith
+    go (some i) u = omega arith
+
+pub highest-small : (hs : CycleHeads) → length hs ≤ 64 → highestIndex hs < 64
+highest-small hs few = go (optHighestIndex hs) (highest-under hs)
+  where
+    go : (o : Option ℕ) → Under o (length hs) → elim o [ none ↦ 0 | some i ↦ i ] < 64
+    go none u = omega arith
+    go (some i) u = omega arith
+
 module _ (s : Stack) (p : Frame) (e : Entry) where
   abbrev newPath : ℕ → Entry
   newPath i = withPathFromHead e (extend (e .pathFromHead) (cyclePathKind s (p .stepKindFromParent) i))
@@ -120,7 +169,8 @@ module _ (s : Stack) (p : Frame) (e : Entry) where
 
   module _ (hs : CycleHeads) (is-hs : hs ≡ e .heads) (t : Bool) (is-t : t ≡ headsEmpty hs) where
     empty-is : (o : Option ℕ) → optHighestIndex (e .heads) ≡ o → elim o [ none ↦ true | some i ↦ false ] ≡ t
-    empty-is o q = ap (λ (x : Option ℕ). elim x [ none ↦ true | some i ↦ false ]) (sym q) ∙ sym (is-t ∙ ap headsEmpty is-hs)
+    empty-is o q =
+        ap (λ (x : Option ℕ). elim x [ none ↦ true | some i ↦ false ]) (sym q) ∙ sym (is-t ∙ ap headsEmpty is-hs)
 
     pub path-none : t ≡ true → none ≡ underNewHead s p e (e .heads)
     path-none now = go (optHighestIndex (e .heads)) refl
@@ -129,7 +179,9 @@ module _ (s : Stack) (p : Frame) (e : Entry) where
         go none q = sym (ap under q)
         go (some i) q = let x = empty-is (some i) q in let z : _≡_ {A = ℕ} 0 1 = cc in absurd (omega arith)
 
-    pub path-some : t ≡ false → (i : ℕ) → i ≡ highestIndex hs → (k : PathKind) → k ≡ cyclePathKind s (p .stepKindFromParent) i → (n : Entry) → n ≡ withPathFromHead e (extend (e .pathFromHead) k)
+    pub path-some : t ≡ false → (i : ℕ) → i ≡ highestIndex hs → (k : PathKind)
+        → k ≡ cyclePathKind s (p .stepKindFromParent) i → (n : Entry)
+        → n ≡ withPathFromHead e (extend (e .pathFromHead) k)
         → some n ≡ underNewHead s p e (e .heads)
     path-some now i is-i k is-k n is-n = go (optHighestIndex (e .heads)) refl
       where
@@ -143,7 +195,8 @@ module _ (s : Stack) (p : Frame) (e : Entry) where
             ∙ sym (ap under q)
 
 -- ---- `rebase_entry`
-module _ (s : Stack) (p : Frame) (reason : RebaseReason) (e : Entry) (popped : ℕ) (high : length s ≡ popped) (h : ℕ) (is-h : h ≡ highestIndex (e .heads)) where
+module _ (s : Stack) (p : Frame) (reason : RebaseReason) (e : Entry) (popped : ℕ) (high : length s ≡ popped) (h : ℕ)
+    (is-h : h ≡ highestIndex (e .heads)) where
   abbrev rebased : ℕ → Option CycleHeads
   rebased n = rebasedHeads s p reason e (usagesAt (e .heads) n) (pathsAt (e .heads) n)
 
@@ -174,8 +227,10 @@ module _ (s : Stack) (p : Frame) (reason : RebaseReason) (e : Entry) (popped : �
           go none q = sym (ap then q)
           go (some hs) q = absurd (Option·none-ne-some (withEntryHeads e hs) (gone ∙ ap (underHeads e) q))
 
-      pub entry-under : not keep ≡ false → (o : Option Entry) (s1 : Stack) (p1 : Frame) → s1 ≡ s → p1 ≡ p → o ≡ underNewHead s1 p1 mid (mid .heads) → o ≡ rebaseEntry s p reason e
-      entry-under d o s1 p1 is-s is-p is-o = is-o ∙ ap₂ (λ (x : Stack) (y : Frame). underNewHead x y mid (mid .heads)) is-s is-p ∙ go (rebased popped) refl ∙ opened
+      pub entry-under : not keep ≡ false → (o : Option Entry) (p1 : Frame) → p1 ≡ p
+          → o ≡ underNewHead s p1 mid (mid .heads) → o ≡ rebaseEntry s p reason e
+      entry-under d o p1 is-p is-o =
+          is-o ∙ ap (λ (y : Frame). underNewHead s y mid (mid .heads)) is-p ∙ go (rebased popped) refl ∙ opened
         where
           stays : some mid ≡ underHeads e (rebased popped)
           stays = sym (ap (λ (x : Bool). keptEntry x mid) (not-false keep d)) ∙ is-mid

@@ -17,10 +17,12 @@ use Rattle.definition.specs.Graph.{Entry, withEntryHeads}
 use Rattle.definition.specs.ProvisionalCache.{everyPhKeeps, pathsKeepKind}
 use Rattle.bits.specs.Masks.{flags, firstPlace, placeOr}
 use Rattle.layout.specs.Blocks.{present}
-use Rattle.layout.proofs.Marks.{keep, Within, start-all, start-within, turn-small, turn-head, turn-kept, turn-rest, turn-within, end-none, each-one, each-clear}
-use Rattle.stack.specs.Bytes.{frameAt}
-use Rattle.provisional_cache.specs.Entries.{entryAt, withJoinedHead}
-use Rattle.rebase.specs.Popped.{PoppedHead}
+use Rattle.layout.proofs.Marks.{keep, Within, start-all, start-within, turn-small, turn-head, turn-kept, turn-rest}
+use Rattle.layout.proofs.Marks.{turn-within, end-none, each-one, each-clear}
+use Rattle.layout.specs.Frame.{frameSize}
+use Rattle.layout.specs.Work.{entryFrom}
+use Rattle.provisional_cache.specs.Entries.{withJoinedHead}
+use Rattle.rebase.specs.Popped.{poppedFrame, PoppedHead}
 use Rattle.rebase.specs.Heads.{gainedHead, gainHead, gainedEntry}
 use Rattle.rebase.specs.Rebased.{OthersKept, EntryWritten}
 use Rattle.rebase.proofs.Writes.{others-same, others-then, frame-after, popped-length}
@@ -33,10 +35,12 @@ and-swap false false c = refl
 
 module _ (s : Stack) (step path : PathKind) (ep : ℕ) where
   -- whether the paths from the head c at index i keep their kind
-  abbrev pub keepsAt : ℕ → CycleHead → Bool
-  keepsAt i c = everyPhKeeps (cyclePathKind s step i) (extend (cyclePathKind s step i) path) (iterPaths ep) (iterPaths (c .paths))
+  abbrev keepsAt : ℕ → CycleHead → Bool
+  keepsAt i c =
+      everyPhKeeps (cyclePathKind s step i) (extend (cyclePathKind s step i) path) (iterPaths ep) (iterPaths (c .paths))
 
-  pub head-keeps-is : (i : ℕ) (c h : CycleHead) → h ≡ c → (hp : PathKind) → hp ≡ cyclePathKind s step i → (he : PathKind) → he ≡ extend hp path
+  pub head-keeps-is : (i : ℕ) (c h : CycleHead) → h ≡ c → (hp : PathKind) → hp ≡ cyclePathKind s step i
+      → (he : PathKind) → he ≡ extend hp path
       → (r : Bool) → r ≡ everyPhKeeps hp he (iterPaths ep) (iterPaths (h .paths)) → r ≡ keepsAt i c
   head-keeps-is i c h is-h hp is-hp he is-he r is-r =
       is-r
@@ -56,7 +60,8 @@ module _ (s : Stack) (step path : PathKind) (ep : ℕ) where
       keep-one ms (suc j) i c e ∙ ap (λ (k : ℕ). keepsAt k c && pathsKeepKind s step path ep (suc j) (set ms i none)) m
   keep-one (some d ∷ ms) j (suc i) c e =
       let m : suc j + i ≡ j + suc i = omega arith in
-      ap (λ (x : Bool). keepsAt j d && x) (keep-one ms (suc j) i c e ∙ ap (λ (k : ℕ). keepsAt k c && pathsKeepKind s step path ep (suc j) (set ms i none)) m)
+      ap (λ (x : Bool). keepsAt j d && x)
+      (keep-one ms (suc j) i c e ∙ ap (λ (k : ℕ). keepsAt k c && pathsKeepKind s step path ep (suc j) (set ms i none)) m)
       ∙ and-swap (keepsAt j d) (keepsAt (j + suc i) c) (pathsKeepKind s step path ep (suc j) (set ms i none))
 
   keep-clear : (ms : CycleHeads) (j : ℕ) → ((i : ℕ) → getD ms i none ≡ none) → pathsKeepKind s step path ep j ms ≡ true
@@ -64,56 +69,71 @@ module _ (s : Stack) (step path : PathKind) (ep : ℕ) where
   keep-clear (none ∷ ms) j h = keep-clear ms (suc j) (λ i. h (suc i))
   keep-clear (some c ∷ ms) j h = absurd (Option·some-ne-none c (h 0))
 
-  module _ (cs : CycleHeads) where
-    -- the heads that are left make the whole
-    pub record Keeping (left : ℕ) : Type 0 where
-      pub small : left < 2 ^ 64
-      pub within : Within left cs
-      pub rest : pathsKeepKind s step path ep 0 (keep (flags 64 left) cs) ≡ pathsKeepKind s step path ep 0 cs
+-- of every stack that Left allows
+module _ (Left : Stack → Type 0) (step path : PathKind) (ep : ℕ) (cs : CycleHeads) where
+  -- the heads that are left make the whole
+  pub record Keeping (left : ℕ) : Type 0 where
+    pub small : left < 2 ^ 64
+    pub within : Within left cs
+    pub rest : (s : Stack) → Left s
+        → pathsKeepKind s step path ep 0 (keep (flags 64 left) cs) ≡ pathsKeepKind s step path ep 0 cs
 
-    pub keeping-start : (left n : ℕ) → left < 2 ^ 64 → flags 64 left ≡ present cs ++ replicate n false → Keeping left
-    keeping-start left n small is =
-        record { small = small; within = start-within cs left n is; rest = ap (pathsKeepKind s step path ep 0) (start-all cs left n is) }
+  pub keeping-start : (left n : ℕ) → left < 2 ^ 64 → flags 64 left ≡ present cs ++ replicate n false → Keeping left
+  keeping-start left n small is =
+      record { small = small; within = start-within cs left n is; rest = λ s m. ap (pathsKeepKind s step path ep 0) (start-all cs left n is) }
 
-    module _ (left i : ℕ) (inv : Keeping left) (pos : 0 < left) (is : i ≡ placeOr 64 (firstPlace (flags 64 left))) (r : Bool) (is-r : (c : CycleHead) → getD cs i none ≡ some c → r ≡ keepsAt i c) where
-      keeping-open : (r && pathsKeepKind s step path ep 0 (set (keep (flags 64 left) cs) i none)) ≡ pathsKeepKind s step path ep 0 cs
-      keeping-open =
-          let t = turn-head cs left i pos (inv .small) (inv .within) is in
-          let ms : CycleHeads = keep (flags 64 left) cs in
-          ap (λ (x : Bool). x && pathsKeepKind s step path ep 0 (set ms i none)) (is-r (t .0) (t .1) ∙ ap (λ (k : ℕ). keepsAt k (t .0)) (sym (zero-add i)))
-          ∙ sym (keep-one ms 0 i (t .0) (turn-kept cs left i pos (inv .small) (inv .within) is ∙ t .1))
-          ∙ inv .rest
+  module _ (left i : ℕ) (inv : Keeping left) (pos : 0 < left) (is : i ≡ placeOr 64 (firstPlace (flags 64 left)))
+      (r : Bool)
+      (is-r : (s : Stack) → Left s → (c : CycleHead) → getD cs i none ≡ some c → r ≡ keepsAt s step path ep i c) where
+    keeping-open : (s : Stack) → Left s
+        → (r && pathsKeepKind s step path ep 0 (set (keep (flags 64 left) cs) i none)) ≡ pathsKeepKind s step path ep
+        0 cs
+    keeping-open s m =
+        let t = turn-head cs left i pos (inv .small) (inv .within) is in
+        let ms : CycleHeads = keep (flags 64 left) cs in
+        ap (λ (x : Bool). x && pathsKeepKind s step path ep 0 (set ms i none))
+        (is-r s m (t .0) (t .1) ∙ ap (λ (k : ℕ). keepsAt s step path ep k (t .0)) (sym (zero-add i)))
+        ∙ sym (keep-one s step path ep ms 0 i (t .0) (turn-kept cs left i pos (inv .small) (inv .within) is ∙ t .1))
+        ∙ inv .rest s m
 
-      pub keeping-fails : not r ≡ true → false ≡ pathsKeepKind s step path ep 0 cs
-      keeping-fails e = sym (ap (λ (x : Bool). x && pathsKeepKind s step path ep 0 (set (keep (flags 64 left) cs) i none)) (not-true r e)) ∙ keeping-open
+    pub keeping-fails : not r ≡ true → (s : Stack) → Left s → false ≡ pathsKeepKind s step path ep 0 cs
+    keeping-fails e s m =
+        sym (ap (λ (x : Bool). x && pathsKeepKind s step path ep 0 (set (keep (flags 64 left) cs) i none)) (not-true r e)) ∙ keeping-open s m
 
-      pub keeping-next : not r ≡ false → (left′ : ℕ) → flags 64 left′ ≡ set (flags 64 left) (placeOr 64 (firstPlace (flags 64 left))) false → left′ < left → Keeping left′
-      keeping-next e left′ is-left less =
-          let old = inv .small in
-          record {
-            small = omega arith;
-            within = turn-within cs left i pos (inv .small) (inv .within) is left′ is-left;
-            rest =
-                ap (pathsKeepKind s step path ep 0) (turn-rest cs left i pos (inv .small) (inv .within) is left′ is-left)
-                ∙ sym (ap (λ (x : Bool). x && pathsKeepKind s step path ep 0 (set (keep (flags 64 left) cs) i none)) (not-false r e)) ∙ keeping-open;
-          }
+    pub keeping-next : not r ≡ false → (left′ : ℕ)
+        → flags 64 left′ ≡ set (flags 64 left) (placeOr 64 (firstPlace (flags 64 left))) false → left′ < left
+        → Keeping left′
+    keeping-next e left′ is-left less =
+        let old = inv .small in
+        record {
+          small = omega arith;
+          within = turn-within cs left i pos (inv .small) (inv .within) is left′ is-left;
+          rest = λ s m.
+              ap (pathsKeepKind s step path ep 0) (turn-rest cs left i pos (inv .small) (inv .within) is left′ is-left)
+              ∙ sym (ap (λ (x : Bool). x && pathsKeepKind s step path ep 0 (set (keep (flags 64 left) cs) i none)) (not-false r e)) ∙ keeping-open s m;
+        }
 
-    pub keeping-done : (left : ℕ) → Keeping left → left ≤ 0 → true ≡ pathsKeepKind s step path ep 0 cs
-    keeping-done left inv h = sym (keep-clear (keep (flags 64 left) cs) 0 (end-none cs left h)) ∙ inv .rest
+  pub keeping-done : (left : ℕ) → Keeping left → left ≤ 0 → (s : Stack) → Left s
+      → true ≡ pathsKeepKind s step path ep 0 cs
+  keeping-done left inv h s m =
+      sym (keep-clear s step path ep (keep (flags 64 left) cs) 0 (end-none cs left h)) ∙ inv .rest s m
 
 -- ---- `gain_heads`
-module _ (goals popped k : ℕ) (used : Bool) (ep : ℕ) (old : List ℕ) where
+module _ (goals base k : ℕ) (used : Bool) (ep : ℕ) (old : List ℕ) where
   abbrev cs : CycleHeads
-  cs = (frameAt goals popped old) .heads
+  cs = (poppedFrame goals old) .heads
 
   -- the entry so far, and the heads that are left, make the whole
   pub record Gaining (new : List ℕ) (left : ℕ) : Type 0 where
     pub same-length : length new ≡ length old
     pub small : left < 2 ^ 64
-    pub within : Within left ((frameAt goals popped old) .heads)
-    pub others : OthersKept goals k old new
-    pub entry : entryAt goals k new ≡ withEntryHeads (entryAt goals k old) ((entryAt goals k new) .heads)
-    pub rest : forEachHead (gainHead used ep) ((entryAt goals k new) .heads) (keep (flags 64 left) ((frameAt goals popped old) .heads)) ≡ forEachHead (gainHead used ep) ((entryAt goals k old) .heads) ((frameAt goals popped old) .heads)
+    pub within : Within left ((poppedFrame goals old) .heads)
+    pub others : OthersKept goals base k old new
+    pub entry : entryFrom goals base k new ≡ withEntryHeads (entryFrom goals base k old)
+        ((entryFrom goals base k new) .heads)
+    pub rest : forEachHead (gainHead used ep) ((entryFrom goals base k new) .heads)
+        (keep (flags 64 left) ((poppedFrame goals old) .heads))
+        ≡ forEachHead (gainHead used ep) ((entryFrom goals base k old) .heads) ((poppedFrame goals old) .heads)
 
   pub gaining-start : (left n : ℕ) → left < 2 ^ 64 → flags 64 left ≡ present cs ++ replicate n false → Gaining old left
   gaining-start left n small is =
@@ -121,30 +141,35 @@ module _ (goals popped k : ℕ) (used : Bool) (ep : ℕ) (old : List ℕ) where
         same-length = refl;
         small = small;
         within = start-within cs left n is;
-        others = others-same goals k old;
+        others = others-same goals base k old;
         entry = refl;
-        rest = ap (forEachHead (gainHead used ep) ((entryAt goals k old) .heads)) (start-all cs left n is);
+        rest = ap (forEachHead (gainHead used ep) ((entryFrom goals base k old) .heads)) (start-all cs left n is);
       }
 
-  module _ (now : List ℕ) (left i : ℕ) (inv : Gaining now left) (pos : 0 < left) (is : i ≡ placeOr 64 (firstPlace (flags 64 left))) where
+  module _ (now : List ℕ) (left i : ℕ) (inv : Gaining now left) (pos : 0 < left)
+      (is : i ≡ placeOr 64 (firstPlace (flags 64 left))) where
     pub gaining-small : i < goals
-    gaining-small = turn-small cs left i pos (inv .small) (inv .within) is goals (popped-length goals popped old)
+    gaining-small = turn-small cs left i pos (inv .small) (inv .within) is goals (popped-length goals old)
 
-    module _ (lt : popped < goals) (r head : CycleHead) (is-r : (c : CycleHead) → PoppedHead goals popped now i c → r ≡ c) (is-head : head ≡ gainedHead used ep r) (new : List ℕ)
-        (joined : EntryWritten goals k (withJoinedHead (entryAt goals k now) i head) now new) where
+    module _ (wide : frameSize goals ≤ base) (r head : CycleHead)
+        (is-r : (c : CycleHead) → PoppedHead goals now i c → r ≡ c) (is-head : head ≡ gainedHead used ep r)
+        (new : List ℕ) (joined : EntryWritten goals base k (withJoinedHead (entryFrom goals base k now) i head) now new) where
       abbrev hs : CycleHeads
-      hs = (entryAt goals k now) .heads
+      hs = (entryFrom goals base k now) .heads
 
-      same-heads : (frameAt goals popped now) .heads ≡ cs
-      same-heads = ap (λ (x : Frame). x .heads) (frame-after goals k old now (inv .others) popped lt)
+      same-heads : (poppedFrame goals now) .heads ≡ cs
+      same-heads = ap (λ (x : Frame). x .heads) (frame-after goals base old now wide (inv .others .below))
 
-      new-heads : (c : CycleHead) → getD cs i none ≡ some c → (entryAt goals k new) .heads ≡ set hs i (some (gainHead used ep c (getD hs i none)))
+      new-heads : (c : CycleHead) → getD cs i none ≡ some c
+          → (entryFrom goals base k new) .heads ≡ set hs i (some (gainHead used ep c (getD hs i none)))
       new-heads c e =
           ap (λ (x : Entry). x .heads) (joined .entry)
           ∙ ap (λ (x : CycleHead). set hs i (some (joinHead (getD hs i none) (x .paths) (x .usages))))
           (is-head ∙ ap (gainedHead used ep) (is-r c (ap (λ (l : CycleHeads). getD l i none) same-heads ∙ e)))
 
-      pub gaining-next : length new ≡ length now → (left′ : ℕ) → flags 64 left′ ≡ set (flags 64 left) (placeOr 64 (firstPlace (flags 64 left))) false → left′ < left → Gaining new left′
+      pub gaining-next : length new ≡ length now → (left′ : ℕ)
+          → flags 64 left′ ≡ set (flags 64 left) (placeOr 64 (firstPlace (flags 64 left))) false → left′ < left
+          → Gaining new left′
       gaining-next len left′ is-left less =
           let was = inv .small in
           let t = turn-head cs left i pos (inv .small) (inv .within) is in
@@ -153,17 +178,25 @@ module _ (goals popped k : ℕ) (used : Bool) (ep : ℕ) (old : List ℕ) where
             same-length = len ∙ inv .same-length;
             small = omega arith;
             within = turn-within cs left i pos (inv .small) (inv .within) is left′ is-left;
-            others = others-then goals k old now new (inv .others) (joined .others);
+            others = others-then goals base k old now new (inv .others) (joined .others);
             entry =
                 joined .entry
                 ∙ ap₂ withEntryHeads (inv .entry) (sym (ap (λ (x : Entry). x .heads) (joined .entry)));
             rest =
-                ap₂ (forEachHead (gainHead used ep)) (new-heads (t .0) (t .1)) (turn-rest cs left i pos (inv .small) (inv .within) is left′ is-left)
-                ∙ each-one (gainHead used ep) hs ms i (t .0) (turn-kept cs left i pos (inv .small) (inv .within) is ∙ t .1)
+                ap₂ (forEachHead (gainHead used ep)) (new-heads (t .0) (t .1))
+                (turn-rest cs left i pos (inv .small) (inv .within) is left′ is-left)
+                ∙ each-one (gainHead used ep) hs ms i (t .0)
+                (turn-kept cs left i pos (inv .small) (inv .within) is ∙ t .1)
                 ∙ inv .rest;
           }
 
-  pub gaining-done : (now : List ℕ) (left : ℕ) → Gaining now left → left ≤ 0 → entryAt goals k now ≡ gainedEntry goals popped k used ep old
+  pub gaining-done : (now : List ℕ) (left : ℕ) → Gaining now left → left ≤ 0
+      → EntryWritten goals base k (gainedEntry goals base k used ep old) old now
   gaining-done now left inv h =
-      inv .entry
-      ∙ ap (withEntryHeads (entryAt goals k old)) (sym (each-clear (gainHead used ep) ((entryAt goals k now) .heads) (keep (flags 64 left) cs) (end-none cs left h)) ∙ inv .rest)
+      record {
+        entry =
+            inv .entry
+            ∙ ap (withEntryHeads (entryFrom goals base k old))
+            (sym (each-clear (gainHead used ep) ((entryFrom goals base k now) .heads) (keep (flags 64 left) cs) (end-none cs left h)) ∙ inv .rest);
+        others = inv .others;
+      }

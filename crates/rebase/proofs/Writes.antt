@@ -1,87 +1,122 @@
--- What a write of entry k does to a graph.
+-- The bytes from the popped frame on: what is read of them, and what a write of entry k does.
 use mathlib.Core.Path.{_≡_, refl, sym, ap, _∙_, subst}
 use mathlib.Core.List.{List}
-use Prim.Native.Nat.{ℕ, _+_, _*_, _<_}
+use Prim.Native.Nat.{ℕ, _+_, _-_, _*_, _≤_, _<_}
 use native.Mathlib.Omega.{arith}
-use lib.ListN.{length}
+use lib.ListN.{length, take, drop}
 use Rattle.definition.specs.Graph.{Entry}
 use Rattle.buffer.specs.Regions.{region, overwrite}
-use Rattle.buffer.proofs.Tables.{record-whole}
+use Rattle.buffer.proofs.Regions.{length-region, region-region}
 use Rattle.layout.specs.Blocks.{headsSize, headsOf, HeadsBlock}
 use Rattle.layout.specs.Entry.{entryHeadsStart, entrySize, entryOf}
-use Rattle.layout.specs.Frame.{headsStart, frameOf}
-use Rattle.layout.specs.Work.{entriesStart, entryStart, stackOf}
+use Rattle.layout.specs.Frame.{headsStart, frameSize, frameOf}
+use Rattle.layout.specs.Work.{entryStartFrom, entryFrom}
 use Rattle.layout.proofs.Frames.{length-heads}
-use Rattle.layout.proofs.Graphs.{entry-room, entries-before, entries-behind}
-use Rattle.stack.specs.Bytes.{GraphBytes, frameBytes, frameAt}
+use Rattle.layout.proofs.Graphs.{entry-written, entries-before, entries-behind}
+use Rattle.stack.specs.Bytes.{FrameBytes}
 use Rattle.stack.proofs.Blocks.{heads-block}
-use Rattle.stack.proofs.Graph.{frame-bytes}
 use Rattle.stack.proofs.Parts.{part, returned}
-use Rattle.provisional_cache.specs.Entries.{entryBytes, entryAt}
+use Rattle.provisional_cache.specs.Entries.{EntriesBytes, entryBytesFrom}
 use Rattle.provisional_cache.proofs.Entries.{entry-bytes, part-is, entry-back, entry-whole, entry-heads-block}
-use Rattle.provisional_cache.proofs.Loops.{frames-same, frames-then}
-use Rattle.provisional_cache.proofs.Writes.{frame-kept, frames-whole}
+use Rattle.provisional_cache.proofs.Loops.{entries-bytes}
+use Rattle.provisional_cache.proofs.Writes.{below-whole}
+use Rattle.rebase.specs.Popped.{FrameFirst, RestBytes, poppedBytes, poppedFrame}
 use Rattle.rebase.specs.Rebased.{OthersKept, EntryWritten}
 
+-- ---- what the bytes are
+module _ (goals base : ℕ) (bs : List ℕ) (r : RestBytes goals base bs) where
+  pub frame-first : FrameFirst goals bs
+  frame-first =
+      let w = r .wide in
+      let l = r .entries .long in
+      record { few = r .entries .few; wide = omega arith }
+
+  pub rest-bytes : (new : List ℕ) → length new ≡ length bs → RestBytes goals base new
+  rest-bytes new e = record { wide = r .wide; entries = entries-bytes goals base bs new (r .entries) e }
+
 -- ---- all but entry k
-pub others-same : (goals k : ℕ) (bs : List ℕ) → OthersKept goals k bs bs
-others-same goals k bs = record { frames = frames-same goals bs; before = λ n h. refl; behind = λ n. refl }
+module _ (goals base k : ℕ) where
+  pub others-same : (bs : List ℕ) → OthersKept goals base k bs bs
+  others-same bs = record { below = refl; before = λ n h. refl; behind = λ n. refl }
 
-pub others-then : (goals k : ℕ) (a b c : List ℕ) → OthersKept goals k a b → OthersKept goals k b c → OthersKept goals k a c
-others-then goals k a b c p q =
-    record {
-      frames = frames-then goals a b c (p .frames) (q .frames);
-      before = λ n h. q .before n h ∙ p .before n h;
-      behind = λ n. q .behind n ∙ p .behind n;
-    }
+  pub others-then : (a b c : List ℕ) → OthersKept goals base k a b → OthersKept goals base k b c
+      → OthersKept goals base k a c
+  others-then a b c p q =
+      record {
+        below = q .below ∙ p .below;
+        before = λ n h. q .before n h ∙ p .before n h;
+        behind = λ n. q .behind n ∙ p .behind n;
+      }
 
--- the popped frame, and the stack under it
-module _ (goals k : ℕ) (old new : List ℕ) (o : OthersKept goals k old new) (popped : ℕ) (lt : popped < goals) where
-  pub frame-after : frameAt goals popped new ≡ frameAt goals popped old
-  frame-after = frame-kept goals old new popped (o .frames) lt
-
-  pub stack-after : stackOf goals popped new ≡ stackOf goals popped old
-  stack-after = o .frames .stacks popped (omega arith)
+-- the popped frame lies below the entries
+pub frame-after : (goals base : ℕ) (old new : List ℕ) → frameSize goals ≤ base → region 0 base new ≡ region 0 base old
+    → poppedFrame goals new ≡ poppedFrame goals old
+frame-after goals base old new wide e =
+    ap (frameOf goals) (sym (inside new) ∙ ap (region 0 (frameSize goals)) e ∙ inside old)
+  where
+    inside : (l : List ℕ) → region 0 (frameSize goals) (region 0 base l) ≡ poppedBytes goals l
+    inside l = region-region 0 base 0 (frameSize goals) l (omega arith)
 
 -- entry k, at a, of n bytes, is lent and comes back with ys
-module _ (goals : ℕ) (bs : List ℕ) (k a n : ℕ) (g : GraphBytes goals bs) (lt : k < 2 * goals) (is-a : a ≡ entryStart goals k) (is-n : n ≡ entrySize goals) (ys : List ℕ) (kept : length ys ≡ length (part bs a (a + n))) where
-  back : returned bs a (a + n) ys ≡ overwrite bs (entryStart goals k) ys
-  back = entry-back goals bs k a n g lt is-a is-n ys kept
+module _ (goals base : ℕ) (bs : List ℕ) (k a n : ℕ) (g : EntriesBytes goals base bs) (lt : k < 2 * goals)
+    (is-a : a ≡ entryStartFrom goals base k) (is-n : n ≡ entrySize goals) (ys : List ℕ)
+    (kept : length ys ≡ length (part bs a (a + n))) where
+  back : returned bs a (a + n) ys ≡ overwrite bs (entryStartFrom goals base k) ys
+  back = entry-back goals base bs k a n g lt is-a is-n ys kept
 
   whole : length ys ≡ entrySize goals
-  whole = entry-whole goals bs k a n g lt is-a is-n ys kept
+  whole = entry-whole goals base bs k a n g lt is-a is-n ys kept
 
-  pub written : (f : Entry → Entry) → entryOf goals ys ≡ f (entryOf goals (part bs a (a + n))) → EntryWritten goals k (f (entryAt goals k bs)) bs (returned bs a (a + n) ys)
+  pub written : (f : Entry → Entry) → entryOf goals ys ≡ f (entryOf goals (part bs a (a + n)))
+      → EntryWritten goals base k (f (entryFrom goals base k bs)) bs (returned bs a (a + n) ys)
   written f e =
       record {
         entry =
-            ap (entryAt goals k) back
-            ∙ record-whole (entryOf goals) (entrySize goals) (entriesStart goals) bs k ys whole (entry-room goals bs (g .long) k lt)
-            ∙ e ∙ ap (λ (l : List ℕ). f (entryOf goals l)) (part-is goals bs k a n g lt is-a is-n);
+            ap (entryFrom goals base k) back
+            ∙ entry-written goals base bs (g .long) k ys lt whole
+            ∙ e ∙ ap (λ (l : List ℕ). f (entryOf goals l)) (part-is goals base bs k a n g lt is-a is-n);
         others =
-            subst (OthersKept goals k bs) (sym back)
+            subst (OthersKept goals base k bs) (sym back)
             (record {
-              frames = frames-whole goals bs g k ys lt whole;
-              before = entries-before goals bs (g .long) k ys lt whole;
-              behind = entries-behind goals bs (g .long) k ys lt whole k (omega arith);
+              below = below-whole goals base bs (g .long) k ys lt whole;
+              before = entries-before goals base bs (g .long) k ys lt whole;
+              behind = entries-behind goals base bs (g .long) k ys lt whole k (omega arith);
             });
       }
 
--- ---- blocks of heads in a graph
-pub popped-block : (goals popped : ℕ) (bs hs : List ℕ) → hs ≡ region headsStart (headsSize goals) (frameBytes goals popped bs) → headsOf goals hs ≡ (frameAt goals popped bs) .heads
-unfolding frameOf
-popped-block goals popped bs hs e = ap (headsOf goals) e
+-- ---- the popped frame's bytes, n from the first on
+module _ (goals : ℕ) (bs : List ℕ) (f : FrameFirst goals bs) where
+  pub popped-part : (n : ℕ) → n ≡ frameSize goals → part bs 0 n ≡ poppedBytes goals bs
+  popped-part n is = let e : n - 0 ≡ n = omega arith in ap (λ (m : ℕ). take m (drop 0 bs)) (e ∙ is)
 
-pub entry-block : (goals k : ℕ) (bs hs : List ℕ) → hs ≡ region entryHeadsStart (headsSize goals) (entryBytes goals k bs) → headsOf goals hs ≡ (entryAt goals k bs) .heads
+  pub popped-bytes : (r : List ℕ) → r ≡ poppedBytes goals bs → FrameBytes goals r
+  popped-bytes r e =
+      let w = f .wide in
+      record { few = f .few; long = ap length e ∙ length-region 0 (frameSize goals) bs (omega arith) }
+
+-- ---- blocks of heads
+pub popped-block : (goals : ℕ) (bs hs : List ℕ) → hs ≡ region headsStart (headsSize goals) (poppedBytes goals bs)
+    → headsOf goals hs ≡ (poppedFrame goals bs) .heads
+unfolding frameOf
+popped-block goals bs hs e = ap (headsOf goals) e
+
+pub entry-block : (goals base k : ℕ) (bs hs : List ℕ)
+    → hs ≡ region entryHeadsStart (headsSize goals) (entryBytesFrom goals base k bs)
+    → headsOf goals hs ≡ (entryFrom goals base k bs) .heads
 unfolding entryOf
-entry-block goals k bs hs e = ap (headsOf goals) e
+entry-block goals base k bs hs e = ap (headsOf goals) e
 
-pub popped-heads-block : (goals popped : ℕ) (bs hs : List ℕ) → GraphBytes goals bs → popped < goals → hs ≡ region headsStart (headsSize goals) (frameBytes goals popped bs) → HeadsBlock goals hs
-popped-heads-block goals popped bs hs g lt e = heads-block goals (frameBytes goals popped bs) hs (frame-bytes goals bs (frameBytes goals popped bs) popped g lt refl) e
+pub popped-heads-block : (goals : ℕ) (bs hs : List ℕ) → FrameFirst goals bs
+    → hs ≡ region headsStart (headsSize goals) (poppedBytes goals bs) → HeadsBlock goals hs
+popped-heads-block goals bs hs f e =
+    heads-block goals (poppedBytes goals bs) hs (popped-bytes goals bs f (poppedBytes goals bs) refl) e
 
-pub entry-heads-at : (goals k : ℕ) (bs hs : List ℕ) → GraphBytes goals bs → k < 2 * goals → hs ≡ region entryHeadsStart (headsSize goals) (entryBytes goals k bs) → HeadsBlock goals hs
-entry-heads-at goals k bs hs g lt e = entry-heads-block goals (entryBytes goals k bs) hs (entry-bytes goals bs (entryBytes goals k bs) k g lt refl) e
+pub entry-heads-at : (goals base k : ℕ) (bs hs : List ℕ) → EntriesBytes goals base bs → k < 2 * goals
+    → hs ≡ region entryHeadsStart (headsSize goals) (entryBytesFrom goals base k bs) → HeadsBlock goals hs
+entry-heads-at goals base k bs hs g lt e =
+    entry-heads-block goals (entryBytesFrom goals base k bs) hs
+    (entry-bytes goals base bs (entryBytesFrom goals base k bs) k g lt refl) e
 
-pub popped-length : (goals popped : ℕ) (bs : List ℕ) → length ((frameAt goals popped bs) .heads) ≡ goals
+pub popped-length : (goals : ℕ) (bs : List ℕ) → length ((poppedFrame goals bs) .heads) ≡ goals
 unfolding frameOf
-popped-length goals popped bs = length-heads goals (region headsStart (headsSize goals) (frameBytes goals popped bs))
+popped-length goals bs = length-heads goals (region headsStart (headsSize goals) (poppedBytes goals bs))

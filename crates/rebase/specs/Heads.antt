@@ -9,18 +9,18 @@ use Rattle.definition.specs.declared.answers.RebaseReason.{RebaseReason}
 use Rattle.definition.specs.Paths.{extendWithPaths, emptyPath}
 use Rattle.definition.specs.Usages.{noUsages}
 use Rattle.definition.specs.Heads.{CycleHeads, joinHead, forEachHead}
+use Rattle.definition.specs.Stack.{Frame, Stack}
 use Rattle.definition.specs.Graph.{Entry, withEntryHeads}
 use Rattle.definition.specs.ProvisionalCache.{reasonKeeps}
-use Rattle.stack.specs.Bytes.{frameAt}
-use Rattle.provisional_cache.specs.Entries.{entryAt, withoutHead}
-use Rattle.rebase.specs.Popped.{headsKeep}
+use Rattle.layout.specs.Work.{entryFrom}
+use Rattle.provisional_cache.specs.Entries.{withoutHead}
+use Rattle.rebase.specs.Popped.{poppedFrame, headsKeep}
 
 -- whether an entry that used the popped frame in this way stays: ep are the paths to it
-abbrev pub entryStays : ℕ → ℕ → RebaseReason → ℕ → List ℕ → HeadUsages → ℕ → Bool
-entryStays goals popped reason k bs usages ep =
-    headsKeep goals popped bs ((entryAt goals k bs) .pathFromHead) ep && reasonKeeps reason ((entryAt goals k bs) .result) usages
+abbrev pub entryStays : Stack → Frame → RebaseReason → Entry → HeadUsages → ℕ → Bool
+entryStays s p reason e usages ep = headsKeep s p (e .pathFromHead) ep && reasonKeeps reason (e .result) usages
 
--- what an entry gains for the head c of the popped frame: the head as reached by the paths ep, or the head used for nothing
+-- what an entry gains for the head c of the popped frame: the head as reached by the paths ep, or used for nothing
 abbrev pub gainedHead : Bool → ℕ → CycleHead → CycleHead
 gainedHead true ep c = record { paths = extendWithPaths ep (c .paths); usages = c .usages }
 gainedHead false ep c = record { paths = emptyPath; usages = noUsages }
@@ -34,8 +34,10 @@ withGained used ep e cs = withEntryHeads e (forEachHead (gainHead used ep) (e .h
 
 -- entry k gains the heads of the popped frame
 abbrev pub gainedEntry : ℕ → ℕ → ℕ → Bool → ℕ → List ℕ → Entry
-gainedEntry goals popped k used ep bs = withGained used ep (entryAt goals k bs) ((frameAt goals popped bs) .heads)
+gainedEntry goals base k used ep rest =
+    withGained used ep (entryFrom goals base k rest) ((poppedFrame goals rest) .heads)
 
 -- they take the place of the popped frame among its heads
-abbrev pub replacedEntry : ℕ → ℕ → ℕ → Bool → ℕ → List ℕ → Entry
-replacedEntry goals popped k used ep bs = withGained used ep (withoutHead (entryAt goals k bs) popped) ((frameAt goals popped bs) .heads)
+abbrev pub replacedEntry : ℕ → ℕ → ℕ → ℕ → Bool → ℕ → List ℕ → Entry
+replacedEntry goals base popped k used ep rest =
+    withGained used ep (withoutHead (entryFrom goals base k rest) popped) ((poppedFrame goals rest) .heads)

@@ -42,6 +42,7 @@ const FLOORS: &[Floors] = &[
     floors("many-entries",     1600, [150,  730,  18, 540], [  0,   0,  0,   0,  27,  12,   0,    0,  13, 61,   0]),
     floors("large",            1700, [200,  270, 150, 900], [  0,   0,  0,   0,  27,  11,   0,    0,  10,  0,   0]),
     floors("deep",             1600, [220,  550, 130, 580], [  0,   0,  0,   0,  27,  13,   0,    0,  12,  0,   0]),
+    floors("closing",          1600, [ 69,  710, 100, 600], [  0,   0,  0,   0,  26,  11,   0,    0,  12,  2,   0]),
     floors("long",             1600, [530,  570,  28, 340], [  0,   0,  0,   0,  28,   9,   0,    0,  12, 39,   0]),
     floors("extremes",         1600, [210,  360, 130, 790], [  0,   0,  0,   0,  25,   9,   0,    0,  12,  0,   0]),
     floors("only-inductive",   1600, [970,  190,  51, 280], [  0,   0,  0,   0,  27,  13,   0,    0,  12,  0,   0]),
@@ -87,6 +88,17 @@ pub fn too_few_guarantees(cases: u64, all: &Tally) -> Vec<String> {
         return vec![];
     }
     vec![format!("guarantees given, broken, refused: {seen:?}, fewer than {least:?}")]
+}
+
+/// The fewest provisional entries that must have been live at once in some query of all classes: half of the 2 G that may be.
+const ENTRIES: usize = 64;
+
+/// Where all classes together never had so many.
+pub fn too_few_entries(all: &Tally) -> Vec<String> {
+    if all.entries >= ENTRIES {
+        return vec![];
+    }
+    vec![format!("never more than {} entries live at once, fewer than {ENTRIES}", all.entries)]
 }
 
 /// Where a class is below its floors after so many cases.
@@ -182,6 +194,13 @@ mod tests {
             tally.guarantees[i] -= 1;
             assert_eq!(too_few_guarantees(2 * ENOUGH, &tally).len(), 1);
         }
+    }
+
+    #[test]
+    fn one_entry_fewer_is_too_few() {
+        let most = |entries| Tally { entries, ..Tally::default() };
+        assert!(too_few_entries(&most(ENTRIES)).is_empty());
+        assert_eq!(too_few_entries(&most(ENTRIES - 1)).len(), 1);
     }
 
     #[test]

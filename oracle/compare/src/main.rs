@@ -86,7 +86,9 @@ fn original_says(
     tally: &mut Tally,
 ) -> Option<(u8, u8)> {
     let Query { goal, depth, .. } = *asked.query;
-    match reply_within(limits, &asked.case.book, cache, work, goal, depth).outcome {
+    let report = reply_within(limits, &asked.case.book, cache, work, goal, depth);
+    tally.entries = tally.entries.max(report.high_water);
+    match report.outcome {
         Outcome::Replied { answer, refusal } => return Some((answer, refusal)),
         Outcome::TooLong => tally.too_long += 1,
         Outcome::Panicked => {
@@ -178,13 +180,14 @@ fn compare(options: &Options) -> (Vec<Tally>, u64) {
 fn print(options: &Options, tallies: &[Tally], cases: u64, all: &Tally) {
     for (class, tally) in options.classes.iter().zip(tallies) {
         println!(
-            "{:17} {:9} queries, {} differences, answers {:?}, refusals 1 to 11 {:?}, too long {}",
+            "{:17} {:9} queries, {} differences, answers {:?}, refusals 1 to 11 {:?}, too long {}, most entries {}",
             class.name,
             tally.compared,
             tally.differences,
             tally.answers,
             &tally.refusals[1..],
             tally.too_long,
+            tally.entries,
         );
     }
     println!(
@@ -208,6 +211,7 @@ fn faults(options: &Options, tallies: &[Tally], cases: u64, all: &Tally) -> Vec<
         );
         if options.classes.len() == CLASSES.len() {
             found.extend(judge::too_few_guarantees(cases, all));
+            found.extend(judge::too_few_entries(all));
         }
     } else {
         println!("what a class gives is not judged: fewer than {} cases of each", judge::ENOUGH);

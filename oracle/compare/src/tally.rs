@@ -8,6 +8,8 @@ pub struct Tally {
     pub answers: [u64; 4],
     /// By the refusal's number, of the queries compared.
     pub refusals: [u64; 12],
+    /// The most provisional entries that were live at once in a query.
+    pub entries: usize,
     pub too_long: u64,
     /// Of the original, as are frames out of order.
     pub panics: u64,
@@ -21,6 +23,7 @@ impl Tally {
     pub fn add(&mut self, other: &Tally) {
         self.compared += other.compared;
         self.differences += other.differences;
+        self.entries = self.entries.max(other.entries);
         self.too_long += other.too_long;
         self.panics += other.panics;
         self.frames += other.frames;

@@ -1,4 +1,4 @@
-use Rattle.provisional_cache.proofs.Entries.{entry-bytes}
+use Rattle.provisional_cache.proofs.Entries.{entry-at-bytes}
 use Rattle.lookup.proofs.Uses.{entry-used}
 use borrow.Author.Needs.{needs}
 use Rattle.lookup.proofs.use_entry.Statement.{statement}
@@ -11,13 +11,13 @@ encountered-overflow-requires : tie.Need-encountered-overflow-requires
 encountered-overflow-requires c κs =
     let s = c .before .before .before in
     let entry-at = c .entry-at in
-    entry-bytes (s .args .goals) (s .args .graph .now) (entry-at .result .now) (s .args .i) (s .pre .0) (s .pre .1 .1) (entry-at .ensures)
+    entry-at-bytes (s .args .goals) (s .args .graph .now) (entry-at .result .now) (s .args .i) (s .pre .0) (s .pre .1 .1) (entry-at .ensures)
 
 result-requires : tie.Need-result-requires
 result-requires c κs =
     let s = c .before .before .before .before in
     let entry-at = c .before .entry-at in
-    entry-bytes (s .args .goals) (s .args .graph .now) (entry-at .result .now) (s .args .i) (s .pre .0) (s .pre .1 .1) (entry-at .ensures)
+    entry-at-bytes (s .args .goals) (s .args .graph .now) (entry-at .result .now) (s .args .i) (s .pre .0) (s .pre .1 .1) (entry-at .ensures)
 
 update-from-entry-requires : tie.Need-update-from-entry-requires
 update-from-entry-requires c κs = search needs

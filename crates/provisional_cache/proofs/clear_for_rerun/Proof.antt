@@ -1,41 +1,70 @@
+use mathlib.Core.Path.{_≡_, refl, ap, _∙_}
 use native.Mathlib.Omega.{arith}
-use Prim.Native.Nat.{_-_, _<_, _*_}
-use Rattle.provisional_cache.proofs.Entries.{entry-bytes}
-use Rattle.provisional_cache.proofs.Loops.{Clearing, graph-bytes, clear-start, clear-next, clear-done}
+use Prim.Native.Nat.{ℕ, _-_, _<_, _*_}
+use Rattle.definition.specs.ProvisionalCache.{survivors, survivesRerun}
+use Rattle.layout.specs.Entry.{entryOf}
+use Rattle.layout.specs.Work.{entryFrom}
+use Rattle.provisional_cache.specs.Entries.{EntriesBytes}
+use Rattle.provisional_cache.proofs.Entries.{entries-from, entry-bytes}
+use Rattle.provisional_cache.proofs.Loops.{entries-bytes, Compacting, Whole, compact-start, compact-next}
+use Rattle.provisional_cache.proofs.Loops.{whole-start, whole-next, survivor-first}
+use Rattle.provisional_cache.proofs.Writes.{cleared}
+use borrow.Author.Needs.{needs}
 use Rattle.provisional_cache.proofs.clear_for_rerun.Statement.{statement}
 use Rattle.provisional_cache.proofs.clear_for_rerun.Tie as tie
 
 abbrev Inv-loop : tie.InvT-loop
-Inv-loop graph₀ goals rerun entries kept₀ i₀ graph kept i = Clearing goals rerun entries graph₀ graph kept i
+Inv-loop graph₀ goals rerun entries base kept₀ i₀ graph kept i =
+    Compacting base entries graph₀ graph kept i × Whole (survivors rerun) goals base entries graph₀ graph kept i
 
 abbrev μ-loop : tie.MeasureT-loop
-μ-loop graph₀ goals rerun entries kept₀ i₀ graph kept i = entries - i
+μ-loop graph₀ goals rerun entries base kept₀ i₀ graph kept i = entries - i
+
+-- the entries' bytes at the loop's start
+bytes : (c : tie.At-loop Inv-loop μ-loop)
+    → EntriesBytes (c .before .before .before .args .goals) (c .before .entries-start .result) (c .loop .graph)
+bytes c =
+    let s = c .before .before .before in
+    let start = c .before .entries-start in
+    entries-bytes (s .args .goals) (start .result) (s .args .graph .now) (c .loop .graph)
+    (entries-from (s .args .goals) (start .result) (s .args .graph .now) (s .pre .0) (start .ensures .0))
+    (c .loop .inv .0 .same-length)
+
+entries-start-requires : tie.Need-entries-start-requires Inv-loop μ-loop
+entries-start-requires c κs = search needs
 
 loop-holds : tie.Need-loop-holds Inv-loop μ-loop
-loop-holds c = let s = c .before in clear-start (s .args .goals) (s .args .rerun) (s .args .entries) (s .args .graph .now)
+loop-holds c =
+    let s = c .before .before in
+    let base : ℕ = c .entries-start .result in (
+      compact-start base (s .args .entries) (s .args .graph .now) 0 (omega arith),
+      whole-start (survivors (s .args .rerun)) (s .args .goals) base (s .args .entries) (s .args .graph .now),
+    )
 
-entry-at-requires : tie.Need-entry-at-requires Inv-loop μ-loop
-entry-at-requires c κs =
-    let s = c .before .before .before .before in
-    let l = c .before .before .loop in
-    (graph-bytes (s .args .goals) (s .args .graph .now) (l .graph) (s .pre .0) (l .inv .same-length), omega arith)
+entry-from-requires : tie.Need-entry-from-requires Inv-loop μ-loop
+entry-from-requires c κs =
+    let s = c .before .before .before .before .before in let most = s .pre .1 .1 in
+    let lt = c .before .loop-test .taken in (bytes (c .before .before), omega arith)
 
 survives-rerun-requires : tie.Need-survives-rerun-requires Inv-loop μ-loop
 survives-rerun-requires c κs =
-    let s = c .before .before .before .before .before in
+    let s = c .before .before .before .before .before .before in
     let l = c .before .before .before .loop in
-    let lt : l .i < 2 * s .args .goals = omega arith in
-    let entry-at = c .entry-at in (
-      entry-bytes (s .args .goals) (l .graph) (entry-at .result .now) (l .i)
-          (graph-bytes (s .args .goals) (s .args .graph .now) (l .graph) (s .pre .0) (l .inv .same-length)) lt (entry-at .ensures),
+    let lt : l .i < 2 * s .args .goals = let most = s .pre .1 .1 in let t = c .before .before .loop-test .taken in
+    omega arith in
+    let entry-from = c .entry-from in (
+      entry-bytes (s .args .goals) (c .before .before .before .before .entries-start .result) (l .graph)
+          (entry-from .result .now) (l .i) (bytes (c .before .before .before)) lt (entry-from .ensures),
       s .pre .1 .0,
     )
 
 keep-if-requires : tie.Need-keep-if-requires Inv-loop μ-loop
 keep-if-requires c κs =
-    let s = c .before .before .before .before .before .before .before in
+    let s = c .before .before .before .before .before .before .before .before in
     let l = c .before .before .before .before .before .loop in
-    (graph-bytes (s .args .goals) (s .args .graph .now) (l .graph) (s .pre .0) (l .inv .same-length), (l .inv .kept-few, omega arith))
+    let most = s .pre .1 .1 in
+    let t = c .before .before .before .before .loop-test .taken in
+    (bytes (c .before .before .before .before .before), (l .inv .0 .kept-few, omega arith))
 
 add-i : tie.Need-add-i Inv-loop μ-loop
 add-i c = omega arith
@@ -45,33 +74,36 @@ loop-less c = omega arith
 
 loop-again : tie.Need-loop-again Inv-loop μ-loop
 loop-again c =
-    let c2 = c .before .before in let c4 = c2 .before .before in let c5 = c4 .before in let c7 = c5 .before .before in
-    let c8 = c7 .before in let s = c8 .before .before in
-    let l = c8 .loop in
-    let k = c2 .keep-if in
-    let loop-test = c7 .loop-test in
-    let entry-at = c5 .entry-at in
-    let survives-rerun = c4 .survives-rerun in
-    clear-next (s .args .goals) (s .args .rerun) (s .args .entries) (s .args .graph .now) (l .graph) (k .last .0) (l .kept) (l .i)
-    (k .result) (survives-rerun .result) (entry-at .result .now) (l .inv) (loop-test .taken) (s .pre .1 .1) (entry-at .ensures)
-    (survives-rerun .ensures) (k .ensures) (k .kept .0)
+    let a = c .before .before .before .before .before .before .before .before .before .before .before .args in
+    let base : ℕ = c .before .before .before .before .before .before .before .before .before .entries-start .result in
+    let l = c .before .before .before .before .before .before .before .before .loop in
+    let t = c .before .before .before .before .before .before .before .loop-test .taken in
+    let entry-from = c .before .before .before .before .before .entry-from in
+    let survives-rerun = c .before .before .before .before .survives-rerun in
+    let k = c .before .before .keep-if in
+    let is : survives-rerun .result ≡ survivesRerun (a .rerun) (entryFrom (a .goals) base (l .i) (l .graph)) =
+    survives-rerun .ensures ∙ ap (λ b. survivesRerun (a .rerun) (entryOf (a .goals) b)) (entry-from .ensures) in (
+      compact-next base (a .entries) (a .graph .now) (a .goals) (l .graph) (l .graph) (k .last .0) (l .kept) (l .i)
+          (k .result)
+          (survives-rerun .result) (l .inv .0) t refl refl (k .ensures) (k .kept .0),
+      whole-next (survivors (a .rerun)) (a .goals) base (a .entries) (a .graph .now) (l .graph) (l .graph)
+          (k .last .0) (l .kept) (l .i)
+          (k .result) (survives-rerun .result) (l .inv .1) t refl refl
+          (survivor-first (a .rerun) (entryFrom (a .goals) base (l .i) (l .graph)) (survives-rerun .result) is)
+          (k .ensures),
+    )
 
 same-length : tie.Need-same-length Inv-loop μ-loop
-same-length c = c .before .loop .inv .same-length
+same-length c = c .before .loop .inv .0 .same-length
 
 returns : tie.Need-returns Inv-loop μ-loop
 returns c =
-    let s = c .before .before .before in
+    let a = c .before .before .before .before .args in
+    let start = c .before .before .entries-start in
     let l = c .before .loop in
-    let k0 = l .inv .kept-few in
-    let k1 = l .inv .few in
-    record {
-      few = omega arith;
-      entries =
-          clear-done (s .args .goals) (s .args .rerun) (s .args .entries) (s .args .graph .now) (l .graph) (l .kept) (l .i) (l .inv)
-          (c .loop-test .left);
-      frames = l .inv .frames;
-    }
+    cleared (a .goals) (start .result) (a .rerun) (a .entries) (a .graph .now) (l .graph) (l .kept) (l .i)
+    (start .ensures .0) (l .inv .0)
+    (l .inv .1) (c .loop-test .left)
 
 pub clear-for-rerun-spec : {M : Type 1} → statement M
 clear-for-rerun-spec =
@@ -79,8 +111,9 @@ clear-for-rerun-spec =
     (tie.spec
     Inv-loop
     μ-loop
+    entries-start-requires
     loop-holds
-    entry-at-requires
+    entry-from-requires
     survives-rerun-requires
     keep-if-requires
     add-i

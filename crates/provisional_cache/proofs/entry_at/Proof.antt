@@ -1,4 +1,6 @@
-use Rattle.provisional_cache.proofs.Entries.{part-room, part-is}
+use native.Mathlib.Omega.{arith}
+use Rattle.layout.specs.Work.{entriesStart}
+use Rattle.provisional_cache.proofs.Entries.{graph-entries, part-room, part-is}
 use borrow.Author.Needs.{needs}
 use Rattle.provisional_cache.proofs.entry_at.Statement.{statement}
 use Rattle.provisional_cache.proofs.entry_at.Tie as tie
@@ -23,15 +25,19 @@ part-result-end c =
     let s = c .before .before .before in
     let entry-start = c .before .entry-start in
     let entry-size = c .entry-size in
-    part-room (s .args .goals) (s .args .graph .now) (s .args .i) (entry-start .result) (entry-size .result) (s .pre .0) (s .pre .1)
-    (entry-start .ensures .0) (entry-size .ensures)
+    let inside =
+    part-room (s .args .goals) (entriesStart (s .args .goals)) (s .args .graph .now) (s .args .i) (entry-start .result) (entry-size .result)
+    (graph-entries (s .args .goals) (s .args .graph .now) (s .pre .0)) (s .pre .1)
+    (entry-start .ensures .0) (entry-size .ensures) in
+    omega arith
 
 returns : tie.Need-returns
 returns c =
     let s = c .before .before .before .before in
     let entry-start = c .before .before .entry-start in
     let entry-size = c .before .entry-size in
-    part-is (s .args .goals) (s .args .graph .now) (s .args .i) (entry-start .result) (entry-size .result) (s .pre .0) (s .pre .1)
+    part-is (s .args .goals) (entriesStart (s .args .goals)) (s .args .graph .now) (s .args .i) (entry-start .result) (entry-size .result)
+    (graph-entries (s .args .goals) (s .args .graph .now) (s .pre .0)) (s .pre .1)
     (entry-start .ensures .0) (entry-size .ensures)
 
 pub entry-at-spec : {M : Type 1} → statement M

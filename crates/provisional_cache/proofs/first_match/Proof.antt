@@ -5,7 +5,7 @@ use mathlib.Core.Bool.{Bool}
 use lib.ListN.{drop}
 use Rattle.definition.specs.Lookup.{entryMatches, firstMatch}
 use Rattle.layout.specs.Work.{stackOf, entriesOf}
-use Rattle.provisional_cache.proofs.Entries.{entry-bytes}
+use Rattle.provisional_cache.proofs.Entries.{entry-at-bytes}
 use Rattle.provisional_cache.proofs.Loops.{read-at, match-here, match-next, match-none}
 use Rattle.provisional_cache.proofs.first_match.Statement.{statement}
 use Rattle.provisional_cache.proofs.first_match.Tie as tie
@@ -30,7 +30,7 @@ is-match-requires c κs =
     let s = c .before .before .before .before in
     let lt : c .before .before .loop .i < 2 * s .args .goals = omega arith in
     let entry-at = c .entry-at in (
-      entry-bytes (s .args .goals) (s .args .graph .now) (entry-at .result .now) (c .before .before .loop .i) (s .pre .0 .bytes) lt
+      entry-at-bytes (s .args .goals) (s .args .graph .now) (entry-at .result .now) (c .before .before .loop .i) (s .pre .0 .bytes) lt
           (entry-at .ensures),
       s .pre .0,
     )

@@ -7,7 +7,7 @@ use Rattle.provisional_cache.proofs.keep_if.Tie as tie
 returns : tie.Need-returns
 returns c =
     let s = c .before .before in
-    keep-not (s .args .goals) (s .args .graph .now) (s .pre .0) (s .args .i) (s .args .kept) (s .args .keep)
+    keep-not (s .args .goals) (s .args .base) (s .args .bytes .now) (s .pre .0) (s .args .i) (s .args .kept) (s .args .keep)
     (not-true (s .args .keep) (c .if1 .taken))
 
 move-entry-requires : tie.Need-move-entry-requires
@@ -24,7 +24,7 @@ returns-2 c =
     let s = c .before .before .before .before .before .before in
     let if1 = c .before .before .before .before .if1 in
     let move-entry = c .before .before .move-entry in
-    keep-moved (s .args .goals) (s .args .graph .now) (s .pre .0) (s .args .i) (s .args .kept) (s .args .keep) (move-entry .last .0)
+    keep-moved (s .args .goals) (s .args .base) (s .args .bytes .now) (s .pre .0) (s .args .i) (s .args .kept) (s .args .keep) (move-entry .last .0)
     (not-false (s .args .keep) (if1 .left)) (s .pre .1 .0) (s .pre .1 .1) (move-entry .ensures)
 
 pub keep-if-spec : {M : Type 1} → statement M

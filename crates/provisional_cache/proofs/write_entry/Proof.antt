@@ -1,5 +1,6 @@
+use Rattle.layout.specs.Work.{entriesStart}
 use Rattle.provisional_cache.proofs.Entries.{part-room}
-use Rattle.provisional_cache.proofs.Writes.{mid-bytes, appended}
+use Rattle.provisional_cache.proofs.Writes.{mid-entries-bytes, appended}
 use borrow.Author.Needs.{needs}
 use Rattle.provisional_cache.proofs.write_entry.Statement.{statement}
 use Rattle.provisional_cache.proofs.write_entry.Tie as tie
@@ -28,8 +29,8 @@ part-start-end c =
     let copy-heads = c .before .before .before .before .copy-heads in
     let entry-start = c .before .entry-start in
     let entry-size = c .entry-size in
-    part-room (s .args .goals) (copy-heads .last .0) (s .args .i) (entry-start .result) (entry-size .result)
-    (mid-bytes (s .args .goals) (s .args .height) (s .args .i) (s .args .graph .now) (copy-heads .last .0) (s .pre .0) (s .pre .1 .0)
+    part-room (s .args .goals) (entriesStart (s .args .goals)) (copy-heads .last .0) (s .args .i) (entry-start .result) (entry-size .result)
+    (mid-entries-bytes (s .args .goals) (s .args .height) (s .args .i) (s .args .graph .now) (copy-heads .last .0) (s .pre .0) (s .pre .1 .0)
     (s .pre .1 .1 .0) (copy-heads .ensures)) (s .pre .1 .1 .0) (entry-start .ensures .0) (entry-size .ensures)
 
 start-requires : tie.Need-start-requires

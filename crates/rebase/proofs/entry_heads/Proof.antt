@@ -7,18 +7,20 @@ use borrow.Author.Needs.{needs}
 use Rattle.rebase.proofs.entry_heads.Statement.{statement}
 use Rattle.rebase.proofs.entry_heads.Tie as tie
 
-entry-at-requires : tie.Need-entry-at-requires
-entry-at-requires c κs = search needs
+entry-from-requires : tie.Need-entry-from-requires
+entry-from-requires c κs = search needs
 
 heads-requires : tie.Need-heads-requires
 heads-requires c κs =
     let s = c .before .before in
-    let entry-at = c .entry-at in
-    entry-bytes (s .args .goals) (s .args .graph .now) (entry-at .result .now) (s .args .k) (s .pre .0) (s .pre .1) (entry-at .ensures)
+    let entry-from = c .entry-from in
+    entry-bytes (s .args .goals) (s .args .base) (s .args .rest .now) (entry-from .result .now) (s .args .k)
+    (s .pre .0) (s .pre .1) (entry-from .ensures)
 
 returns : tie.Need-returns
 returns c =
-    c .heads .ensures ∙ ap (region entryHeadsStart (headsSize (c .before .before .before .args .goals))) (c .before .entry-at .ensures)
+    c .heads .ensures ∙ ap (region entryHeadsStart (headsSize (c .before .before .before .args .goals)))
+    (c .before .entry-from .ensures)
 
 pub entry-heads-spec : {M : Type 1} → statement M
-entry-heads-spec = tie.close (tie.spec entry-at-requires heads-requires returns)
+entry-heads-spec = tie.close (tie.spec entry-from-requires heads-requires returns)

@@ -6,8 +6,8 @@ use borrow.Author.Needs.{needs}
 use Rattle.rebase.proofs.extend_path.Statement.{statement}
 use Rattle.rebase.proofs.extend_path.Tie as tie
 
-entry-start-requires : tie.Need-entry-start-requires
-entry-start-requires c κs = search needs
+entry-start-from-requires : tie.Need-entry-start-from-requires
+entry-start-from-requires c κs = search needs
 
 entry-size-requires : tie.Need-entry-size-requires
 entry-size-requires c κs = search needs
@@ -24,9 +24,10 @@ part-extend-path-start c = search needs
 part-extend-path-end : tie.Need-part-extend-path-end
 part-extend-path-end c =
     let s = c .before .before .before in
-    let entry-start = c .before .entry-start in
+    let entry-start = c .before .entry-start-from in
     let entry-size = c .entry-size in
-    part-room (s .args .goals) (s .args .graph .now) (s .args .k) (entry-start .result) (entry-size .result) (s .pre .0) (s .pre .1)
+    part-room (s .args .goals) (s .args .base) (s .args .rest .now) (s .args .k) (entry-start .result)
+    (entry-size .result) (s .pre .0) (s .pre .1)
     (entry-start .ensures .0) (entry-size .ensures)
 
 extend-path-requires : tie.Need-extend-path-requires
@@ -40,16 +41,17 @@ returns c =
     let s = c .before .before .before .before .before .before .before in
     let a = s .args in
     let b = c .before .before .extend-path in
-    let entry-start = c .before .before .before .before .before .entry-start in
+    let entry-start = c .before .before .before .before .before .entry-start-from in
     let entry-size = c .before .before .before .before .entry-size in
-    written (a .goals) (a .graph .now) (a .k) (entry-start .result) (entry-size .result) (s .pre .0) (s .pre .1) (entry-start .ensures .0)
+    written (a .goals) (a .base) (a .rest .now) (a .k) (entry-start .result) (entry-size .result) (s .pre .0)
+    (s .pre .1) (entry-start .ensures .0)
     (entry-size .ensures) (b .last .0) (b .kept .0) (λ (e : Entry). withLongerPath e (a .kind)) (b .ensures)
 
 pub extend-path-spec : {M : Type 1} → statement M
 extend-path-spec =
     tie.close
     (tie.spec
-    entry-start-requires
+    entry-start-from-requires
     entry-size-requires
     add-end
     sub-extend-path

@@ -24,7 +24,8 @@ returns-2 c =
     let a = c .before .before .before .args in
     let empty-path = c .before .empty-path in
     let none = c .none in
-    gained-unused (a .used) (a .eps .bits) (a .head) (empty-path .result .bits) (c .before .before .if1 .left) (empty-path .ensures)
+    gained-unused (a .used) (a .eps .bits) (a .head) (empty-path .result .bits) (c .before .before .if1 .left)
+    (empty-path .ensures)
     (none .result) (none .ensures)
 
 pub gained-spec : {M : Type 1} → statement M

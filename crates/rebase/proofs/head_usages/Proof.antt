@@ -12,7 +12,8 @@ usages-requires : tie.Need-usages-requires
 usages-requires c κs =
     let s = c .before .before in
     let entry-heads = c .entry-heads in (
-      entry-heads-at (s .args .goals) (s .args .k) (s .args .graph .now) (entry-heads .result .now) (s .pre .0) (s .pre .1 .0)
+      entry-heads-at (s .args .goals) (s .args .base) (s .args .k) (s .args .rest .now) (entry-heads .result .now)
+          (s .pre .0) (s .pre .1 .0)
           (entry-heads .ensures),
       s .pre .1 .1,
     )
@@ -23,7 +24,7 @@ returns c =
     let entry-heads = c .before .entry-heads in
     c .usages .ensures
     ∙ ap (λ (hs : CycleHeads). usagesAt hs (a .i))
-    (entry-block (a .goals) (a .k) (a .graph .now) (entry-heads .result .now) (entry-heads .ensures))
+    (entry-block (a .goals) (a .base) (a .k) (a .rest .now) (entry-heads .result .now) (entry-heads .ensures))
 
 pub head-usages-spec : {M : Type 1} → statement M
 head-usages-spec = tie.close (tie.spec entry-heads-requires usages-requires returns)

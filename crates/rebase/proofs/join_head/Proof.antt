@@ -6,8 +6,8 @@ use borrow.Author.Needs.{needs}
 use Rattle.rebase.proofs.join_head.Statement.{statement}
 use Rattle.rebase.proofs.join_head.Tie as tie
 
-entry-start-requires : tie.Need-entry-start-requires
-entry-start-requires c κs = search needs
+entry-start-from-requires : tie.Need-entry-start-from-requires
+entry-start-from-requires c κs = search needs
 
 entry-size-requires : tie.Need-entry-size-requires
 entry-size-requires c κs = search needs
@@ -24,9 +24,10 @@ part-join-head-start c = search needs
 part-join-head-end : tie.Need-part-join-head-end
 part-join-head-end c =
     let s = c .before .before .before in
-    let entry-start = c .before .entry-start in
+    let entry-start = c .before .entry-start-from in
     let entry-size = c .entry-size in
-    part-room (s .args .goals) (s .args .graph .now) (s .args .k) (entry-start .result) (entry-size .result) (s .pre .0) (s .pre .1 .0)
+    part-room (s .args .goals) (s .args .base) (s .args .rest .now) (s .args .k) (entry-start .result)
+    (entry-size .result) (s .pre .0) (s .pre .1 .0)
     (entry-start .ensures .0) (entry-size .ensures)
 
 join-head-requires : tie.Need-join-head-requires
@@ -40,17 +41,19 @@ returns c =
     let s = c .before .before .before .before .before .before .before in
     let a = s .args in
     let b = c .before .before .join-head in
-    let entry-start = c .before .before .before .before .before .entry-start in
+    let entry-start = c .before .before .before .before .before .entry-start-from in
     let entry-size = c .before .before .before .before .entry-size in
-    written (a .goals) (a .graph .now) (a .k) (entry-start .result) (entry-size .result) (s .pre .0) (s .pre .1 .0)
-    (entry-start .ensures .0) (entry-size .ensures) (b .last .0) (b .kept .0) (λ (e : Entry). withJoinedHead e (a .i) (a .head))
+    written (a .goals) (a .base) (a .rest .now) (a .k) (entry-start .result) (entry-size .result) (s .pre .0)
+    (s .pre .1 .0)
+    (entry-start .ensures .0) (entry-size .ensures) (b .last .0) (b .kept .0)
+    (λ (e : Entry). withJoinedHead e (a .i) (a .head))
     (b .ensures)
 
 pub join-head-spec : {M : Type 1} → statement M
 join-head-spec =
     tie.close
     (tie.spec
-    entry-start-requires
+    entry-start-from-requires
     entry-size-requires
     add-end
     sub-join-head

@@ -1,6 +1,5 @@
 use Prim.Native.Nat.{_-_, _^_, _<_}
-use Rattle.layout.specs.Work.{stackOf}
-use Rattle.stack.specs.Bytes.{frameAt}
+use Rattle.rebase.specs.Popped.{poppedFrame, PathsFrom}
 use Rattle.layout.proofs.Marks.{turn-small}
 use Rattle.rebase.proofs.Writes.{popped-length}
 use Rattle.rebase.proofs.Loops.{Keeping, keeping-start, keeping-fails, keeping-next, keeping-done}
@@ -9,12 +8,13 @@ use Rattle.rebase.proofs.paths_keep_kind.Statement.{statement}
 use Rattle.rebase.proofs.paths_keep_kind.Tie as tie
 
 abbrev Inv-loop : tie.InvT-loop
-Inv-loop graph goals popped path eps left₀ left =
-    Keeping (stackOf goals popped graph) ((frameAt goals popped graph) .stepKindFromParent) path (eps .bits)
-    ((frameAt goals popped graph) .heads) left
+Inv-loop rest goals paths path eps left₀ left =
+    Keeping (λ s. PathsFrom s (poppedFrame goals rest) paths) ((poppedFrame goals rest) .stepKindFromParent) path
+    (eps .bits)
+    ((poppedFrame goals rest) .heads) left
 
 abbrev μ-loop : tie.MeasureT-loop
-μ-loop graph goals popped path eps left₀ left = left
+μ-loop rest goals paths path eps left₀ left = left
 
 small : (c : tie.After-popped-mask Inv-loop μ-loop) → c .popped-mask .result < 2 ^ 64
 small c = search needs
@@ -26,8 +26,10 @@ loop-holds : tie.Need-loop-holds Inv-loop μ-loop
 loop-holds c =
     let a = c .before .before .args in
     let popped-mask = c .popped-mask in
-    keeping-start (stackOf (a .goals) (a .popped) (a .graph .now)) ((frameAt (a .goals) (a .popped) (a .graph .now)) .stepKindFromParent)
-    (a .path) (a .eps .bits) ((frameAt (a .goals) (a .popped) (a .graph .now)) .heads) (popped-mask .result) (64 - a .goals) (small c)
+    keeping-start (λ s. PathsFrom s (poppedFrame (a .goals) (a .rest .now)) (a .paths .now))
+    ((poppedFrame (a .goals) (a .rest .now)) .stepKindFromParent)
+    (a .path) (a .eps .bits) ((poppedFrame (a .goals) (a .rest .now)) .heads) (popped-mask .result) (64 - a .goals)
+    (small c)
     (popped-mask .ensures)
 
 lowest-requires : tie.Need-lowest-requires Inv-loop μ-loop
@@ -39,13 +41,10 @@ head-keeps-requires c κs =
     let a = s .args in
     let l = c .before .before .loop in
     let lowest = c .lowest in (
-      s .pre .0,
-      (
-        s .pre .1,
-        turn-small ((frameAt (a .goals) (a .popped) (a .graph .now)) .heads) (l .left) (lowest .result)
-            (c .before .loop-test .taken) (l .inv .small) (l .inv .within) (lowest .ensures) (a .goals)
-            (popped-length (a .goals) (a .popped) (a .graph .now)),
-      ),
+      s .pre,
+      turn-small ((poppedFrame (a .goals) (a .rest .now)) .heads) (l .left) (lowest .result)
+          (c .before .loop-test .taken) (l .inv .small) (l .inv .within) (lowest .ensures) (a .goals)
+          (popped-length (a .goals) (a .rest .now)),
     )
 
 returns : tie.Need-returns Inv-loop μ-loop
@@ -55,8 +54,9 @@ returns c =
     let loop-test = c .before .before .before .loop-test in
     let lowest = c .before .before .lowest in
     let head-keeps = c .before .head-keeps in
-    keeping-fails (stackOf (a .goals) (a .popped) (a .graph .now)) ((frameAt (a .goals) (a .popped) (a .graph .now)) .stepKindFromParent)
-    (a .path) (a .eps .bits) ((frameAt (a .goals) (a .popped) (a .graph .now)) .heads) (l .left) (lowest .result) (l .inv)
+    keeping-fails (λ s. PathsFrom s (poppedFrame (a .goals) (a .rest .now)) (a .paths .now))
+    ((poppedFrame (a .goals) (a .rest .now)) .stepKindFromParent)
+    (a .path) (a .eps .bits) ((poppedFrame (a .goals) (a .rest .now)) .heads) (l .left) (lowest .result) (l .inv)
     (loop-test .taken) (lowest .ensures) (head-keeps .result) (head-keeps .ensures) (c .if1 .taken)
 
 without-lowest-requires : tie.Need-without-lowest-requires Inv-loop μ-loop
@@ -73,17 +73,20 @@ loop-again c =
     let lowest = c .before .before .before .lowest in
     let head-keeps = c .before .before .head-keeps in
     let without-lowest = c .without-lowest in
-    keeping-next (stackOf (a .goals) (a .popped) (a .graph .now)) ((frameAt (a .goals) (a .popped) (a .graph .now)) .stepKindFromParent)
-    (a .path) (a .eps .bits) ((frameAt (a .goals) (a .popped) (a .graph .now)) .heads) (l .left) (lowest .result) (l .inv)
-    (loop-test .taken) (lowest .ensures) (head-keeps .result) (head-keeps .ensures) (c .before .if1 .left) (without-lowest .result)
+    keeping-next (λ s. PathsFrom s (poppedFrame (a .goals) (a .rest .now)) (a .paths .now))
+    ((poppedFrame (a .goals) (a .rest .now)) .stepKindFromParent)
+    (a .path) (a .eps .bits) ((poppedFrame (a .goals) (a .rest .now)) .heads) (l .left) (lowest .result) (l .inv)
+    (loop-test .taken) (lowest .ensures) (head-keeps .result) (head-keeps .ensures) (c .before .if1 .left)
+    (without-lowest .result)
     (without-lowest .ensures .0) (without-lowest .ensures .1)
 
 returns-2 : tie.Need-returns-2 Inv-loop μ-loop
 returns-2 c =
     let a = c .before .before .before .before .args in
     let l = c .before .loop in
-    keeping-done (stackOf (a .goals) (a .popped) (a .graph .now)) ((frameAt (a .goals) (a .popped) (a .graph .now)) .stepKindFromParent)
-    (a .path) (a .eps .bits) ((frameAt (a .goals) (a .popped) (a .graph .now)) .heads) (l .left) (l .inv) (c .loop-test .left)
+    keeping-done (λ s. PathsFrom s (poppedFrame (a .goals) (a .rest .now)) (a .paths .now))
+    ((poppedFrame (a .goals) (a .rest .now)) .stepKindFromParent)
+    (a .path) (a .eps .bits) ((poppedFrame (a .goals) (a .rest .now)) .heads) (l .left) (l .inv) (c .loop-test .left)
 
 pub paths-keep-kind-spec : {M : Type 1} → statement M
 paths-keep-kind-spec =

@@ -15,9 +15,9 @@ record-requires : tie.Need-record-requires
 record-requires c κs =
     let s = c .before .before in
     let popped-heads = c .popped-heads in (
-      popped-heads-block (s .args .goals) (s .args .popped) (s .args .graph .now) (popped-heads .result .now) (s .pre .0) (s .pre .1 .0)
+      popped-heads-block (s .args .goals) (s .args .rest .now) (popped-heads .result .now) (s .pre .0)
           (popped-heads .ensures),
-      s .pre .1 .1,
+      s .pre .1,
     )
 
 returns : tie.Need-returns
@@ -26,9 +26,9 @@ returns c h e =
     let a = s .args in
     let popped-heads = c .before .popped-heads in
     c .«record» .ensures
-    ∙ head-bytes (a .goals) (popped-heads .result .now) (a .i) (s .pre .1 .1) h
+    ∙ head-bytes (a .goals) (popped-heads .result .now) (a .i) (s .pre .1) h
     (ap (λ (hs : CycleHeads). getD hs (a .i) none)
-    (popped-block (a .goals) (a .popped) (a .graph .now) (popped-heads .result .now) (popped-heads .ensures))
+    (popped-block (a .goals) (a .rest .now) (popped-heads .result .now) (popped-heads .ensures))
     ∙ e)
 
 pub popped-head-spec : {M : Type 1} → statement M

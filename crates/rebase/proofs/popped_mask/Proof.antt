@@ -17,7 +17,7 @@ mask-requires : tie.Need-mask-requires
 mask-requires c κs =
     let s = c .before .before in
     let popped-heads = c .popped-heads in
-    popped-heads-block (s .args .goals) (s .args .popped) (s .args .graph .now) (popped-heads .result .now) (s .pre .0) (s .pre .1)
+    popped-heads-block (s .args .goals) (s .args .rest .now) (popped-heads .result .now) (s .pre)
     (popped-heads .ensures)
 
 returns : tie.Need-returns
@@ -26,7 +26,7 @@ returns c =
     let popped-heads = c .before .popped-heads in
     c .mask .ensures
     ∙ ap (λ (hs : CycleHeads). present hs ++ replicate (64 - a .goals) false)
-    (popped-block (a .goals) (a .popped) (a .graph .now) (popped-heads .result .now) (popped-heads .ensures))
+    (popped-block (a .goals) (a .rest .now) (popped-heads .result .now) (popped-heads .ensures))
 
 pub popped-mask-spec : {M : Type 1} → statement M
 popped-mask-spec = tie.close (tie.spec popped-heads-requires mask-requires returns)

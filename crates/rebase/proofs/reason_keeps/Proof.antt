@@ -44,7 +44,8 @@ returns-4 c =
     let a = c .before .before .before .before .args in
     let reason2 = c .before .before .reason2 in
     let is-single = c .is-single in
-    reason-single (a .reason) (reason2 .given .0 .0) (a .result) (a .usages) (reason2 .given .1) (is-single .result) (is-single .ensures)
+    reason-single (a .reason) (reason2 .given .0 .0) (a .result) (a .usages) (reason2 .given .1) (is-single .result)
+    (is-single .ensures)
 
 returns-5 : tie.Need-returns-5
 returns-5 c = search needs

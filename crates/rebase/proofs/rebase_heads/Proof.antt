@@ -1,8 +1,6 @@
 use Rattle.definition.specs.Heads.{usagesAt, pathsAt}
-use Rattle.layout.specs.Work.{stackOf}
-use Rattle.layout.proofs.Graphs.{length-stack}
-use Rattle.stack.specs.Bytes.{frameAt}
-use Rattle.provisional_cache.specs.Entries.{entryAt}
+use Rattle.layout.specs.Work.{entryFrom}
+use Rattle.rebase.specs.Popped.{poppedFrame}
 use Rattle.rebase.proofs.Writes.{others-same}
 use Rattle.rebase.proofs.Entries.{heads-unused, heads-dropped, heads-through}
 use borrow.Author.Needs.{needs}
@@ -35,12 +33,15 @@ returns c =
     let is-empty = c5 .is-empty in
     let if1 = c4 .if1 in
     record {
-      entry =
-          heads-unused (stackOf (a .goals) (a .popped) (a .graph .now)) (frameAt (a .goals) (a .popped) (a .graph .now)) (a .reason)
-          (entryAt (a .goals) (a .k) (a .graph .now)) (a .popped) (length-stack (a .goals) (a .popped) (a .graph .now))
-          (head-usages .result) (head-paths .result .bits) (usagesAt ((entryAt (a .goals) (a .k) (a .graph .now)) .heads) (a .popped))
-          (pathsAt ((entryAt (a .goals) (a .k) (a .graph .now)) .heads) (a .popped)) (head-usages .ensures) (head-paths .ensures)
-          (is-empty .result) (is-empty .ensures) (if1 .taken) (entryAt (a .goals) (a .k) (x .last .0)) (x .ensures .entry);
+      entry = λ s m.
+          heads-unused s (poppedFrame (a .goals) (a .rest .now)) (a .reason)
+          (entryFrom (a .goals) (a .base) (a .k) (a .rest .now)) (a .popped) (m .height)
+          (head-usages .result) (head-paths .result .bits)
+          (usagesAt ((entryFrom (a .goals) (a .base) (a .k) (a .rest .now)) .heads) (a .popped))
+          (pathsAt ((entryFrom (a .goals) (a .base) (a .k) (a .rest .now)) .heads) (a .popped)) (head-usages .ensures)
+          (head-paths .ensures)
+          (is-empty .result) (is-empty .ensures) (if1 .taken) (entryFrom (a .goals) (a .base) (a .k) (x .last .0))
+          (x .ensures .entry);
       others = x .ensures .others;
     }
 
@@ -52,7 +53,8 @@ same-length-2 c = search needs
 
 returns-2 : tie.Need-returns-2
 returns-2 c =
-    let c1 = c .before in let c3 = c1 .before .before in let c4 = c3 .before in let c5 = c4 .before in let c7 = c5 .before .before in
+    let c1 = c .before in let c3 = c1 .before .before in let c4 = c3 .before in let c5 = c4 .before in
+    let c7 = c5 .before .before in
     let c10 = c7 .before .before .before in
     let a = c10 .args in
     let head-usages = c7 .head-usages in
@@ -61,13 +63,16 @@ returns-2 c =
     let if1 = c3 .if1 in
     let stays = c1 .stays in
     record {
-      entry =
-          heads-dropped (stackOf (a .goals) (a .popped) (a .graph .now)) (frameAt (a .goals) (a .popped) (a .graph .now)) (a .reason)
-          (entryAt (a .goals) (a .k) (a .graph .now)) (a .popped) (length-stack (a .goals) (a .popped) (a .graph .now))
-          (head-usages .result) (head-paths .result .bits) (usagesAt ((entryAt (a .goals) (a .k) (a .graph .now)) .heads) (a .popped))
-          (pathsAt ((entryAt (a .goals) (a .k) (a .graph .now)) .heads) (a .popped)) (head-usages .ensures) (head-paths .ensures)
-          (is-empty .result) (is-empty .ensures) (if1 .left) (stays .result) (stays .ensures) (c .if2 .taken);
-      others = others-same (a .goals) (a .k) (a .graph .now);
+      entry = λ s m.
+          heads-dropped s (poppedFrame (a .goals) (a .rest .now)) (a .reason)
+          (entryFrom (a .goals) (a .base) (a .k) (a .rest .now)) (a .popped) (m .height)
+          (head-usages .result) (head-paths .result .bits)
+          (usagesAt ((entryFrom (a .goals) (a .base) (a .k) (a .rest .now)) .heads) (a .popped))
+          (pathsAt ((entryFrom (a .goals) (a .base) (a .k) (a .rest .now)) .heads) (a .popped)) (head-usages .ensures)
+          (head-paths .ensures)
+          (is-empty .result) (is-empty .ensures) (if1 .left) (stays .result) (stays .ensures s (m .from))
+          (c .if2 .taken);
+      others = others-same (a .goals) (a .base) (a .k) (a .rest .now);
     }
 
 replace-head-requires-2 : tie.Need-replace-head-requires-2
@@ -79,7 +84,8 @@ same-length-3 c = search needs
 returns-3 : tie.Need-returns-3
 returns-3 c =
     let c2 = c .before .before in let c4 = c2 .before .before in let c5 = c4 .before in let c7 = c5 .before .before in
-    let c8 = c7 .before in let c9 = c8 .before in let c11 = c9 .before .before in let c14 = c11 .before .before .before in
+    let c8 = c7 .before in let c9 = c8 .before in let c11 = c9 .before .before in
+    let c14 = c11 .before .before .before in
     let a = c14 .args in
     let x = c2 .replace-head2 in
     let head-usages = c11 .head-usages in
@@ -89,13 +95,15 @@ returns-3 c =
     let stays = c5 .stays in
     let if2 = c4 .if2 in
     record {
-      entry =
-          heads-through (stackOf (a .goals) (a .popped) (a .graph .now)) (frameAt (a .goals) (a .popped) (a .graph .now)) (a .reason)
-          (entryAt (a .goals) (a .k) (a .graph .now)) (a .popped) (length-stack (a .goals) (a .popped) (a .graph .now))
-          (head-usages .result) (head-paths .result .bits) (usagesAt ((entryAt (a .goals) (a .k) (a .graph .now)) .heads) (a .popped))
-          (pathsAt ((entryAt (a .goals) (a .k) (a .graph .now)) .heads) (a .popped)) (head-usages .ensures) (head-paths .ensures)
-          (is-empty .result) (is-empty .ensures) (if1 .left) (stays .result) (stays .ensures) (if2 .left)
-          (entryAt (a .goals) (a .k) (x .last .0)) (x .ensures .entry);
+      entry = λ s m.
+          heads-through s (poppedFrame (a .goals) (a .rest .now)) (a .reason)
+          (entryFrom (a .goals) (a .base) (a .k) (a .rest .now)) (a .popped) (m .height)
+          (head-usages .result) (head-paths .result .bits)
+          (usagesAt ((entryFrom (a .goals) (a .base) (a .k) (a .rest .now)) .heads) (a .popped))
+          (pathsAt ((entryFrom (a .goals) (a .base) (a .k) (a .rest .now)) .heads) (a .popped)) (head-usages .ensures)
+          (head-paths .ensures)
+          (is-empty .result) (is-empty .ensures) (if1 .left) (stays .result) (stays .ensures s (m .from)) (if2 .left)
+          (entryFrom (a .goals) (a .base) (a .k) (x .last .0)) (x .ensures .entry);
       others = x .ensures .others;
     }
 

@@ -1,21 +1,25 @@
+use mathlib.Core.Path.{_∙_}
+use Prim.Native.Nat.{_<_}
+use native.Mathlib.Omega.{arith}
 use Rattle.layout.specs.Blocks.{headsOf}
-use Rattle.layout.specs.Work.{stackOf}
-use Rattle.stack.specs.Bytes.{frameAt}
-use Rattle.provisional_cache.specs.Entries.{entryAt}
+use Rattle.layout.specs.Work.{entryFrom}
+use Rattle.layout.proofs.Frames.{length-heads}
+use Rattle.rebase.specs.Popped.{poppedFrame}
 use Rattle.rebase.proofs.Writes.{entry-heads-at, entry-block, others-same}
-use Rattle.rebase.proofs.Entries.{path-none, path-some}
+use Rattle.rebase.proofs.Entries.{highest-small, path-none, path-some}
 use borrow.Author.Needs.{needs}
 use Rattle.rebase.proofs.rebase_path.Statement.{statement}
 use Rattle.rebase.proofs.rebase_path.Tie as tie
 
 entry-heads-requires : tie.Need-entry-heads-requires
-entry-heads-requires c κs = search needs
+entry-heads-requires c κs = let s = c .before .before in (s .pre .0 .entries, s .pre .1)
 
 is-empty-requires : tie.Need-is-empty-requires
 is-empty-requires c κs =
     let s = c .before .before .before in
     let entry-heads = c .entry-heads in
-    entry-heads-at (s .args .goals) (s .args .k) (s .args .graph .now) (entry-heads .result .now) (s .pre .0 .bytes) (s .pre .1 .1)
+    entry-heads-at (s .args .goals) (s .args .base) (s .args .k) (s .args .rest .now) (entry-heads .result .now)
+    (s .pre .0 .entries) (s .pre .1)
     (entry-heads .ensures)
 
 same-length : tie.Need-same-length
@@ -27,48 +31,64 @@ returns c =
     let entry-heads = c .before .before .entry-heads in
     let is-empty = c .before .is-empty in
     record {
-      entry =
-          path-none (stackOf (a .goals) (a .popped) (a .graph .now)) (frameAt (a .goals) (a .popped) (a .graph .now))
-          (entryAt (a .goals) (a .k) (a .graph .now)) (headsOf (a .goals) (entry-heads .result .now))
-          (entry-block (a .goals) (a .k) (a .graph .now) (entry-heads .result .now) (entry-heads .ensures)) (is-empty .result)
+      entry = λ s are.
+          path-none s (poppedFrame (a .goals) (a .rest .now)) (entryFrom (a .goals) (a .base) (a .k) (a .rest .now))
+          (headsOf (a .goals) (entry-heads .result .now))
+          (entry-block (a .goals) (a .base) (a .k) (a .rest .now) (entry-heads .result .now) (entry-heads .ensures))
+          (is-empty .result)
           (is-empty .ensures) (c .if1 .taken);
-      others = others-same (a .goals) (a .k) (a .graph .now);
+      others = others-same (a .goals) (a .base) (a .k) (a .rest .now);
     }
 
 highest-requires : tie.Need-highest-requires
 highest-requires c κs =
     let s = c .before .before .before .before .before in
     let entry-heads = c .before .before .entry-heads in
-    entry-heads-at (s .args .goals) (s .args .k) (s .args .graph .now) (entry-heads .result .now) (s .pre .0 .bytes) (s .pre .1 .1)
+    entry-heads-at (s .args .goals) (s .args .base) (s .args .k) (s .args .rest .now) (entry-heads .result .now)
+    (s .pre .0 .entries) (s .pre .1)
     (entry-heads .ensures)
 
-path-to-popped-requires : tie.Need-path-to-popped-requires
-path-to-popped-requires c κs = search needs
+-- the array has room for every head
+room : (c : tie.After-highest) → c .highest .result < 64
+room c =
+    let s = c .before .before .before .before .before .before in
+    let hs = c .before .before .before .entry-heads .result .now in
+    let highest = c .highest in
+    let few = s .pre .0 .entries .few in
+    let lt = highest-small (headsOf (s .args .goals) hs) (omega (arith, length-heads (s .args .goals) hs)) in
+    omega (arith, highest .ensures)
+
+element-copy-out-from-number : tie.Need-element-copy-out-from-number
+element-copy-out-from-number c = let lt = room c in omega arith
+
+from-number-requires : tie.Need-from-number-requires
+from-number-requires c κs = search needs
 
 extend-path-requires : tie.Need-extend-path-requires
-extend-path-requires c κs = search needs
+extend-path-requires c κs =
+    let s = c .before .before .before .before .before .before .before .before .before in (s .pre .0 .entries, s .pre .1)
 
 same-length-2 : tie.Need-same-length-2
 same-length-2 c = search needs
 
 returns-2 : tie.Need-returns-2
 returns-2 c =
-    let c2 = c .before .before in let c4 = c2 .before .before in let c6 = c4 .before .before in let c7 = c6 .before in
-    let c8 = c7 .before in let c9 = c8 .before in let c12 = c9 .before .before .before in
-    let a = c12 .args in
-    let x = c2 .extend-path in
-    let entry-heads = c9 .entry-heads in
-    let is-empty = c8 .is-empty in
-    let if1 = c7 .if1 in
-    let highest = c6 .highest in
-    let path-to-popped = c4 .path-to-popped in
+    let a = c .before .before .before .before .before .before .before .before .before .before .before .before .args in
+    let x = c .before .before .extend-path in
+    let from-number = c .before .before .before .before .from-number in
+    let highest = c .before .before .before .before .before .before .highest in
+    let if1 = c .before .before .before .before .before .before .before .if1 in
+    let is-empty = c .before .before .before .before .before .before .before .before .is-empty in
+    let entry-heads = c .before .before .before .before .before .before .before .before .before .entry-heads in
     record {
-      entry =
-          path-some (stackOf (a .goals) (a .popped) (a .graph .now)) (frameAt (a .goals) (a .popped) (a .graph .now))
-          (entryAt (a .goals) (a .k) (a .graph .now)) (headsOf (a .goals) (entry-heads .result .now))
-          (entry-block (a .goals) (a .k) (a .graph .now) (entry-heads .result .now) (entry-heads .ensures)) (is-empty .result)
-          (is-empty .ensures) (if1 .left) (highest .result) (highest .ensures) (path-to-popped .result) (path-to-popped .ensures)
-          (entryAt (a .goals) (a .k) (x .last .0)) (x .ensures .entry);
+      entry = λ s are.
+          path-some s (poppedFrame (a .goals) (a .rest .now)) (entryFrom (a .goals) (a .base) (a .k) (a .rest .now))
+          (headsOf (a .goals) (entry-heads .result .now))
+          (entry-block (a .goals) (a .base) (a .k) (a .rest .now) (entry-heads .result .now) (entry-heads .ensures))
+          (is-empty .result)
+          (is-empty .ensures) (if1 .left) (highest .result) (highest .ensures) (from-number .result)
+          (from-number .ensures ∙ are (highest .result) (room (c .before .before .before .before .before .before)))
+          (entryFrom (a .goals) (a .base) (a .k) (x .last .0)) (x .ensures .entry);
       others = x .ensures .others;
     }
 
@@ -81,7 +101,8 @@ rebase-path-spec =
     same-length
     returns
     highest-requires
-    path-to-popped-requires
+    element-copy-out-from-number
+    from-number-requires
     extend-path-requires
     same-length-2
     returns-2)

@@ -1,83 +1,137 @@
+use Prim.Native.Nat.{_-_, _≤_}
 use native.Mathlib.Omega.{arith}
-use Prim.Native.Nat.{_-_}
-use Rattle.provisional_cache.proofs.Loops.{graph-bytes, stack-bytes}
-use Rattle.rebase.proofs.Rounds.{Rebasing, rebasing-start, rebasing-next, rebasing-done}
+use lib.ListN.{length}
+use Rattle.stack.proofs.Parts.{part}
+use Rattle.rebase.specs.Popped.{RestBytes}
+use Rattle.rebase.proofs.Rounds.{rebased-none, start-in, ends, lent, rebased}
+use borrow.Author.Needs.{needs}
 use Rattle.rebase.proofs.rebase_provisional_cache_entries.Statement.{statement}
 use Rattle.rebase.proofs.rebase_provisional_cache_entries.Tie as tie
 
-abbrev Inv-loop : tie.InvT-loop
-Inv-loop graph₀ goals popped reason entries kept₀ k₀ graph kept k = Rebasing goals popped reason entries graph₀ graph kept k
+frame-start-requires : tie.Need-frame-start-requires
+frame-start-requires c κs =
+    let s = c .before in let few = s .pre .0 .bytes .few in let under = s .pre .1 .0 in (few, omega arith)
 
-abbrev μ-loop : tie.MeasureT-loop
-μ-loop graph₀ goals popped reason entries kept₀ k₀ graph kept k = entries - k
+entries-start-requires : tie.Need-entries-start-requires
+entries-start-requires c κs = c .before .before .pre .0 .bytes .few
 
-loop-holds : tie.Need-loop-holds Inv-loop μ-loop
-loop-holds c = let a = c .before .args in rebasing-start (a .goals) (a .popped) (a .reason) (a .entries) (a .graph .now)
+sub-base : tie.Need-sub-base
+sub-base c =
+    let s = c .before .before .before in
+    let start = c .before .frame-start in
+    let end = c .entries-start in
+    let e =
+    ends (s .args .goals) (s .args .popped) (s .args .graph .now) (s .pre .0) (s .pre .1 .0) (start .result)
+    (end .result)
+    (start .ensures .0) (end .ensures .0) (end .ensures .1) in
+    omega arith
 
-rebase-entry-requires : tie.Need-rebase-entry-requires Inv-loop μ-loop
-rebase-entry-requires c κs =
-    let s = c .before .before .before .before in
+-- the bytes from the popped frame on
+below : (c : tie.After-entries-start)
+    → c .before .frame-start .result ≤ length (c .before .before .before .args .graph .now)
+below c =
+    let s = c .before .before .before in
+    let start = c .before .frame-start in
+    let end = c .entries-start in
+    start-in (s .args .goals) (s .args .popped) (s .args .graph .now) (s .pre .0) (s .pre .1 .0) (start .result)
+    (end .result)
+    (start .ensures .0) (end .ensures .0) (end .ensures .1)
+
+are : (c : tie.After-entries-start)
+    → RestBytes (c .before .before .before .args .goals) (c .entries-start .result - c .before .frame-start .result)
+    (part (c .before .before .before .args .graph .now) (c .before .frame-start .result) (length (c .before .before .before .args .graph .now)))
+are c =
+    let s = c .before .before .before in
+    let start = c .before .frame-start in
+    let end = c .entries-start in
+    lent (s .args .goals) (s .args .popped) (s .args .graph .now) (s .pre .0) (s .pre .1 .0) (start .result)
+    (end .result)
+    (start .ensures .0) (end .ensures .0) (end .ensures .1)
+
+sub-first-under : tie.Need-sub-first-under
+sub-first-under c = below c
+
+part-first-under-start : tie.Need-part-first-under-start
+part-first-under-start c = below (c .before)
+
+part-first-under-end : tie.Need-part-first-under-end
+part-first-under-end c = omega arith
+
+first-under-requires : tie.Need-first-under-requires
+first-under-requires c κs =
+    let s = c .before .before .before .before .before in (are (c .before .before) .entries, s .pre .1 .1)
+
+same-length : tie.Need-same-length
+same-length c = search needs
+
+returns : tie.Need-returns
+returns c =
+    let s = c .before .before .before .before .before .before .before in
     let a = s .args in
-    let l = c .before .before .loop in
-    (stack-bytes (a .goals) (a .popped) (a .graph .now) (l .graph) (s .pre .0) (l .inv .same-length) (l .inv .frames), (s .pre .1 .0, omega arith))
+    let start = c .before .before .before .before .before .frame-start in
+    let end = c .before .before .before .before .entries-start in
+    let first = c .before .first-under in
+    rebased-none (a .goals) (a .popped) (a .graph .now) (s .pre .0) (s .pre .1 .0) (start .result) (end .result)
+    (start .ensures .0)
+    (end .ensures .0) (end .ensures .1) (a .reason) (a .entries) (first .result) (first .ensures) (c .if1 .taken)
 
-keep-if-requires : tie.Need-keep-if-requires Inv-loop μ-loop
-keep-if-requires c κs =
-    let s = c .before .before .before .before .before .before .before .before in
-    let a = s .args in
-    let l = c .before .before .before .before .before .before .loop in
-    let rebase-entry = c .before .before .before .rebase-entry in (
-      graph-bytes (a .goals) (l .graph) (rebase-entry .last .0)
-          (graph-bytes (a .goals) (a .graph .now) (l .graph) (s .pre .0 .bytes) (l .inv .same-length)) (rebase-entry .kept .0),
-      (l .inv .kept-few, omega arith),
+paths-to-popped-requires : tie.Need-paths-to-popped-requires
+paths-to-popped-requires c κs =
+    let s = c .before .before .before .before .before .before .before .before in (s .pre .0, s .pre .1 .0)
+
+sub-rebase-entries : tie.Need-sub-rebase-entries
+sub-rebase-entries c = below (c .before .before .before .before .before .before)
+
+part-rebase-entries-start : tie.Need-part-rebase-entries-start
+part-rebase-entries-start c = below (c .before .before .before .before .before .before)
+
+part-rebase-entries-end : tie.Need-part-rebase-entries-end
+part-rebase-entries-end c = omega arith
+
+rebase-entries-requires : tie.Need-rebase-entries-requires
+rebase-entries-requires c κs =
+    let s = c .before .before .before .before .before .before .before .before .before .before .before in (
+      are (c .before .before .before .before .before .before .before .before),
+      (s .pre .1 .0, (s .pre .1 .1, c .before .before .before .before .before .first-under .ensures)),
     )
 
-add-k : tie.Need-add-k Inv-loop μ-loop
-add-k c = omega arith
+same-length-2 : tie.Need-same-length-2
+same-length-2 c = search needs
 
-loop-less : tie.Need-loop-less Inv-loop μ-loop
-loop-less c = omega arith
-
-loop-again : tie.Need-loop-again Inv-loop μ-loop
-loop-again c =
-    let c2 = c .before .before in let c6 = c2 .before .before .before .before in let c8 = c6 .before .before in let c9 = c8 .before in
-    let s = c9 .before .before in
+returns-2 : tie.Need-returns-2
+returns-2 c =
+    let s =
+    c .before .before .before .before .before .before .before .before .before .before .before .before .before .before in
     let a = s .args in
-    let l = c9 .loop in
-    let x = c6 .rebase-entry in
-    let y = c2 .keep-if in
-    let loop-test = c8 .loop-test in
-    rebasing-next (a .goals) (a .popped) (a .reason) (a .entries) (a .graph .now) (l .graph) (x .last .0) (y .last .0) (l .kept) (l .k)
-    (y .result) (x .result) (l .inv) (loop-test .taken) (s .pre .1 .1) (s .pre .1 .0) (x .ensures) (x .kept .0) (y .ensures) (y .kept .0)
-
-same-length : tie.Need-same-length Inv-loop μ-loop
-same-length c = c .before .loop .inv .same-length
-
-returns : tie.Need-returns Inv-loop μ-loop
-returns c =
-    let a = c .before .before .before .args in
-    let l = c .before .loop in
-    let k0 = l .inv .kept-few in
-    let k1 = l .inv .few in
-    record {
-      entries =
-          rebasing-done (a .goals) (a .popped) (a .reason) (a .entries) (a .graph .now) (l .graph) (l .kept) (l .k) (l .inv)
-          (c .loop-test .left);
-      frames = l .inv .frames;
-      few = omega arith;
-    }
+    let x = c .before .before .rebase-entries in
+    let paths = c .before .before .before .before .before .paths-to-popped in
+    let start =
+    c .before .before .before .before .before .before .before .before .before .before .before .before .frame-start in
+    let end =
+    c .before .before .before .before .before .before .before .before .before .before .before .entries-start in
+    rebased (a .goals) (a .popped) (a .graph .now) (s .pre .0) (s .pre .1 .0) (start .result) (end .result)
+    (start .ensures .0)
+    (end .ensures .0) (end .ensures .1) (x .last .0) (x .kept .0) (paths .result) (a .reason) (a .entries) (x .result)
+    (paths .ensures)
+    (x .ensures)
 
 pub rebase-provisional-cache-entries-spec : {M : Type 1} → statement M
 rebase-provisional-cache-entries-spec =
     tie.close
     (tie.spec
-    Inv-loop
-    μ-loop
-    loop-holds
-    rebase-entry-requires
-    keep-if-requires
-    add-k
-    loop-less
-    loop-again
+    frame-start-requires
+    entries-start-requires
+    sub-base
+    sub-first-under
+    part-first-under-start
+    part-first-under-end
+    first-under-requires
     same-length
-    returns)
+    returns
+    paths-to-popped-requires
+    sub-rebase-entries
+    part-rebase-entries-start
+    part-rebase-entries-end
+    rebase-entries-requires
+    same-length-2
+    returns-2)

@@ -1,17 +1,22 @@
-use Rattle.provisional_cache.proofs.Loops.{graph-bytes}
+use Rattle.rebase.proofs.Writes.{rest-bytes}
 use Rattle.rebase.proofs.Entries.{replaced}
 use borrow.Author.Needs.{needs}
 use Rattle.rebase.proofs.replace_head.Statement.{statement}
 use Rattle.rebase.proofs.replace_head.Tie as tie
 
 remove-head-requires : tie.Need-remove-head-requires
-remove-head-requires c κs = search needs
+remove-head-requires c κs =
+    let s = c .before .before in
+    (s .pre .0 .entries, (s .pre .1 .1, s .pre .1 .0))
 
 gain-heads-requires : tie.Need-gain-heads-requires
 gain-heads-requires c κs =
     let s = c .before .before .before .before .before .before in
-    let remove-head = c .before .before .before .remove-head in
-    (graph-bytes (s .args .goals) (s .args .graph .now) (remove-head .last .0) (s .pre .0) (remove-head .kept .0), s .pre .1)
+    let remove-head = c .before .before .before .remove-head in (
+      rest-bytes (s .args .goals) (s .args .base) (s .args .rest .now) (s .pre .0) (remove-head .last .0)
+          (remove-head .kept .0),
+      s .pre .1 .1,
+    )
 
 same-length : tie.Need-same-length
 same-length c = search needs
@@ -22,8 +27,9 @@ returns c =
     let a = s .args in
     let remove-head = c6 .remove-head in
     let gain-heads = c2 .gain-heads in
-    replaced (a .goals) (a .popped) (a .k) (a .used) (a .eps .bits) (a .graph .now) (remove-head .last .0) (gain-heads .last .0)
-    (s .pre .1 .0) (remove-head .ensures) (gain-heads .ensures)
+    replaced (a .goals) (a .base) (a .popped) (a .k) (a .used) (a .eps .bits) (a .rest .now) (remove-head .last .0)
+    (gain-heads .last .0)
+    (s .pre .0 .wide) (remove-head .ensures) (gain-heads .ensures)
 
 pub replace-head-spec : {M : Type 1} → statement M
 replace-head-spec =

@@ -1,65 +1,71 @@
 use mathlib.Core.Path.{ap}
 use Rattle.layout.specs.Entry.{entryOf}
-use Rattle.layout.specs.Work.{stackOf}
-use Rattle.stack.specs.Bytes.{frameAt}
-use Rattle.provisional_cache.specs.Entries.{entryAt}
+use Rattle.layout.specs.Work.{entryFrom}
+use Rattle.rebase.specs.Popped.{poppedFrame}
+use Rattle.rebase.proofs.Writes.{frame-first}
 use Rattle.provisional_cache.proofs.Entries.{entry-bytes}
 use Rattle.rebase.proofs.Entries.{stays-not, stays-by}
 use borrow.Author.Needs.{needs}
 use Rattle.rebase.proofs.stays.Statement.{statement}
 use Rattle.rebase.proofs.stays.Tie as tie
 
-entry-at-requires : tie.Need-entry-at-requires
-entry-at-requires c κs = search needs
+entry-from-requires : tie.Need-entry-from-requires
+entry-from-requires c κs = let s = c .before in (s .pre .0 .entries, s .pre .1)
 
 path-from-head-requires : tie.Need-path-from-head-requires
 path-from-head-requires c κs =
     let s = c .before .before in
-    let entry-at = c .entry-at in
-    entry-bytes (s .args .goals) (s .args .graph .now) (entry-at .result .now) (s .args .k) (s .pre .0 .bytes) (s .pre .1 .1) (entry-at .ensures)
+    let entry-from = c .entry-from in
+    entry-bytes (s .args .goals) (s .args .base) (s .args .rest .now) (entry-from .result .now) (s .args .k)
+    (s .pre .0 .entries) (s .pre .1) (entry-from .ensures)
 
 paths-keep-kind-requires : tie.Need-paths-keep-kind-requires
-paths-keep-kind-requires c κs = search needs
+paths-keep-kind-requires c κs =
+    let s = c .before .before .before in frame-first (s .args .goals) (s .args .base) (s .args .rest .now) (s .pre .0)
 
 returns : tie.Need-returns
-returns c =
+returns c s are =
     let a = c .before .before .before .before .before .args in
-    let entry-at = c .before .before .before .entry-at in
+    let entry-from = c .before .before .before .entry-from in
     let path-from-head = c .before .before .path-from-head in
     let paths-keep-kind = c .before .paths-keep-kind in
-    stays-not (stackOf (a .goals) (a .popped) (a .graph .now)) (frameAt (a .goals) (a .popped) (a .graph .now)) (a .reason) (a .usages)
-    (a .eps .bits) (entryOf (a .goals) (entry-at .result .now)) (entryAt (a .goals) (a .k) (a .graph .now))
-    (ap (entryOf (a .goals)) (entry-at .ensures)) (path-from-head .result) (path-from-head .ensures) (paths-keep-kind .result)
-    (paths-keep-kind .ensures) (c .if1 .taken)
+    stays-not s (poppedFrame (a .goals) (a .rest .now)) (a .reason) (a .usages)
+    (a .eps .bits) (entryOf (a .goals) (entry-from .result .now)) (entryFrom (a .goals) (a .base) (a .k) (a .rest .now))
+    (ap (entryOf (a .goals)) (entry-from .ensures)) (path-from-head .result) (path-from-head .ensures)
+    (paths-keep-kind .result)
+    (paths-keep-kind .ensures s are) (c .if1 .taken)
 
 result-requires : tie.Need-result-requires
 result-requires c κs =
     let s = c .before .before .before .before .before in
-    let entry-at = c .before .before .before .entry-at in
-    entry-bytes (s .args .goals) (s .args .graph .now) (entry-at .result .now) (s .args .k) (s .pre .0 .bytes) (s .pre .1 .1) (entry-at .ensures)
+    let entry-from = c .before .before .before .entry-from in
+    entry-bytes (s .args .goals) (s .args .base) (s .args .rest .now) (entry-from .result .now) (s .args .k)
+    (s .pre .0 .entries) (s .pre .1) (entry-from .ensures)
 
 reason-keeps-requires : tie.Need-reason-keeps-requires
 reason-keeps-requires c κs = search needs
 
 returns-2 : tie.Need-returns-2
-returns-2 c =
+returns-2 c s are =
     let a = c .before .before .before .before .before .before .before .args in
-    let entry-at = c .before .before .before .before .before .entry-at in
+    let entry-from = c .before .before .before .before .before .entry-from in
     let path-from-head = c .before .before .before .before .path-from-head in
     let paths-keep-kind = c .before .before .before .paths-keep-kind in
     let result = c .before .result in
     let reason-keeps = c .reason-keeps in
-    stays-by (stackOf (a .goals) (a .popped) (a .graph .now)) (frameAt (a .goals) (a .popped) (a .graph .now)) (a .reason) (a .usages)
-    (a .eps .bits) (entryOf (a .goals) (entry-at .result .now)) (entryAt (a .goals) (a .k) (a .graph .now))
-    (ap (entryOf (a .goals)) (entry-at .ensures)) (path-from-head .result) (path-from-head .ensures) (paths-keep-kind .result)
-    (paths-keep-kind .ensures) (c .before .before .if1 .left) (result .result) (result .ensures) (reason-keeps .result)
+    stays-by s (poppedFrame (a .goals) (a .rest .now)) (a .reason) (a .usages)
+    (a .eps .bits) (entryOf (a .goals) (entry-from .result .now)) (entryFrom (a .goals) (a .base) (a .k) (a .rest .now))
+    (ap (entryOf (a .goals)) (entry-from .ensures)) (path-from-head .result) (path-from-head .ensures)
+    (paths-keep-kind .result)
+    (paths-keep-kind .ensures s are) (c .before .before .if1 .left) (result .result) (result .ensures)
+    (reason-keeps .result)
     (reason-keeps .ensures)
 
 pub stays-spec : {M : Type 1} → statement M
 stays-spec =
     tie.close
     (tie.spec
-    entry-at-requires
+    entry-from-requires
     path-from-head-requires
     paths-keep-kind-requires
     returns

@@ -226,6 +226,34 @@ pub fn deep(r: &mut Random) -> Book {
     Book { header, parts: (0..goals).map(part).collect() }
 }
 
+/// A chain of heads, and above it a chain of the other goals, which the heads call a second time by a step of another kind,
+/// so that many provisional entries are live at once. Every goal calls some heads, also such as are not on the stack yet:
+/// as one head after the other is done, the entries above it are rebased to those below.
+pub fn closing(r: &mut Random) -> Book {
+    let shape = Shape { lower: r.choose(&[0, 0, 10]), ..Shape::new(some_kinds(r)) };
+    let (goals, top) = (r.between(6, 64), r.between(20, 50));
+    let mut header = header(r, goals, top);
+    (header.provisional_cache, header.step_limit) = (true, r.choose(&[1, 2]));
+    let (heads, calls) = (r.between(2, goals / 8 + 3), r.between(1, 3));
+    let part = |goal: usize| {
+        let next = (goal + 1 < goals).then(|| shape.call(r, goal + 1));
+        let mut parts: Vec<Part> = next.into_iter().collect();
+        if goal < heads {
+            parts.push(shape.call(r, heads));
+        }
+        for _ in 0..calls {
+            let head = r.below(heads.min(goal + 1));
+            parts.push(if r.chance(97) { shape.call(r, head) } else { empty(r) });
+        }
+        match r.below(10) {
+            0 => Part::Pick(parts),
+            1 => Part::All(parts),
+            _ => Part::Any(parts),
+        }
+    };
+    Book { header, parts: (0..goals).map(part).collect() }
+}
+
 pub fn long(r: &mut Random) -> Book {
     let kinds = some_kinds(r);
     let (goals, top) = (r.between(1, 40), r.between(0, 4));

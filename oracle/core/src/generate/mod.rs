@@ -37,6 +37,7 @@ pub const CLASSES: &[Class] = &[
     class("many-entries", "many provisional entries at once", |r| honest(r, books::many_entries)),
     class("large", "17 to 64 goals", |r| honest(r, books::large)),
     class("deep", "up to 64 goals on the stack at once", |r| honest(r, books::deep)),
+    class("closing", "rings that close with many entries", |r| honest(r, books::closing)),
     class("long", "up to 1,000 lines", |r| honest(r, books::long)),
     class("extremes", "header fields at their limits", |r| honest(r, books::extremes)),
     class("only-inductive", "calls of kind 0 only", |r| honest(r, books::only_inductive)),

@@ -55,8 +55,8 @@ const MOST_TEXT: usize = 9_000;
 const LARGE: [&str; 2] = ["large", "long"];
 const EACH_LARGE: usize = 4;
 const MOST_LARGE_TEXT: usize = 50_000;
-/// Document 01's examples have their own file; the classes of mixed and of deep books are younger than this one.
-const LEFT_OUT: [&str; 3] = ["examples", "mixed", "deep"];
+/// Document 01's examples have their own file; the classes of document 02 are younger than this one.
+const LEFT_OUT: [&str; 4] = ["examples", "mixed", "deep", "closing"];
 
 /// The first cases of each class that are not too long.
 fn random() -> Vec<Case> {
