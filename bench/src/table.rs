@@ -14,15 +14,13 @@ pub fn classes(made: &[(&Class, Vec<List>)]) {
         let queries: usize = lists.iter().map(|list| list.case.queries.len()).sum();
         let runs: u64 = lists.iter().map(|list| list.runs).sum();
         let bytes: usize = lists.iter().map(|list| list.case.book.len()).sum();
-        let mut entries: Vec<usize> = lists.iter().map(|list| list.entries).collect();
-        entries.sort();
+        let entries = median(lists.iter().map(|list| list.entries as f64).collect());
         println!(
-            "| {} | {} | {} | {queries} | {:.0} | {} | {} |",
+            "| {} | {} | {} | {queries} | {:.0} | {entries:.0} | {} |",
             class.name,
             class.what,
             lists.len(),
             runs as f64 / queries as f64,
-            entries[entries.len() / 2],
             bytes / lists.len()
         );
     }

@@ -33,7 +33,7 @@ graph-entries goals bs g =
     let wide : frameSize goals ≤ 4288 = omega arith in
     record { few = f; low = omega (arith, mul-le-mul f wide); long = g .long }
 
--- its frames are as many as `base` leaves room for
+-- the same, of the base that is worked out
 pub entries-from : (goals base : ℕ) (bs : List ℕ) → GraphBytes goals bs → base ≡ entriesStart goals → EntriesBytes goals base bs
 entries-from goals base bs g e = subst (λ (x : ℕ). EntriesBytes goals x bs) (sym e) (graph-entries goals bs g)
 

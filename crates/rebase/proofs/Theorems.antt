@@ -4,27 +4,23 @@ use mathlib.Core.Path.{_≡_, refl, sym, ap, ap₂, _∙_}
 use mathlib.Core.Bool.{Bool, true, false, _&&_}
 use mathlib.Core.Option.{Option, none, some}
 use mathlib.Core.List.{List, [], _∷_}
-use Prim.Native.Nat.{ℕ, suc, _-_, _≤_, _<_}
+use Prim.Native.Nat.{ℕ, suc, _<_}
 use native.Mathlib.Omega.{arith}
 use native.Mathlib.Decide.{decLt}
 use lib.Dec.{eqb}
-use lib.ListN.{length, take}
+use lib.ListN.{length}
 use Rattle.definition.specs.declared.paths.PathKind.{PathKind}
 use Rattle.definition.specs.declared.usages.HeadUsages.{HeadUsages}
 use Rattle.definition.specs.declared.answers.RebaseReason.{RebaseReason}
-use Rattle.definition.specs.Paths.{extend, extendAll, iterPaths}
+use Rattle.definition.specs.Paths.{extend, iterPaths}
 use Rattle.definition.specs.Usages.{isEmpty}
 use Rattle.definition.specs.Heads.{CycleHeads, highestIndex, optHighestIndex, removeHead, forEachHead, usagesAt}
 use Rattle.definition.specs.Heads.{pathsAt}
-use Rattle.definition.specs.Stack.{Frame, Stack, stepKinds, cyclePathKind}
+use Rattle.definition.specs.Stack.{Frame, Stack, cyclePathKind}
 use Rattle.definition.specs.Graph.{Entry, withEntryHeads, withPathFromHead}
 use Rattle.definition.specs.ProvisionalCache.{unusedHead, headThrough, everyPhKeeps, pathsKeepKind, reasonKeeps}
 use Rattle.definition.specs.ProvisionalCache.{rebasedHeads, underNewHead, rebaseEntry, rebaseEntries}
-
--- from an index that no frame has, the path is the step alone
-outside : (s : Stack) (step : PathKind) (i : ℕ) → length s ≤ i → cyclePathKind s step i ≡ step
-outside s step i up =
-    let e : length s - suc i ≡ 0 = omega arith in ap (λ (n : ℕ). extendAll step (stepKinds (take n s))) e
+use Rattle.stack.proofs.Counts.{path-outside}
 
 module _ (s t : Stack) (p : Frame) (reason : RebaseReason) (same : length s ≡ length t)
     (paths : (i : ℕ) → i < length s
@@ -36,7 +32,7 @@ module _ (s t : Stack) (p : Frame) (reason : RebaseReason) (same : length s ≡ 
   path i =
       elim (decLt i (length s)) [
         | yes lt ↦ paths i lt
-        | no up ↦ outside s step i (omega arith) ∙ sym (outside t step i (omega arith))
+        | no up ↦ sym (path-outside s step i (omega arith)) ∙ path-outside t step i (omega arith)
       ]
 
   keep : (from : PathKind) (ep i : ℕ) (hs : CycleHeads)

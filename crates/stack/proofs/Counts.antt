@@ -108,11 +108,11 @@ module _ (goals height : ℕ) (bs : List ℕ) (s : StackBytes goals height bs) (
   push-steps step all e = e ∙ ap (countStep step) held
 
 -- ---- `cycle_path_kind`
-pub path-outside : (goals height head : ℕ) (bs : List ℕ) (step : PathKind) → height ≤ head
-    → step ≡ cyclePathKind (stackOf goals height bs) step head
-path-outside goals height head bs step le =
-    let e : length (stackOf goals height bs) - suc head ≡ 0 = omega (arith, length-stack goals height bs) in
-    sym (ap (λ (n : ℕ). extendAll step (stepKinds (take n (stackOf goals height bs)))) e)
+-- from an index that no frame has, the path is the step alone
+pub path-outside : (s : Stack) (step : PathKind) (i : ℕ) → length s ≤ i → step ≡ cyclePathKind s step i
+path-outside s step i le =
+    let e : length s - suc i ≡ 0 = omega arith in
+    sym (ap (λ (n : ℕ). extendAll step (stepKinds (take n s))) e)
 
 module _ (goals height head : ℕ) (bs : List ℕ) (s : StackBytes goals height bs) (lt : head < height) (high low : ℕ)
     (is-high : high ≡ packed (countSteps (stepKinds (stackOf goals height bs))))

@@ -6,6 +6,7 @@ use Rattle.definition.specs.declared.paths.PathKind.{PathKind}
 use Rattle.definition.specs.Stack.{cyclePathKind}
 use Rattle.layout.specs.Frame.{frameOf}
 use Rattle.layout.specs.Work.{stackOf}
+use Rattle.layout.proofs.Graphs.{length-stack}
 use Rattle.stack.specs.Bytes.{frameAt}
 use Rattle.stack.proofs.Counts.{path-outside}
 use Rattle.stack.proofs.Graph.{frame-bytes}
@@ -86,7 +87,8 @@ returns c i lt =
     let is : step .result ≡ (frameAt (a .goals) (a .popped) (a .graph .now)) .stepKindFromParent =
     step .ensures ∙ ap (λ (b : List ℕ). (frameOf (a .goals) b) .stepKindFromParent) (frame-at .ensures) in
     filling-done (stackOf (a .goals) (a .popped) (a .graph .now)) (step .result) (a .popped)
-    (λ j up. path-outside (a .goals) (a .popped) j (a .graph .now) (step .result) up) (l .paths) (l .i) (l .inv)
+    (λ j up. path-outside (stackOf (a .goals) (a .popped) (a .graph .now)) (step .result) j (rw length-stack up))
+    (l .paths) (l .i) (l .inv)
     (c .loop-test .left) i lt
     ∙ ap (λ (k : PathKind). cyclePathKind (stackOf (a .goals) (a .popped) (a .graph .now)) k i) is
 

@@ -1,12 +1,16 @@
 use Rattle.stack.proofs.Counts.{lower-stack, path-outside, path-room, path-few, path-kind}
+use Prim.Native.Nat.{_≤_}
+use Rattle.layout.specs.Work.{stackOf}
+use Rattle.layout.proofs.Graphs.{length-stack}
 use borrow.Author.Needs.{needs}
 use Rattle.stack.proofs.cycle_path_kind.Statement.{statement}
 use Rattle.stack.proofs.cycle_path_kind.Tie as tie
 
 returns : tie.Need-returns
 returns c =
-    let s = c .before .before in
-    path-outside (s .args .goals) (s .args .height) (s .args .head) (s .args .graph .now) (s .args .step) (search needs)
+    let a = c .before .before .args in
+    let le : a .height ≤ a .head = search needs in
+    path-outside (stackOf (a .goals) (a .height) (a .graph .now)) (a .step) (a .head) (rw length-stack le)
 
 steps-of-requires : tie.Need-steps-of-requires
 steps-of-requires c κs = search needs
