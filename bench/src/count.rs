@@ -1,7 +1,8 @@
 //! Instructions, counted by valgrind's callgrind: a figure without noise.
 //!
 //! Each class and engine is run in a process of its own, which reads the class's lists from a file. Only what the function
-//! `ask_all` does is counted, and of two runs, the second one twice as long, the difference: so nothing of the set-up is.
+//! `ask_all` does is counted, or what the function that rebases does, and of two runs, the second one twice as long, the
+//! difference: so nothing of the set-up is.
 
 use std::fs;
 use std::path::Path;
@@ -41,20 +42,71 @@ pub fn table(made: &[(&Class, Vec<List>)]) -> Result<(), String> {
     Ok(())
 }
 
+/// The function that asks an engine.
+const ASKING: &str = "bench::engines::ask_all*";
+
+/// The functions that rebase provisional entries: each is called, and not put inside its callers.
+const REBASING: [(usize, &str); 2] =
+    [(LIBRARY, "task::rebased"), (ORIGINAL, "*::rebase_provisional_cache_entries")];
+
+/// What rebasing takes of it, class by class where there is any.
+pub fn rebasing(made: &[(&Class, Vec<List>)]) -> Result<(), String> {
+    println!("Instructions a query inside rebasing, in thousands, by callgrind.\n");
+    println!(
+        "| class | library | of its query, % | original | of its query, % | original / library |"
+    );
+    println!("|---|---|---|---|---|---|");
+    let mut rows = 0;
+    for (class, lists) in made {
+        eprintln!("counting rebasing of {}", class.name);
+        let inside = within(lists, &REBASING)?;
+        if inside.iter().all(|count| *count == 0.0) {
+            continue;
+        }
+        if inside.contains(&0.0) {
+            return Err(format!("of {REBASING:?} callgrind found one alone"));
+        }
+        let whole = within(lists, &[(LIBRARY, ASKING), (ORIGINAL, ASKING)])?;
+        let share = |k: usize| 100.0 * inside[k] / whole[k];
+        println!(
+            "| {} | {:.1} | {:.1} | {:.1} | {:.1} | {:.2} |",
+            class.name,
+            inside[0] / 1000.0,
+            share(0),
+            inside[1] / 1000.0,
+            share(1),
+            inside[1] / inside[0]
+        );
+        rows += 1;
+    }
+    if rows > 0 { Ok(()) } else { Err("no list rebases anything".to_string()) }
+}
+
 /// Instructions a query of each engine.
 fn counted(lists: &[List]) -> Result<[f64; ENGINES.len()], String> {
+    let asked: [(usize, &str); ENGINES.len()] = std::array::from_fn(|engine| (engine, ASKING));
+    let counts = within(lists, &asked)?;
+    if counts.contains(&0.0) {
+        return Err("callgrind counted nothing".to_string());
+    }
+    let queries: usize = lists.iter().map(|list| list.case.queries.len()).sum();
+    one_by_one(lists, counts[BYTE_FLOOR] * queries as f64).map(|()| counts)
+}
+
+/// Instructions a query of some engines, each inside one of its functions.
+fn within<const N: usize>(lists: &[List], asked: &[(usize, &str); N]) -> Result<[f64; N], String> {
     let text: String = lists.iter().map(List::text).collect();
     let queries: usize = lists.iter().map(|list| list.case.queries.len()).sum();
     let file = std::env::temp_dir().join(format!("bench-lists-{}.txt", std::process::id()));
     fs::write(&file, text).map_err(|e| format!("{}: {e}", file.display()))?;
-    let mut counts = [0.0; ENGINES.len()];
-    let each = (0..ENGINES.len()).try_for_each(|engine| {
-        let (once, twice) = (collected(&file, engine, 1)?, collected(&file, engine, 2)?);
-        counts[engine] = twice.saturating_sub(once) as f64 / queries as f64;
-        if once > 0 && twice > once { Ok(()) } else { Err("callgrind counted nothing".to_string()) }
+    let mut counts = [0.0; N];
+    let each = asked.iter().zip(&mut counts).try_for_each(|(&(engine, function), count)| {
+        let of = |times: usize| collected(&file, engine, times, function);
+        *count = of(2)?.saturating_sub(of(1)?) as f64 / queries as f64;
+        Ok(())
     });
     fs::remove_file(&file).ok();
-    each.and_then(|()| one_by_one(lists, counts[BYTE_FLOOR] * queries as f64)).map(|()| counts)
+    each.map(|()| counts)
 }
 
 /// The byte floor is what its name says: more instructions than bytes that are read.
@@ -67,12 +119,12 @@ fn one_by_one(lists: &[List], instructions: f64) -> Result<(), String> {
     }
 }
 
-/// What callgrind collects while an engine runs the lists of a file so many times.
-fn collected(file: &Path, engine: usize, times: usize) -> Result<u64, String> {
+/// What callgrind collects inside a function while an engine runs the lists of a file so many times.
+fn collected(file: &Path, engine: usize, times: usize, function: &str) -> Result<u64, String> {
     let this = std::env::current_exe().map_err(|e| e.to_string())?;
     let output = Command::new("valgrind")
         .args(["--tool=callgrind", "--callgrind-out-file=/dev/null"])
-        .arg("--toggle-collect=bench::engines::ask_all*")
+        .arg(format!("--toggle-collect={function}"))
         // without it glibc clears by a string instruction, which is counted once a byte
         .env("GLIBC_TUNABLES", "glibc.cpu.x86_rep_stosb_threshold=100000000")
         .arg(this)

@@ -26,6 +26,7 @@ fn task() -> Result<Task, String> {
     let task: Task = match words.next().as_deref() {
         None | Some("times") => Box::new(move || Ok(table::times(&table::made(only)?, rounds))),
         Some("count") => Box::new(move || count::table(&table::made(only)?)),
+        Some("rebasing") => Box::new(move || count::rebasing(&table::made(only)?)),
         Some("scaling") => Box::new(move || scaling::tables(rounds)),
         Some("worst") => Box::new(move || worst::table(rounds)),
         Some("report") => Box::new(move || report(rounds)),
@@ -54,6 +55,8 @@ fn report(rounds: usize) -> Result<(), String> {
     table::times(&made, rounds);
     println!("\n## Instructions\n");
     count::table(&made)?;
+    println!("\n## Rebasing\n");
+    count::rebasing(&made)?;
     println!("\n## Scaling\n");
     scaling::tables(rounds)?;
     println!("\n## The worst small books\n");

@@ -13,8 +13,9 @@ use apply::{Edit, edited, stop};
 const FILES: [&str; 3] = ["mod.rs", "stack.rs", "global_cache.rs"];
 
 /// Modules of our own that stand inside the original, to see its private parts.
-const INSIDE: [(&str, &str); 3] = [
+const INSIDE: [(&str, &str); 4] = [
     ("checks.rs", "checks.rs"),
+    ("extensions.rs", "extensions.rs"),
     ("cache_access.rs", "global_cache/cache_access.rs"),
     ("wrongly.rs", "wrongly.rs"),
 ];

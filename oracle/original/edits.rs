@@ -88,8 +88,8 @@ pub const EDITS: &[Edit] = &[
     Edit {
         file: "mod.rs",
         find: "mod stack;\n",
-        put: "mod checks;\nmod stack;\n",
-        why: "a module of our own counts entries and checks finished frames",
+        put: "mod checks;\nmod extensions;\nmod stack;\n\npub use extensions::extend_with_paths;\n",
+        why: "modules of our own count entries, check finished frames and extend sets of paths",
     },
     Edit {
         file: "mod.rs",

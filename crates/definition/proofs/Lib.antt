@@ -1,5 +1,6 @@
 pub mod Counters
 pub mod Document
+pub mod Everywhere
 pub mod Example
 pub mod Extensions
 pub mod Hunted

@@ -1,4 +1,5 @@
 pub mod Paths
+pub mod Table
 pub mod Usages
 pub mod Answers
 pub mod Heads

@@ -1,8 +1,8 @@
 // Paths between goals.
 ghost use mathlib.Core.Path.{_≡_};
-ghost use lib.Bits.{bitOr};
-ghost use Rattle.definition.specs.Paths.{kindNumber, kindOf, sameKind, extend, emptyPath, flagOf, weakerFlags, containsPath, extendWith, extendWithEach, containedIn, extendWithPaths};
-ghost use mathlib.Core.List.{List, _∷_};
+ghost use Rattle.definition.specs.Paths.{kindNumber, kindOf, sameKind, extend, emptyPath, flagOf, weakerFlags};
+ghost use Rattle.definition.specs.Paths.{containsPath, extendWith, extendWithPaths};
+ghost use Rattle.definition.specs.Table.{Extensions};
 ghost use Rattle.definition.specs.declared.paths.PathKind.{PathKind};
 
 // The kind of a path, in the order of `extend`.
@@ -88,7 +88,8 @@ impl PathKind {
 
 // The set with a kind's flag for those below it, given both.
 pub fn replace_weaker(bits: u8, weaker: u8, flag: u8) -> u8
-    ensures { λ r. ⌜ ((kind : PathKind) → weaker ≡ weakerFlags kind → flag ≡ flagOf kind → r ≡ extendWith bits kind) ⌝ }
+    ensures { λ r. ⌜ ((kind : PathKind)
+        → weaker ≡ weakerFlags kind → flag ≡ flagOf kind → r ≡ extendWith bits kind) ⌝ }
 {
     if bits & weaker == 0 {
         return bits;
@@ -97,13 +98,6 @@ pub fn replace_weaker(bits: u8, weaker: u8, flag: u8) -> u8
 }
 
 impl PathsToNested {
-    // No path.
-    pub fn none() -> PathsToNested
-        ensures { λ r. ⌜ r .bits ≡ 0 ⌝ }
-    {
-        PathsToNested { bits: 0 }
-    }
-
     // The set of the empty path.
     pub fn empty_path() -> PathsToNested
         ensures { λ r. ⌜ r .bits ≡ emptyPath ⌝ }
@@ -135,28 +129,24 @@ impl PathsToNested {
         }
     }
 
-    // The paths that `extend_with` makes, where the kind is in `kinds`, else none.
-    fn extend_if(self, kinds: PathsToNested, kind: PathKind) -> PathsToNested
-        ensures { λ r. ⌜ ((ks : List PathKind) → bitOr (r .bits)
-            (extendWithEach (self .bits) (containedIn (kinds .bits) ks))
-            ≡ extendWithEach (self .bits) (containedIn (kinds .bits) (kind ∷ ks))) ⌝ }
-    {
-        if kinds.contains(kind) {
-            return self.extend_with(kind);
-        }
-        PathsToNested::none()
-    }
-
-    // The paths, each gone on with by each path of `rest` but the empty one.
-    pub fn extend_with_paths(self, rest: PathsToNested) -> PathsToNested
+    // The paths, each gone on with by each path of `rest` but the empty one: read in the table of
+    // extensions. Flags beyond the five, which no set of paths has, are no kinds in `rest`, and
+    // in `self` each extension keeps them.
+    pub fn extend_with_paths(self, rest: PathsToNested, table: &[u8; 1024]) -> PathsToNested
+        requires { ⌜ Extensions (now table) ⌝ }
         ensures { λ r. ⌜ r .bits ≡ extendWithPaths (self .bits) (rest .bits) ⌝ }
     {
-        let inductive = self.extend_if(rest, PathKind::Inductive);
-        let unknown = self.extend_if(rest, PathKind::Unknown);
-        let coinductive = self.extend_if(rest, PathKind::Coinductive);
-        let forced = self.extend_if(rest, PathKind::ForcedAmbiguity);
+        let a = self.bits % 32;
+        let b = rest.bits % 32;
+        let extended = table[32 * (a as usize) + (b as usize)];
+        if self.bits < 32 {
+            return PathsToNested { bits: extended };
+        }
+        if b < 2 {
+            return PathsToNested { bits: extended };
+        }
         PathsToNested {
-            bits: inductive.bits | (unknown.bits | (coinductive.bits | forced.bits)),
+            bits: extended | (self.bits & 224),
         }
     }
 }

@@ -8,7 +8,8 @@
 //
 // The paths hp do not depend on e. So they are worked out once, and the loop over the entries
 // gets them, and the graph's bytes from p on (`rest`: the entries start at `base` in it). No
-// frame that is left on the stack is among these.
+// frame that is left on the stack is among these. The table of extensions is named before the
+// loop, too: the compiler writes a constant array to the machine's stack wherever it is named.
 use definition::answers::Answer;
 use definition::answers::RebaseReason;
 use definition::heads::CycleHead;
@@ -26,6 +27,7 @@ ghost use Prim.Native.Nat.{_-_, _*_, _≤_, _<_};
 ghost use lib.ListN.{replicate};
 ghost use Rattle.definition.specs.declared.heads.CycleHead.{CycleHead};
 ghost use Rattle.definition.specs.Heads.{usagesAt, pathsAt};
+ghost use Rattle.definition.specs.Table.{Extensions};
 ghost use Rattle.definition.specs.Stack.{Stack};
 ghost use Rattle.definition.specs.ProvisionalCache.{reasonKeeps, underNewHead, rebaseEntry};
 ghost use Rattle.bits.specs.Masks.{flags};
@@ -44,6 +46,7 @@ ghost use Rattle.rebase.specs.Rebased.{EntryWritten, EntryRebased, entry
 ghost use Rattle.rebase.specs.Rebased.{StayBefore, RestRebased, Rebased};
 
 mod paths;
+mod table;
 
 // ---- the popped frame p
 
@@ -248,12 +251,13 @@ fn extend_path(rest: &mut [u8], goals: usize, base: usize, k: usize, kind: PathK
 
 // What it gains for a head of p: the head as reached by the paths to p, or used for
 // nothing.
-fn gained(used: bool, eps: PathsToNested, head: CycleHead) -> CycleHead
+fn gained(table: &[u8; 1024], used: bool, eps: PathsToNested, head: CycleHead) -> CycleHead
+    requires { ⌜ Extensions (now table) ⌝ }
     ensures { λ r. ⌜ r ≡ gainedHead used (eps .bits) head ⌝ }
 {
     if used {
         let phs = PathsToNested { bits: head.paths };
-        let ephs = eps.extend_with_paths(phs);
+        let ephs = eps.extend_with_paths(phs, table);
         let paths = ephs.bits;
         let usages = head.usages;
         return CycleHead { paths, usages };
@@ -265,15 +269,23 @@ fn gained(used: bool, eps: PathsToNested, head: CycleHead) -> CycleHead
 }
 
 // It gains the heads of p.
-fn gain_heads(rest: &mut [u8], goals: usize, base: usize, k: usize, used: bool, eps: PathsToNested)
-    requires { ⌜ RestBytes goals base (now rest) × (k < 2 * goals) ⌝ }
+fn gain_heads(
+    rest: &mut [u8],
+    goals: usize,
+    base: usize,
+    table: &[u8; 1024],
+    k: usize,
+    used: bool,
+    eps: PathsToNested,
+)
+    requires { ⌜ RestBytes goals base (now rest) × ((k < 2 * goals) × Extensions (now table)) ⌝ }
     ensures { λ _. ⌜ EntryWritten goals base k (gainedEntry goals base k used (eps .bits) (now (rest .entry)))
         (now (rest .entry)) (now (rest .exit)) ⌝ }
 {
     let mut left = popped_mask(rest, goals);
     while 0 < left {
         let i = bits::lowest(left);
-        let head = gained(used, eps, popped_head(rest, goals, i));
+        let head = gained(table, used, eps, popped_head(rest, goals, i));
         join_head(rest, goals, base, k, i, head);
         left = bits::without_lowest(left);
     }
@@ -285,16 +297,18 @@ fn replace_head(
     goals: usize,
     base: usize,
     popped: usize,
+    table: &[u8; 1024],
     k: usize,
     used: bool,
     eps: PathsToNested,
 )
-    requires { ⌜ RestBytes goals base (now rest) × ((popped < goals) × (k < 2 * goals)) ⌝ }
+    requires { ⌜ RestBytes goals base (now rest)
+        × ((popped < goals) × ((k < 2 * goals) × Extensions (now table))) ⌝ }
     ensures { λ _. ⌜ EntryWritten goals base k (replacedEntry goals base popped k used (eps .bits) (now (rest .entry)))
         (now (rest .entry)) (now (rest .exit)) ⌝ }
 {
     remove_head(rest, goals, base, k, popped);
-    gain_heads(rest, goals, base, k, used, eps);
+    gain_heads(rest, goals, base, table, k, used, eps);
 }
 
 // Its heads after p; false where it is dropped. Where it was given no result of p, it stays
@@ -305,23 +319,25 @@ fn rebase_heads(
     base: usize,
     popped: usize,
     paths: &[u8; 64],
+    table: &[u8; 1024],
     reason: RebaseReason,
     k: usize,
 ) -> bool
-    requires { ⌜ RestBytes goals base (now rest) × ((popped < goals) × (k < 2 * goals)) ⌝ }
+    requires { ⌜ RestBytes goals base (now rest)
+        × ((popped < goals) × ((k < 2 * goals) × Extensions (now table))) ⌝ }
     ensures { λ r. ⌜ EntryRebased goals base k (MayBeLeft goals popped (now (rest .entry)) (now (paths .entry)))
         (entryUnderHeads popped reason) r (now (rest .entry)) (now (rest .exit)) ⌝ }
 {
     let usages = head_usages(rest, goals, base, k, popped);
     let eps = head_paths(rest, goals, base, k, popped);
     if usages.is_empty() {
-        replace_head(rest, goals, base, popped, k, false, eps);
+        replace_head(rest, goals, base, popped, table, k, false, eps);
         return true;
     }
     if !stays(rest, goals, base, paths, reason, k, usages, eps) {
         return false;
     }
-    replace_head(rest, goals, base, popped, k, true, eps);
+    replace_head(rest, goals, base, popped, table, k, true, eps);
     true
 }
 
@@ -349,10 +365,12 @@ fn rebase_entry(
     base: usize,
     popped: usize,
     paths: &[u8; 64],
+    table: &[u8; 1024],
     reason: RebaseReason,
     k: usize,
 ) -> bool
-    requires { ⌜ RestBytes goals base (now rest) × ((popped < goals) × (k < 2 * goals)) ⌝ }
+    requires { ⌜ RestBytes goals base (now rest)
+        × ((popped < goals) × ((k < 2 * goals) × Extensions (now table))) ⌝ }
     ensures { λ r. ⌜ EntryRebased goals base k (MayBeLeft goals popped (now (rest .entry)) (now (paths .entry)))
         (λ s p e. rebaseEntry s p reason e) r (now (rest .entry)) (now (rest .exit)) ⌝ }
 {
@@ -360,7 +378,7 @@ fn rebase_entry(
     if entry::highest_head(entry, goals) != popped {
         return true;
     }
-    if !rebase_heads(rest, goals, base, popped, paths, reason, k) {
+    if !rebase_heads(rest, goals, base, popped, paths, table, reason, k) {
         return false;
     }
     rebase_path(rest, goals, base, paths, k)
@@ -392,19 +410,21 @@ fn rebase_entries(
     base: usize,
     popped: usize,
     paths: &[u8; 64],
+    table: &[u8; 1024],
     reason: RebaseReason,
     first: usize,
     entries: usize,
 ) -> usize
     requires { ⌜ RestBytes goals base (now rest)
-        × ((popped < goals) × ((entries ≤ 2 * goals) × StayBefore goals base popped entries (now rest) first)) ⌝ }
+        × ((popped < goals) × ((entries ≤ 2 * goals)
+        × (StayBefore goals base popped entries (now rest) first × Extensions (now table)))) ⌝ }
     ensures { λ r. ⌜ RestRebased goals base popped (now (paths .entry)) reason entries
         (now (rest .entry)) (now (rest .exit)) r ⌝ }
 {
     let mut kept = first;
     let mut k = first;
     while k < entries {
-        let keep = rebase_entry(rest, goals, base, popped, paths, reason, k);
+        let keep = rebase_entry(rest, goals, base, popped, paths, table, reason, k);
         kept = provisional_cache::keep_if(rest, goals, base, keep, k, kept);
         k = k + 1;
     }
@@ -429,12 +449,14 @@ pub fn rebase_provisional_cache_entries(
         return entries;
     }
     let paths = paths_to_popped(graph, goals, popped);
+    let table = table::EXTENDED;
     rebase_entries(
         &mut graph[start..],
         goals,
         base,
         popped,
         &paths,
+        &table,
         reason,
         first,
         entries,

@@ -11,7 +11,7 @@ use oracle_core::generate::{CLASSES, class_named};
 use oracle_core::groups::wrong::{self, RIGHT};
 use oracle_core::groups::{self, Breach};
 use oracle_core::recorded;
-use oracle_core::{Limits, Outcome, reply_within, work_len, wrong_readings};
+use oracle_core::{Limits, Outcome, extend_with_paths, reply_within, work_len, wrong_readings};
 
 use oracle_core::arguments::Arguments;
 
@@ -106,6 +106,30 @@ pub fn groups(mut given: Arguments) -> Done {
 }
 
 /// Prints one of the recorded files.
+/// The numbers of a table: entry 32 a + b is for the sets a and b.
+pub fn extensions(given: Arguments) -> Done {
+    given.end()?;
+    let text = read_input()?;
+    let rows = text.lines().skip_while(|line| !line.ends_with('[')).skip(1);
+    let rows = rows.take_while(|line| !line.starts_with(']'));
+    let entries: Vec<u8> =
+        rows.filter_map(|row| row.split_once(',')?.0.trim().parse().ok()).collect();
+    let mut differences = 0;
+    for (k, entry) in entries.iter().enumerate().take(1024) {
+        let (a, b) = ((k / 32) as u8, (k % 32) as u8);
+        let extended = extend_with_paths(a, b);
+        if *entry != extended {
+            differences += 1;
+            say(&format!("set {a} extended by set {b}: is {entry}, the original has {extended}"))?;
+        }
+    }
+    say(&format!("{} entries, {differences} differences", entries.len()))?;
+    if entries.len() != 1024 {
+        return Err("a table has 1024 entries".to_string());
+    }
+    Ok(differences == 0)
+}
+
 pub fn recorded(mut given: Arguments) -> Done {
     let name = given.need("FILE")?;
     given.end()?;

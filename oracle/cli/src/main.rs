@@ -39,6 +39,9 @@ oracle: document 01's queries, answered by the original search graph
       Prints the groups of item 12, called ones first: the goals, and whether the set is least,
       greatest or either. Where the condition is broken, prints the group, its first inductive
       and its first coinductive line (the header is line 0); exit status 1.
+  oracle extensions < TABLE
+      Compares a table of 1,024 numbers, as crates/rebase/src/table.rt has it between `[` and
+      `]`, with every set of paths extended by every set; exit status 1 if something differs.
   oracle recorded FILE
       Prints one of the recorded files of tests/vectors, made anew: document, refusals, caches
       or random.
@@ -83,6 +86,7 @@ fn run() -> Result<bool, String> {
         Some("verify") => commands::verify(given),
         Some("demand3") => commands::demand3(given),
         Some("groups") => commands::groups(given),
+        Some("extensions") => commands::extensions(given),
         Some("recorded") => commands::recorded(given),
         Some("readings") => commands::readings(given),
         #[cfg(feature = "wrong_readings")]

@@ -30,7 +30,7 @@ pub mod session;
 #[cfg(feature = "wrong_readings")]
 include!(concat!(env!("OUT_DIR"), "/modules.rs"));
 
-pub use original::mutant;
+pub use original::{extend_with_paths, mutant};
 pub use reply::{Limits, Outcome, Report, reply, reply_within};
 pub use work::work_len;
 

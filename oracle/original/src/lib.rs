@@ -11,7 +11,7 @@ pub mod data_structures;
 pub mod hooks;
 mod wrong_reading;
 
-pub use search_graph::Held;
+pub use search_graph::{Held, extend_with_paths};
 #[cfg(feature = "wrong_readings")]
 pub use wrong_reading::MUTANT;
 pub use wrong_reading::{WRONG_READINGS, mutant};

@@ -6,10 +6,10 @@ use Rattle.rebase.proofs.gain_heads.Statement.{statement}
 use Rattle.rebase.proofs.gain_heads.Tie as tie
 
 abbrev Inv-loop : tie.InvT-loop
-Inv-loop rest₀ goals base k used eps left₀ rest left = Gaining goals base k used (eps .bits) rest₀ rest left
+Inv-loop rest₀ goals base table k used eps left₀ rest left = Gaining goals base k used (eps .bits) rest₀ rest left
 
 abbrev μ-loop : tie.MeasureT-loop
-μ-loop rest₀ goals base k used eps left₀ rest left = left
+μ-loop rest₀ goals base table k used eps left₀ rest left = left
 
 small : (c : tie.After-popped-mask Inv-loop μ-loop) → c .popped-mask .result < 2 ^ 64
 small c = search needs
@@ -43,7 +43,7 @@ popped-head-requires c κs =
     )
 
 gained-requires : tie.Need-gained-requires Inv-loop μ-loop
-gained-requires c κs = search needs
+gained-requires c κs = c .before .before .before .before .before .before .before .before .pre .1 .1
 
 join-head-requires : tie.Need-join-head-requires Inv-loop μ-loop
 join-head-requires c κs =
@@ -55,7 +55,7 @@ join-head-requires c κs =
     let lowest = c4 .lowest in (
       rest-bytes (a .goals) (a .base) (a .rest .now) (s .pre .0) (l .rest) (l .inv .same-length) .entries,
       (
-        s .pre .1,
+        s .pre .1 .0,
         gaining-small (a .goals) (a .base) (a .k) (a .used) (a .eps .bits) (a .rest .now) (l .rest) (l .left)
             (lowest .result) (l .inv) (loop-test .taken) (lowest .ensures),
       ),

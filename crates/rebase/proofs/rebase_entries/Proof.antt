@@ -7,11 +7,11 @@ use Rattle.rebase.proofs.rebase_entries.Statement.{statement}
 use Rattle.rebase.proofs.rebase_entries.Tie as tie
 
 abbrev Inv-loop : tie.InvT-loop
-Inv-loop rest₀ goals base popped paths reason first entries kept₀ k₀ rest kept k =
+Inv-loop rest₀ goals base popped paths table reason first entries kept₀ k₀ rest kept k =
     Rebasing goals base popped paths reason entries rest₀ rest kept k
 
 abbrev μ-loop : tie.MeasureT-loop
-μ-loop rest₀ goals base popped paths reason first entries kept₀ k₀ rest kept k = entries - k
+μ-loop rest₀ goals base popped paths table reason first entries kept₀ k₀ rest kept k = entries - k
 
 bytes : (c : tie.At-loop Inv-loop μ-loop)
     → RestBytes (c .before .before .args .goals) (c .before .before .args .base) (c .loop .rest)
@@ -25,14 +25,14 @@ loop-holds c =
     let s = c .before in
     let a = s .args in
     rebasing-start (a .goals) (a .base) (a .popped) (a .paths .now) (a .reason) (a .entries) (a .rest .now) (a .first)
-    (s .pre .1 .1 .1)
+    (s .pre .1 .1 .1 .0)
 
 rebase-entry-requires : tie.Need-rebase-entry-requires Inv-loop μ-loop
 rebase-entry-requires c κs =
     let s = c .before .before .before .before in
     let lt = c .before .loop-test .taken in
     let most = s .pre .1 .1 .0 in
-    (bytes (c .before .before), (s .pre .1 .0, omega arith))
+    (bytes (c .before .before), (s .pre .1 .0, (omega arith, s .pre .1 .1 .1 .1)))
 
 keep-if-requires : tie.Need-keep-if-requires Inv-loop μ-loop
 keep-if-requires c κs =

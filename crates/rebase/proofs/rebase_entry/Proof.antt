@@ -14,14 +14,14 @@ use Rattle.rebase.proofs.rebase_entry.Statement.{statement}
 use Rattle.rebase.proofs.rebase_entry.Tie as tie
 
 entry-from-requires : tie.Need-entry-from-requires
-entry-from-requires c κs = let s = c .before .before in (s .pre .0 .entries, s .pre .1 .1)
+entry-from-requires c κs = let s = c .before .before in (s .pre .0 .entries, s .pre .1 .1 .0)
 
 highest-head-requires : tie.Need-highest-head-requires
 highest-head-requires c κs =
     let s = c .before .before .before in
     let entry-from = c .entry-from in
     entry-bytes (s .args .goals) (s .args .base) (s .args .rest .now) (entry-from .result .now) (s .args .k)
-    (s .pre .0 .entries) (s .pre .1 .1) (entry-from .ensures)
+    (s .pre .0 .entries) (s .pre .1 .1 .0) (entry-from .ensures)
 
 same-length : tie.Need-same-length
 same-length c = search needs
@@ -75,7 +75,7 @@ rebase-path-requires c κs =
     let rebase-heads = c4 .rebase-heads in (
       rest-bytes (s .args .goals) (s .args .base) (s .args .rest .now) (s .pre .0) (rebase-heads .last .0)
           (rebase-heads .kept .0),
-      s .pre .1 .1,
+      s .pre .1 .1 .0,
     )
 
 same-length-3 : tie.Need-same-length-3

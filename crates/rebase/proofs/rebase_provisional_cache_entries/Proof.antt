@@ -1,6 +1,8 @@
+use mathlib.Core.Path.{refl}
 use Prim.Native.Nat.{_-_, _≤_}
 use native.Mathlib.Omega.{arith}
 use lib.ListN.{length}
+use Rattle.definition.proofs.Extensions.{table-rule}
 use Rattle.stack.proofs.Parts.{part}
 use Rattle.rebase.specs.Popped.{RestBytes}
 use Rattle.rebase.proofs.Rounds.{rebased-none, start-in, ends, lent, rebased}
@@ -39,7 +41,8 @@ below c =
 
 are : (c : tie.After-entries-start)
     → RestBytes (c .before .before .before .args .goals) (c .entries-start .result - c .before .frame-start .result)
-    (part (c .before .before .before .args .graph .now) (c .before .frame-start .result) (length (c .before .before .before .args .graph .now)))
+    (part (c .before .before .before .args .graph .now) (c .before .frame-start .result)
+    (length (c .before .before .before .args .graph .now)))
 are c =
     let s = c .before .before .before in
     let start = c .before .frame-start in
@@ -88,11 +91,13 @@ part-rebase-entries-start c = below (c .before .before .before .before .before .
 part-rebase-entries-end : tie.Need-part-rebase-entries-end
 part-rebase-entries-end c = omega arith
 
+-- the table's rule is proved here, by one test of all its entries
 rebase-entries-requires : tie.Need-rebase-entries-requires
 rebase-entries-requires c κs =
-    let s = c .before .before .before .before .before .before .before .before .before .before .before in (
-      are (c .before .before .before .before .before .before .before .before),
-      (s .pre .1 .0, (s .pre .1 .1, c .before .before .before .before .before .first-under .ensures)),
+    let c6 = c .before .before .before .before .before .before in let c9 = c6 .before .before .before in
+    let s = c9 .before .before .before in (
+      are c9,
+      (s .pre .1 .0, (s .pre .1 .1, (c6 .first-under .ensures, table-rule _ refl tt))),
     )
 
 same-length-2 : tie.Need-same-length-2
@@ -100,15 +105,14 @@ same-length-2 c = search needs
 
 returns-2 : tie.Need-returns-2
 returns-2 c =
-    let s =
-    c .before .before .before .before .before .before .before .before .before .before .before .before .before .before in
+    let c2 = c .before .before in let c6 = c2 .before .before .before .before in
+    let c12 = c6 .before .before .before .before .before .before in let c13 = c12 .before in
+    let s = c13 .before .before in
     let a = s .args in
-    let x = c .before .before .rebase-entries in
-    let paths = c .before .before .before .before .before .paths-to-popped in
-    let start =
-    c .before .before .before .before .before .before .before .before .before .before .before .before .frame-start in
-    let end =
-    c .before .before .before .before .before .before .before .before .before .before .before .entries-start in
+    let x = c2 .rebase-entries in
+    let paths = c6 .paths-to-popped in
+    let start = c13 .frame-start in
+    let end = c12 .entries-start in
     rebased (a .goals) (a .popped) (a .graph .now) (s .pre .0) (s .pre .1 .0) (start .result) (end .result)
     (start .ensures .0)
     (end .ensures .0) (end .ensures .1) (x .last .0) (x .kept .0) (paths .result) (a .reason) (a .entries) (x .result)

@@ -7,7 +7,7 @@ use Rattle.rebase.proofs.replace_head.Tie as tie
 remove-head-requires : tie.Need-remove-head-requires
 remove-head-requires c κs =
     let s = c .before .before in
-    (s .pre .0 .entries, (s .pre .1 .1, s .pre .1 .0))
+    (s .pre .0 .entries, (s .pre .1 .1 .0, s .pre .1 .0))
 
 gain-heads-requires : tie.Need-gain-heads-requires
 gain-heads-requires c κs =
