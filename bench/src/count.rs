@@ -12,7 +12,7 @@ use oracle_core::arguments::Arguments;
 use oracle_core::case::read_cases;
 
 use crate::engines::{BYTE_FLOOR, ENGINES, FLOOR, FROM_BYTES, LIBRARY, ORIGINAL};
-use crate::lists::{Class, List};
+use crate::lists::{Class, List, queries};
 
 /// The table, class by class.
 pub fn table(made: &[(&Class, Vec<List>)]) -> Result<(), String> {
@@ -89,20 +89,18 @@ fn counted(lists: &[List]) -> Result<[f64; ENGINES.len()], String> {
     if counts.contains(&0.0) {
         return Err("callgrind counted nothing".to_string());
     }
-    let queries: usize = lists.iter().map(|list| list.case.queries.len()).sum();
-    one_by_one(lists, counts[BYTE_FLOOR] * queries as f64).map(|()| counts)
+    one_by_one(lists, counts[BYTE_FLOOR] * queries(lists) as f64).map(|()| counts)
 }
 
 /// Instructions a query of some engines, each inside one of its functions.
 fn within<const N: usize>(lists: &[List], asked: &[(usize, &str); N]) -> Result<[f64; N], String> {
     let text: String = lists.iter().map(List::text).collect();
-    let queries: usize = lists.iter().map(|list| list.case.queries.len()).sum();
     let file = std::env::temp_dir().join(format!("bench-lists-{}.txt", std::process::id()));
     fs::write(&file, text).map_err(|e| format!("{}: {e}", file.display()))?;
     let mut counts = [0.0; N];
     let each = asked.iter().zip(&mut counts).try_for_each(|(&(engine, function), count)| {
         let of = |times: usize| collected(&file, engine, times, function);
-        *count = of(2)?.saturating_sub(of(1)?) as f64 / queries as f64;
+        *count = of(2)?.saturating_sub(of(1)?) as f64 / queries(lists) as f64;
         Ok(())
     });
     fs::remove_file(&file).ok();

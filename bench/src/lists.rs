@@ -24,6 +24,11 @@ pub struct List {
     pub entries: usize,
 }
 
+/// How many queries the lists have together.
+pub fn queries(lists: &[List]) -> usize {
+    lists.iter().map(|list| list.case.queries.len()).sum()
+}
+
 impl List {
     /// None where a query is refused, or the list takes more than `fuel` goal runs.
     pub fn tried(case: Case, fuel: u64) -> Option<List> {

@@ -1,7 +1,7 @@
 //! Rounds: every engine in turn, again and again, on the same lists.
 
 use crate::engines::{ENGINES, agree};
-use crate::lists::List;
+use crate::lists::{List, queries};
 
 /// A round of one engine takes at least so many nanoseconds.
 const ROUND: u64 = 2_000_000;
@@ -11,7 +11,7 @@ pub struct Rounds(Vec<[f64; ENGINES.len()]>);
 
 impl Rounds {
     pub fn of(lists: &[List], rounds: usize) -> Rounds {
-        let queries: usize = lists.iter().map(|list| list.case.queries.len()).sum();
+        let queries = queries(lists);
         let times: [usize; ENGINES.len()] = std::array::from_fn(|engine| enough(lists, engine));
         let each = |engine: usize| {
             run(lists, engine, times[engine]) as f64 / (times[engine] * queries) as f64

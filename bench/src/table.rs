@@ -1,7 +1,7 @@
 //! The table of times, and whether the goals are met.
 
 use crate::engines::{BYTE_FLOOR, FLOOR, FROM_BYTES, LIBRARY, ORIGINAL};
-use crate::lists::{CLASSES, Class, LISTS, List};
+use crate::lists::{CLASSES, Class, LISTS, List, queries};
 use crate::rounds::{Rounds, all_agree, median};
 
 /// What each class is.
@@ -11,7 +11,7 @@ pub fn classes(made: &[(&Class, Vec<List>)]) {
     );
     println!("|---|---|---|---|---|---|---|");
     for (class, lists) in made {
-        let queries: usize = lists.iter().map(|list| list.case.queries.len()).sum();
+        let queries = queries(lists);
         let runs: u64 = lists.iter().map(|list| list.runs).sum();
         let bytes: usize = lists.iter().map(|list| list.case.book.len()).sum();
         let entries = median(lists.iter().map(|list| list.entries as f64).collect());

@@ -35,7 +35,7 @@ abbrev pub entryRight : ℕ → ℕ → Bool
 entryRight k x = eqb x (extendWithPaths (k / 32) (k % 32))
 
 -- its rule at every entry, by one test of them all
-pub table-rule : (table : List ℕ) → length table ≡ 1024 → T (every entryRight 0 table) → Extensions table
+pub table-rule : (table : List ℕ) → length table ≡ 1024 → T (every entryRight table) → Extensions table
 table-rule table long right =
     record {
       entry = λ a b small-a small-b.
