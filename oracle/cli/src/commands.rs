@@ -105,8 +105,7 @@ pub fn groups(mut given: Arguments) -> Done {
     Ok(true)
 }
 
-/// Prints one of the recorded files.
-/// The numbers of a table: entry 32 a + b is for the sets a and b.
+/// Compares a table of extensions with the original: entry 32 a + b is set a extended by set b.
 pub fn extensions(given: Arguments) -> Done {
     given.end()?;
     let text = read_input()?;
@@ -130,6 +129,7 @@ pub fn extensions(given: Arguments) -> Done {
     Ok(differences == 0)
 }
 
+/// Prints one of the recorded files.
 pub fn recorded(mut given: Arguments) -> Done {
     let name = given.need("FILE")?;
     given.end()?;
