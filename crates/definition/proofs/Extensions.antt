@@ -81,30 +81,36 @@ sameBeyond k p = eqb (extendWith p k) (p / 32 * 32 + extendWith (p % 32) k)
 abbrev inFive : PathKind → ℕ → Bool
 inFive k p = ltb (extendWith (p % 32) k) 32
 
-at-every-byte : (k : PathKind) → T (everyBelow (λ n. sameFlag k n && (sameBeyond k n && inFive k n)) 256)
+abbrev keptBeyond : PathKind → ℕ → Bool
+keptBeyond k p = sameBeyond k p && inFive k p
+
+abbrev atByte : PathKind → ℕ → Bool
+atByte k n = sameFlag k n && keptBeyond k n
+
+at-every-byte : (k : PathKind) → T (everyBelow (atByte k) 256)
 at-every-byte Inductive = tt
 at-every-byte Unknown = tt
 at-every-byte Coinductive = tt
 at-every-byte ForcedAmbiguity = tt
 
 module _ (n : ℕ) (byte : n < 256) where
-  at-byte : (k : PathKind) → T (sameFlag k n && (sameBeyond k n && inFive k n))
-  at-byte k = at-number (λ n. sameFlag k n && (sameBeyond k n && inFive k n)) 256 (at-every-byte k) n byte
+  at-byte : (k : PathKind) → T (atByte k n)
+  at-byte k = at-number (atByte k) 256 (at-every-byte k) n byte
+
+  kept-beyond : (k : PathKind) → T (keptBeyond k n)
+  kept-beyond k = and-right (sameFlag k n) (keptBeyond k n) (at-byte k)
 
   same-flag : (k : PathKind) → bitAnd n (flagOf k) ≡ bitAnd (n % 32) (flagOf k)
   same-flag k =
-      eqb→eq (bitAnd n (flagOf k)) (bitAnd (n % 32) (flagOf k))
-      (and-left (sameFlag k n) (sameBeyond k n && inFive k n) (at-byte k))
+      eqb→eq (bitAnd n (flagOf k)) (bitAnd (n % 32) (flagOf k)) (and-left (sameFlag k n) (keptBeyond k n) (at-byte k))
 
   same-beyond : (k : PathKind) → extendWith n k ≡ n / 32 * 32 + extendWith (n % 32) k
   same-beyond k =
       eqb→eq (extendWith n k) (n / 32 * 32 + extendWith (n % 32) k)
-      (and-left (sameBeyond k n) (inFive k n) (and-right (sameFlag k n) (sameBeyond k n && inFive k n) (at-byte k)))
+      (and-left (sameBeyond k n) (inFive k n) (kept-beyond k))
 
   in-five : (k : PathKind) → extendWith (n % 32) k < 32
-  in-five k =
-      ltb→lt (extendWith (n % 32) k) 32
-      (and-right (sameBeyond k n) (inFive k n) (and-right (sameFlag k n) (sameBeyond k n && inFive k n) (at-byte k)))
+  in-five k = ltb→lt (extendWith (n % 32) k) 32 (and-right (sameBeyond k n) (inFive k n) (kept-beyond k))
 
 module _ (q : ℕ) (byte : q < 256) where
   contains-same : (k : PathKind) → containsPath q k ≡ containsPath (q % 32) k
