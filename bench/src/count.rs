@@ -45,13 +45,16 @@ pub fn table(made: &[(&Class, Vec<List>)]) -> Result<(), String> {
 /// The function that asks an engine.
 const ASKING: &str = "bench::engines::ask_all*";
 
-/// The functions that rebase provisional entries: each is called, and not put inside its callers.
+/// The functions that rebase provisional entries: each is called, and not put inside its callers. The library's takes a
+/// frame off the stack with any ending, so that clearing before a rerun is in it, and in the original is not.
 const REBASING: [(usize, &str); 2] =
-    [(LIBRARY, "task::rebased"), (ORIGINAL, "*::rebase_provisional_cache_entries")];
+    [(LIBRARY, "task::popped"), (ORIGINAL, "*::rebase_provisional_cache_entries")];
 
 /// What rebasing takes of it, class by class where there is any.
 pub fn rebasing(made: &[(&Class, Vec<List>)]) -> Result<(), String> {
-    println!("Instructions a query inside rebasing, in thousands, by callgrind.\n");
+    println!(
+        "Instructions a query inside the function that rebases, in thousands, by callgrind. The library's pops every frame, and clears entries before a rerun too.\n"
+    );
     println!(
         "| class | library | of its query, % | original | of its query, % | original / library |"
     );
@@ -60,11 +63,11 @@ pub fn rebasing(made: &[(&Class, Vec<List>)]) -> Result<(), String> {
     for (class, lists) in made {
         eprintln!("counting rebasing of {}", class.name);
         let inside = within(lists, &REBASING)?;
-        if inside.iter().all(|count| *count == 0.0) {
+        if inside[1] == 0.0 {
             continue;
         }
-        if inside.contains(&0.0) {
-            return Err(format!("of {REBASING:?} callgrind found one alone"));
+        if inside[0] == 0.0 {
+            return Err(format!("of {REBASING:?} callgrind found the original's alone"));
         }
         let whole = within(lists, &[(LIBRARY, ASKING), (ORIGINAL, ASKING)])?;
         let share = |k: usize| 100.0 * inside[k] / whole[k];

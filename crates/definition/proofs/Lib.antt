@@ -6,6 +6,8 @@ pub mod Extensions
 pub mod Hunted
 pub mod Lists
 pub mod Numbers
+pub mod SampleEndings
 pub mod SampleSteps
+pub mod Reruns
 pub mod StepCounts
 pub mod Tests

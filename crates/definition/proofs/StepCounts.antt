@@ -16,12 +16,15 @@ use Rattle.definition.specs.Answers.{combine, sameAnswer}
 use Rattle.definition.specs.Heads.{CycleHeads, noHeads, headsEmpty}
 use Rattle.definition.specs.Stack.{Frame, Stack, CountsTrue, OnStack, stackFind}
 use Rattle.definition.specs.Part.{All, Any, Pick, Part, Parts, Call, Node, UndecidedLine, End, Then, Book, partAt}
-use Rattle.definition.specs.Graph.{Entry, Graph, withStack, withGlobalCache, Outcome, Done, Stopped, andThen, unlessFound, EvaluationResult, finalize}
+use Rattle.definition.specs.Graph.{Entry, Graph, withStack, withGlobalCache, Outcome, Done, Stopped, andThen, unlessFound, EvaluationResult}
 use Rattle.definition.specs.Parent.{UpdateParentGoalCtxt, Ordinary, CycleOnStack, ProvisionalCacheHit, updateParentGoal, handleOverflow}
 use Rattle.definition.specs.GlobalCache.{CacheData, cacheGet, cacheInsert}
 use Rattle.definition.specs.Lookup.{allowedDepthForNested, firstMatch, useEntry, lookupProvisionalCache, candidateIsApplicable, useCacheData, lookupGlobalCache, cycleHead, closeCycle, checkCycleOnStack}
 use Rattle.definition.specs.Candidates.{noCandidateUsages, setCandidateUsages, enterSingleCandidate, finishedUsages, finishSingleCandidate, ignoreOnTop, canIgnore}
-use Rattle.definition.specs.Task.{Next, Finish, Rebase, Rerun, nextOf, rerunFrame, TaskOutcome, Evaluated, TaskStopped, rebased, popped, iteration, stepLimitReached, pushRerun, evaluateGoalInTask}
+use Rattle.definition.specs.declared.endings.Ending.{Ending}
+use Rattle.definition.specs.declared.endings.Ending.the-variants as ending
+use Rattle.definition.specs.Endings.{endingOf, tidyUp}
+use Rattle.definition.specs.Task.{rerunFrame, TaskOutcome, Evaluated, TaskStopped, afterPop, endIteration, iteration, evaluateGoalInTask}
 use Rattle.definition.specs.Evaluate.{Evaluator, mergeUnless, endPick, evalPart, evalAll, evalAny, evalPick, computeGoal, newFrame, insertResult, afterTask, evaluateAtDepth, evaluateGoalWith, evaluateGoal}
 
 -- the graph that is left, if one is, has true counts
@@ -129,41 +132,39 @@ module _ (evaluate : Evaluator) (goals : ℕ) (keeps : KeepsCounts evaluate) whe
         (candidate-counted none (g1 .stack) c1)
 
 -- ---- evaluate_goal_in_task
-abbrev RerunCounted : (Bool → Graph → Frame → Answer → TaskOutcome) → Type 0
-RerunCounted rerun =
-    (overflow : Bool) (g : Graph) (f : Frame) (a : Answer) → CountsTrue (f ∷ g .stack)
-    → TaskCounted (rerun overflow g f a)
+abbrev NextCounted : (Bool → Graph → TaskOutcome) → Type 0
+NextCounted next = (overflow : Bool) (g : Graph) → CountsTrue (g .stack) → TaskCounted (next overflow g)
 
-module _ (rerun : Bool → Graph → Frame → Answer → TaskOutcome) (keeps : RerunCounted rerun) where
-  next-counted : (overflow : Bool) (g : Graph) (f : Frame) (a : Answer) (n : Next) → CountsTrue (f ∷ g .stack)
-      → TaskCounted (elim n [
-        | Finish ↦ Evaluated g (finalize f overflow a)
-        | Rebase reason ↦ rebased g f reason overflow a
-        | Rerun ↦ rerun overflow g f a
-      ])
-  next-counted overflow g f a Finish c = pop-counted f (g .stack) c
-  next-counted overflow g f a (Rebase reason) c = pop-counted f (g .stack) c
-  next-counted overflow g f a Rerun c = keeps overflow g f a c
+module _ (next : Bool → Graph → TaskOutcome) (keeps : NextCounted next) where
+  after-pop-counted : (overflow : Bool) (g : Graph) (f : Frame) (a : Answer) (e : Ending) → CountsTrue (f ∷ g .stack)
+      → TaskCounted (afterPop next overflow f a e (tidyUp e g f))
+  after-pop-counted overflow g f a ending.Nothing c = pop-counted f (g .stack) c
+  after-pop-counted overflow g f a (ending.Fixpoint fixpoint) c = pop-counted f (g .stack) c
+  after-pop-counted overflow g f a ending.NoUsages c = pop-counted f (g .stack) c
+  after-pop-counted overflow g f a (ending.Ambiguity kind) c = pop-counted f (g .stack) c
+  after-pop-counted overflow g f a ending.Overflow c = pop-counted f (g .stack) c
+  after-pop-counted overflow g f a ending.Rerun c = keeps overflow _ (rerun-counted f (g .stack) a c)
 
-  popped-counted : (overflow : Bool) (g : Graph) (s : Stack) (a : Answer) → CountsTrue s
-      → TaskCounted (popped rerun overflow g s a)
-  popped-counted overflow g [] a c = tt
-  popped-counted overflow g (f ∷ fs) a c =
-      next-counted (overflow || f .encounteredOverflow) (withStack g fs) f a (nextOf f a) c
+  end-iteration-counted : (left : ℕ) (overflow : Bool) (g : Graph) (a : Answer) (s : Stack) → CountsTrue s
+      → TaskCounted (endIteration left next overflow g a s)
+  end-iteration-counted left overflow g a [] c = tt
+  end-iteration-counted left overflow g a (f ∷ fs) c =
+      after-pop-counted (overflow || f .encounteredOverflow) (withStack g fs) f a (endingOf left f a) c
 
-  iteration-counted : (overflow : Bool) (o : Outcome) → Counted o → TaskCounted (iteration rerun overflow o)
-  iteration-counted overflow (Done g a) c = popped-counted overflow g (g .stack) a c
-  iteration-counted overflow (Stopped r) c = tt
+  iteration-counted : (left : ℕ) (overflow : Bool) (o : Outcome) → Counted o
+      → TaskCounted (iteration left next overflow o)
+  iteration-counted left overflow (Done g a) c = end-iteration-counted left overflow g a (g .stack) c
+  iteration-counted left overflow (Stopped r) c = tt
 
 pub task-counted : (compute : Graph → Outcome) → ((g : Graph) → CountsTrue (g .stack) → Counted (compute g))
     → (left : ℕ) (overflow : Bool) (g : Graph) → CountsTrue (g .stack)
     → TaskCounted (evaluateGoalInTask compute left overflow g)
 task-counted compute keeps zero overflow g c =
-    iteration-counted stepLimitReached (λ o g1 f a c1. pop-counted f (g1 .stack) c1) overflow (compute g) (keeps g c)
+    iteration-counted _ (λ o g1 c1. tt) zero overflow (compute g) (keeps g c)
 task-counted compute keeps (suc left) overflow g c =
-    iteration-counted (λ o g1 f a. evaluateGoalInTask compute left o (pushRerun g1 f a))
-    (λ o g1 f a c1. task-counted compute keeps left o (pushRerun g1 f a) (rerun-counted f (g1 .stack) a c1))
-    overflow (compute g) (keeps g c)
+    iteration-counted (evaluateGoalInTask compute left) (task-counted compute keeps left) (suc left) overflow
+    (compute g)
+    (keeps g c)
 
 -- ---- evaluate_goal
 module _ (h : Header) (g : Graph) (input : ℕ) (step : PathKind) (available : ℕ) (c : CountsTrue (g .stack)) where

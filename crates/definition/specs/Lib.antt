@@ -12,6 +12,7 @@ pub mod GlobalCache
 pub mod ProvisionalCache
 pub mod Lookup
 pub mod Candidates
+pub mod Endings
 pub mod Task
 pub mod Part
 pub mod Evaluate

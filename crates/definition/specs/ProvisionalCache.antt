@@ -9,8 +9,10 @@ use Rattle.definition.specs.declared.paths.PathKind.{PathKind}
 use Rattle.definition.specs.declared.usages.HeadUsages.{HeadUsages}
 use Rattle.definition.specs.declared.heads.CycleHead.{CycleHead}
 use Rattle.definition.specs.declared.answers.Answer.{Answer}
-use Rattle.definition.specs.declared.answers.RebaseReason.{RebaseReason}
-use Rattle.definition.specs.declared.answers.RebaseReason.the-variants.{NoCycleUsages, Ambiguity, FirstFixpoint, LaterFixpoint}
+use Rattle.definition.specs.declared.endings.Fixpoint.{Fixpoint}
+use Rattle.definition.specs.declared.endings.Fixpoint.the-variants.{First, Later}
+use Rattle.definition.specs.declared.endings.RebaseReason.{RebaseReason}
+use Rattle.definition.specs.declared.endings.RebaseReason.the-variants.{NoCycleUsages, Ambiguity, ReachedFixpoint}
 use Rattle.definition.specs.Paths.{extend, sameKind, iterPaths, extendWithPaths, emptyPath}
 use Rattle.definition.specs.Usages.{noUsages, isEmpty, isSingle}
 use Rattle.definition.specs.Answers.{sameAnswer, isAmbiguous}
@@ -60,11 +62,14 @@ pathsKeepKind s step pathFromHead ep i (some p ∷ ps) =
     everyPhKeeps (cyclePathKind s step i) (extend (cyclePathKind s step i) pathFromHead) (iterPaths ep) (iterPaths (p .paths))
     && pathsKeepKind s step pathFromHead ep (suc i) ps
 
+abbrev pub fixpointKeeps : Fixpoint → HeadUsages → Bool
+fixpointKeeps Later u = true
+fixpointKeeps (First kind) u = isSingle u kind
+
 abbrev pub reasonKeeps : RebaseReason → Answer → HeadUsages → Bool
 reasonKeeps NoCycleUsages result u = false
 reasonKeeps (Ambiguity kind) result u = isAmbiguous result && sameAnswer result kind
-reasonKeeps LaterFixpoint result u = true
-reasonKeeps (FirstFixpoint kind) result u = isSingle u kind
+reasonKeeps (ReachedFixpoint fixpoint) result u = fixpointKeeps fixpoint u
 
 -- the heads of e after p, which e used as `u` says; nothing where e is dropped
 abbrev pub rebasedHeads : Stack → Frame → RebaseReason → Entry → HeadUsages → ℕ → Option CycleHeads

@@ -11,15 +11,6 @@ pub enum Answer {
     Overflow,
 }
 
-// Why provisional entries are rebased. `ReachedFixpoint` of the Rust holds an
-// `Option`: here `FirstFixpoint` is its `Some`, and `LaterFixpoint` its `None`.
-pub enum RebaseReason {
-    NoCycleUsages,
-    Ambiguity(Answer),
-    FirstFixpoint(PathKind),
-    LaterFixpoint,
-}
-
 impl Answer {
     pub fn number(self) -> u8
         ensures { λ r. ⌜ r ≡ answerNumber self ⌝ }

@@ -2,7 +2,7 @@
 use mathlib.Core.Path.{_≡_, refl, sym, ap, ap₂, _∙_}
 use mathlib.Core.Bool.{Bool, true, false, _||_}
 use mathlib.Core.Option.{Option, none, some}
-use mathlib.Core.List.{List, [], _∷_, _++_, append-nil, append-assoc}
+use mathlib.Core.List.{List, [], _∷_}
 use Prim.Native.Nat.{ℕ, _+_, _≤_, _<_}
 use native.Mathlib.Numerals.{add-one}
 use native.Mathlib.Omega.{arith}
@@ -14,14 +14,11 @@ use Rattle.definition.specs.Nested.{NestedGoals}
 use Rattle.definition.specs.Stack.{Stack}
 use Rattle.definition.specs.Graph.{Entry}
 use Rattle.definition.specs.Lookup.{entryMatches, firstMatch, entryApplies, anyEntryApplies}
-use Rattle.definition.specs.ProvisionalCache.{survivesRerun, survivors}
-use Rattle.buffer.specs.Regions.{region}
 use Rattle.layout.specs.Entry.{entryOf}
 use Rattle.layout.specs.Work.{entriesStart, entriesFrom, entryFrom, entriesOf}
-use Rattle.layout.proofs.Graphs.{no-entries, length-entries, entries-snoc, entries-at}
+use Rattle.layout.proofs.Graphs.{length-entries, entries-at}
 use Rattle.stack.specs.Bytes.{GraphBytes}
 use Rattle.provisional_cache.specs.Entries.{EntriesBytes, entryBytes, entryAt, entryFound, FramesKept}
-use Rattle.provisional_cache.specs.Reruns.{keptOf, Compacted}
 
 -- what is read of entry i's bytes
 pub read-at : {A : Type 0} (read : Entry → A) (goals : ℕ) (bs : List ℕ) (i : ℕ) (r : List ℕ) → r ≡ entryBytes goals i bs → read (entryOf goals r) ≡ read (entryAt goals i bs)
@@ -29,12 +26,12 @@ read-at read goals bs i r e = ap (λ (l : List ℕ). read (entryOf goals l)) e
 
 -- the entries from i on
 module _ (goals base : ℕ) (bs : List ℕ) (n i : ℕ) where
-  rest-open : i < n → drop i (entriesFrom goals base n bs) ≡ entryFrom goals base i bs ∷ drop (i + 1) (entriesFrom goals base n bs)
+  pub rest-open : i < n → drop i (entriesFrom goals base n bs) ≡ entryFrom goals base i bs ∷ drop (i + 1) (entriesFrom goals base n bs)
   rest-open lt =
       drop-cons (entriesFrom goals base n bs) i (entryFrom goals base i bs) (rw length-entries lt)
       ∙ ap₂ (λ (e : Entry) (k : ℕ). e ∷ drop k (entriesFrom goals base n bs)) (entries-at goals base (entryFrom goals base i bs) n i bs lt) (sym (add-one i))
 
-  rest-none : n ≤ i → drop i (entriesFrom goals base n bs) ≡ []
+  pub rest-none : n ≤ i → drop i (entriesFrom goals base n bs) ≡ []
   rest-none h = drop-of-length-le (entriesFrom goals base n bs) {i = i} (rw length-entries h)
 
 -- in a graph
@@ -91,68 +88,3 @@ entries-bytes goals base old new g e = record { few = g .few; low = g .low; long
 
 pub graph-bytes : (goals : ℕ) (old new : List ℕ) → GraphBytes goals old → length new ≡ length old → GraphBytes goals new
 graph-bytes goals old new g e = record { some = g .some; few = g .few; long = e ∙ g .long }
-
--- ---- the loops that compact: the entries kept so far, and what F makes of the rest, are what F makes of all
-pub record Compacting (base n : ℕ) (old new : List ℕ) (kept i : ℕ) : Type 0 where
-  pub kept-few : kept ≤ i
-  pub few : i ≤ n
-  pub same-length : length new ≡ length old
-  pub below : region 0 base new ≡ region 0 base old
-
-module _ (base n : ℕ) (old : List ℕ) where
-  pub compact-start : (i : ℕ) → i ≤ n → Compacting base n old old i i
-  compact-start i le = record { kept-few = omega arith; few = le; same-length = refl; below = refl }
-
-  -- entry i changes, and is kept or not
-  pub compact-next : (goals : ℕ) (now mid new : List ℕ) (kept i r : ℕ) (keep : Bool) → Compacting base n old now kept i → i < n
-      → length mid ≡ length now → region 0 base mid ≡ region 0 base now → Compacted goals base i kept keep mid new r → length new ≡ length mid
-      → Compacting base n old new r (i + 1)
-  compact-next goals now mid new kept i r keep inv lt len1 same made len2 =
-      let k0 = inv .kept-few in
-      let k1 = made .most in
-      record { kept-few = omega arith; few = omega arith; same-length = len2 ∙ len1 ∙ inv .same-length; below = made .below ∙ same ∙ inv .below }
-
-module _ (F : List Entry → List Entry) (goals base n : ℕ) (old : List ℕ) where
-  abbrev pub Whole : List ℕ → ℕ → ℕ → Type 0
-  Whole new kept i = entriesFrom goals base kept new ++ F (drop i (entriesFrom goals base n new)) ≡ F (entriesFrom goals base n old)
-
-  pub whole-start : Whole old 0 0
-  whole-start = ap (λ (l : List Entry). l ++ F (entriesFrom goals base n old)) (no-entries goals base old)
-
-  pub whole-next : (now mid new : List ℕ) (kept i r : ℕ) (keep : Bool) → Whole now kept i → i < n
-      → entriesFrom goals base kept mid ≡ entriesFrom goals base kept now
-      → drop (i + 1) (entriesFrom goals base n mid) ≡ drop (i + 1) (entriesFrom goals base n now)
-      → ((es : List Entry) → keptOf keep (entryFrom goals base i mid) ++ F es ≡ F (entryFrom goals base i now ∷ es))
-      → Compacted goals base i kept keep mid new r → Whole new r (i + 1)
-  whole-next now mid new kept i r keep inv lt before behind one made =
-      let es : List Entry = drop (i + 1) (entriesFrom goals base n now) in
-      let e : Entry = entryFrom goals base i mid in
-      ap₂ (λ (x y : List Entry). x ++ F y) (made .entries ∙ ap (λ (l : List Entry). l ++ keptOf keep e) before) (made .rest n ∙ behind)
-      ∙ append-assoc (entriesFrom goals base kept now) (keptOf keep e) (F es)
-      ∙ ap (λ (x : List Entry). entriesFrom goals base kept now ++ x) (one es ∙ sym (ap F (rest-open goals base now n i lt)))
-      ∙ inv
-
-  pub whole-done : F [] ≡ [] → (now : List ℕ) (kept i : ℕ) → Whole now kept i → n ≤ i → entriesFrom goals base kept now ≡ F (entriesFrom goals base n old)
-  whole-done end now kept i inv h =
-      sym (append-nil (entriesFrom goals base kept now))
-      ∙ sym (ap (λ (l : List Entry). entriesFrom goals base kept now ++ l) (ap F (rest-none goals base now n i h) ∙ end))
-      ∙ inv
-
--- an entry that stays in its place
-pub kept-in-place : (goals base i : ℕ) (bs : List ℕ) → Compacted goals base i i true bs bs (i + 1)
-kept-in-place goals base i bs =
-    record {
-      least = omega arith;
-      most = omega arith;
-      below = refl;
-      entries = ap (λ (k : ℕ). entriesFrom goals base k bs) (add-one i) ∙ entries-snoc goals base i bs;
-      rest = λ n. refl;
-    }
-
--- ---- `clear_for_rerun`
-pub survivor-first : (rerun : ℕ) (e : Entry) (keep : Bool) → keep ≡ survivesRerun rerun e → (es : List Entry) → keptOf keep e ++ survivors rerun es ≡ survivors rerun (e ∷ es)
-survivor-first rerun e keep is es = go keep (survivesRerun rerun e) is
-  where
-    go : (a b : Bool) → a ≡ b → keptOf a e ++ survivors rerun es ≡ elim b [ true ↦ e ∷ survivors rerun es | false ↦ survivors rerun es ]
-    go a true d = ap (λ (t : Bool). keptOf t e ++ survivors rerun es) d
-    go a false d = ap (λ (t : Bool). keptOf t e ++ survivors rerun es) d

@@ -15,23 +15,14 @@ use Rattle.definition.specs.declared.replies.Refusal.the-variants.{ProvisionalC
 use Rattle.definition.specs.Graph.{Entry, Outcome, Done, Stopped, withProvisionalCache, EvaluationResult}
 use Rattle.definition.specs.Heads.{highestIndex}
 use Rattle.definition.specs.Stack.{cyclePathKind}
-use Rattle.definition.specs.ProvisionalCache.{survivors, clearDependentProvisionalResultsForRerun}
 use Rattle.definition.specs.Evaluate.{newEntry, insertProvisionalCache}
 use Rattle.layout.specs.Work.{entriesStart, stackOf, entriesOf, graphOf}
-use Rattle.layout.proofs.Graphs.{length-stack, length-entries}
+use Rattle.layout.proofs.Graphs.{length-entries}
 use Rattle.stack.specs.Bytes.{frameAt}
-use Rattle.provisional_cache.specs.Entries.{entryAt, entryFound, entryOn, FramesKept}
+use Rattle.provisional_cache.specs.Entries.{entryAt, entryFound, entryOn}
 use Rattle.provisional_cache.specs.Inserts.{inserted, Inserted}
 use Rattle.provisional_cache.specs.declared.Insertion.{Insertion}
 use Rattle.provisional_cache.specs.declared.Insertion.the-variants.{Kept, Full}
-
--- ---- `clear_for_rerun`: the frame to rerun was popped
-pub cleared-graph : (goals root height n r : ℕ) (old new cache : List ℕ) → height ≤ goals → FramesKept goals old new → entriesOf goals r new ≡ survivors height (entriesOf goals n old)
-    → graphOf goals root height r new cache ≡ clearDependentProvisionalResultsForRerun (graphOf goals root height n old cache)
-cleared-graph goals root height n r old new cache le frames es =
-    let e = es ∙ ap (λ (k : ℕ). survivors k (entriesOf goals n old)) (sym (length-stack goals height old)) in
-    let s = frames .stacks height le in
-    λ t. record { rootDepth = root; stack = s t; provisionalCache = e t; globalCache = cache }
 
 -- ---- `insert`
 module _ (h : Header) (root height n goal : ℕ) (step : PathKind) (overflow : Bool) (answer : Answer) (old new cache : List ℕ) (i : Insertion)

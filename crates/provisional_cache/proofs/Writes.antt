@@ -1,33 +1,31 @@
 -- What a write of an entry does to a graph.
-use mathlib.Core.Path.{_≡_, refl, sym, ap, ap₂, _∙_, subst}
-use mathlib.Core.Bool.{Bool, true, false}
-use mathlib.Core.List.{List, [], _∷_, _++_, append-nil}
+use mathlib.Core.Path.{_≡_, sym, ap, ap₂, _∙_, subst}
+use mathlib.Core.Bool.{Bool}
+use mathlib.Core.List.{List, [], _∷_, _++_}
 use Prim.Native.Nat.{ℕ, _+_, _*_, _≤_, _<_}
-use native.Mathlib.Nat.{zero-add, le-refl, add-le-add, mul-le-mul-right}
+use native.Mathlib.Nat.{zero-add}
 use native.Mathlib.Numerals.{add-one}
 use native.Mathlib.Omega.{arith}
-use lib.ListN.{length, getD, set, drop}
+use lib.ListN.{length, getD, set}
 use Rattle.definition.specs.declared.paths.PathKind.{PathKind}
 use Rattle.definition.specs.declared.answers.Answer.{Answer}
 use Rattle.definition.specs.Graph.{Entry}
-use Rattle.definition.specs.ProvisionalCache.{survivors}
 use Rattle.buffer.specs.Regions.{region, overwrite}
 use Rattle.buffer.specs.Tables.{recordAt}
-use Rattle.buffer.proofs.Regions.{length-region, region-before, region-region, region-inside, region-snoc, byte-before, overwrite-snoc, overwrite-back, length-overwrite}
+use Rattle.buffer.proofs.Regions.{length-region, region-before, region-region, region-inside, region-snoc, byte-before, overwrite-snoc, length-overwrite}
 use Rattle.buffer.proofs.Tables.{apart, down-same}
 use Rattle.layout.specs.Blocks.{headsSize}
 use Rattle.layout.specs.Entry.{entryHeadsStart, entrySize, entryOf}
 use Rattle.layout.specs.Frame.{headsStart, frameSize, frameOf}
-use Rattle.layout.specs.Work.{entriesStart, entryStartFrom, entryStart, entriesLength, frameStart, stackOf, entriesFrom, entryFrom, entriesOf}
+use Rattle.layout.specs.Work.{entriesStart, entryStartFrom, entryStart, entriesLength, frameStart, stackOf, entriesOf}
 use Rattle.layout.proofs.Frames.{entry-heads}
-use Rattle.layout.proofs.Graphs.{into-fits, entry-room, frame-room, fits-entry, fits-whole, entries-behind, entries-under, entries-push-back}
+use Rattle.layout.proofs.Graphs.{into-fits, entry-room, frame-room, fits-entry, fits-whole, entries-under, entries-push-back}
 use Rattle.stack.specs.Bytes.{GraphBytes, frameBytes, frameAt}
 use Rattle.stack.proofs.Parts.{part, returned}
-use Rattle.provisional_cache.specs.Entries.{EntriesBytes, entryBytesFrom, entryBytes, entryAt, entryOn, withFields, FramesKept}
-use Rattle.provisional_cache.specs.Reruns.{keptOf, Compacted, Cleared}
+use Rattle.provisional_cache.specs.Entries.{EntriesBytes, entryBytes, entryAt, entryOn, withFields, FramesKept}
 use Rattle.provisional_cache.specs.Inserts.{Appended}
 use Rattle.provisional_cache.proofs.Entries.{graph-entries, part-is, entry-back, entry-whole}
-use Rattle.provisional_cache.proofs.Loops.{frames-then, graph-bytes, Compacting, Whole, whole-done}
+use Rattle.provisional_cache.proofs.Loops.{frames-then, graph-bytes}
 
 -- the bytes of a frame are among those that are kept
 frame-of : (goals : ℕ) (old new : List ℕ) (i : ℕ) → region 0 (entriesStart goals) new ≡ region 0 (entriesStart goals) old → i < goals → frameAt goals i new ≡ frameAt goals i old
@@ -62,63 +60,6 @@ module _ (goals base : ℕ) (bs : List ℕ) (long : length bs ≡ base + entries
   -- a write of entry k
   pub below-whole : (k : ℕ) (ys : List ℕ) → k < 2 * goals → length ys ≡ entrySize goals → region 0 base (overwrite bs (entryStartFrom goals base k) ys) ≡ region 0 base bs
   below-whole k ys lt whole = region-before bs (entryStartFrom goals base k) ys (fits-whole goals base bs long k ys lt whole) 0 base (omega arith)
-
-module _ (goals base : ℕ) (bs : List ℕ) (g : EntriesBytes goals base bs) where
-  -- ---- `move_entry`
-  pub move-none : (from to : ℕ) → from < 2 * goals → from ≡ to → bs ≡ overwrite bs (entryStartFrom goals base to) (entryBytesFrom goals base from bs)
-  move-none from to lt e =
-      sym (overwrite-back bs (entryStartFrom goals base from) (entrySize goals) (entry-room goals base bs (g .long) from lt))
-      ∙ ap (λ (k : ℕ). overwrite bs (entryStartFrom goals base k) (entryBytesFrom goals base from bs)) e
-
-  pub move-room : (from to : ℕ) → to ≤ from → from < 2 * goals → (a b n : ℕ) → a ≡ entryStartFrom goals base from → b ≡ entryStartFrom goals base to → n ≡ entrySize goals → (b ≤ a) × (a + n ≤ length bs)
-  move-room from to le lt a b n is-a is-b is-n = (
-    subst (λ (x : ℕ). x ≤ a) (sym is-b) (subst (λ (x : ℕ). entryStartFrom goals base to ≤ x) (sym is-a) (add-le-add (le-refl base) (mul-le-mul-right (entrySize goals) le))),
-    subst (λ (x : ℕ). x ≤ length bs) (sym (ap₂ (λ (x y : ℕ). x + y) is-a is-n)) (entry-room goals base bs (g .long) from lt),
-  )
-
-  pub move-is : (from to a b n : ℕ) (new : List ℕ) → a ≡ entryStartFrom goals base from → b ≡ entryStartFrom goals base to → n ≡ entrySize goals → new ≡ overwrite bs b (region a n bs)
-      → new ≡ overwrite bs (entryStartFrom goals base to) (entryBytesFrom goals base from bs)
-  move-is from to a b n new is-a is-b is-n is = is ∙ ap₂ (λ (k : ℕ) (l : List ℕ). overwrite bs k l) is-b (ap₂ (λ (k m : ℕ). region k m bs) is-a is-n)
-
-  -- ---- `keep_if`
-  pub keep-not : (i kept : ℕ) (keep : Bool) → keep ≡ false → Compacted goals base i kept keep bs bs kept
-  keep-not i kept keep drops =
-      record {
-        least = omega arith;
-        most = omega arith;
-        below = refl;
-        entries = sym (append-nil (entriesFrom goals base kept bs)) ∙ sym (ap (λ (t : Bool). entriesFrom goals base kept bs ++ keptOf t (entryFrom goals base i bs)) drops);
-        rest = λ n. refl;
-      }
-
-  pub keep-moved : (i kept : ℕ) (keep : Bool) (new : List ℕ) → keep ≡ true → kept ≤ i → i < 2 * goals → new ≡ overwrite bs (entryStartFrom goals base kept) (entryBytesFrom goals base i bs)
-      → Compacted goals base i kept keep bs new (kept + 1)
-  keep-moved i kept keep new keeps le lt is =
-      let ys : List ℕ = entryBytesFrom goals base i bs in
-      let whole : length ys ≡ entrySize goals = length-region (entryStartFrom goals base i) (entrySize goals) bs (entry-room goals base bs (g .long) i lt) in
-      let lo : kept < 2 * goals = omega arith in
-      record {
-        least = omega arith;
-        most = omega arith;
-        below = ap (region 0 base) is ∙ below-whole goals base bs (g .long) kept ys lo whole;
-        entries =
-            ap₂ (λ (k : ℕ) (l : List ℕ). entriesFrom goals base k l) (add-one kept) is
-            ∙ entries-push-back goals base bs (g .long) kept ys lo whole
-            ∙ sym (ap (λ (t : Bool). entriesFrom goals base kept bs ++ keptOf t (entryFrom goals base i bs)) keeps);
-        rest = λ n. ap (λ (l : List ℕ). drop (i + 1) (entriesFrom goals base n l)) is ∙ entries-behind goals base bs (g .long) kept ys lo whole i le n;
-      }
-
--- ---- `clear_for_rerun`
-pub cleared : (goals base rerun n : ℕ) (old new : List ℕ) (kept i : ℕ) → base ≡ entriesStart goals → Compacting base n old new kept i
-    → Whole (survivors rerun) goals base n old new kept i → n ≤ i → Cleared goals rerun n old new kept
-cleared goals base rerun n old new kept i is inv whole past =
-    let k0 = inv .kept-few in
-    let k1 = inv .few in
-    record {
-      few = omega arith;
-      entries = subst (λ (b : ℕ). entriesFrom goals b kept new ≡ survivors rerun (entriesFrom goals b n old)) is (whole-done (survivors rerun) goals base n old refl new kept i whole past);
-      frames = frames-of goals old new (subst (λ (b : ℕ). region 0 b new ≡ region 0 b old) is (inv .below));
-    }
 
 -- ---- `copy_up`
 pub copy-up-more : (bs s : List ℕ) (from to n i : ℕ) → s ≡ overwrite bs to (region from i bs) → from + n ≤ to → to + n ≤ length bs → i < n

@@ -1,4 +1,3 @@
 pub mod Entries
 pub mod Matches
-pub mod Reruns
 pub mod Inserts

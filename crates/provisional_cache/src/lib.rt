@@ -14,11 +14,10 @@ ghost use Rattle.definition.specs.Lookup.{noneOrAbove, entryMatches, entryAppli
 ghost use Rattle.layout.specs.Blocks.{headsSize};
 ghost use Rattle.layout.specs.Frame.{headsStart};
 ghost use Rattle.layout.specs.Entry.{entryHeadsStart, entryOf};
-ghost use Rattle.layout.specs.Work.{entryStartFrom, entryStart, stackOf, entriesOf};
+ghost use Rattle.layout.specs.Work.{entryStart, stackOf, entriesOf};
 ghost use Rattle.stack.specs.Bytes.{GraphBytes, StackBytes, frameBytes, frameAt};
 ghost use Rattle.provisional_cache.specs.Entries.{EntryBytes, EntriesBytes, entryBytesFrom, entryBytes, entryOn};
 ghost use Rattle.provisional_cache.specs.Matches.{lowestHead, hidden, FirstMatch};
-ghost use Rattle.provisional_cache.specs.Reruns.{Compacted, Cleared};
 ghost use Rattle.provisional_cache.specs.Inserts.{pathFromHighest, Appended, Inserted};
 
 pub mod entry;
@@ -179,59 +178,6 @@ pub fn any_applies(
         i = i + 1;
     }
     false
-}
-
-// Entry `from` takes the place of entry `to`, which does not come after it.
-fn move_entry(bytes: &mut [u8], goals: usize, base: usize, from: usize, to: usize)
-    requires { ⌜ EntriesBytes goals base (now bytes) × ((to ≤ from) × (from < 2 * goals)) ⌝ }
-    ensures { λ _. ⌜ now (bytes .exit)
-        ≡ overwrite (now (bytes .entry)) (entryStartFrom goals base to)
-        (entryBytesFrom goals base from (now (bytes .entry))) ⌝ }
-{
-    if from == to {
-        return;
-    }
-    let a = offsets::entry_start_from(goals, base, from);
-    let b = offsets::entry_start_from(goals, base, to);
-    buffer::copy_within(bytes, a, b, offsets::entry_size(goals));
-}
-
-// Entry i is put after the `kept` first ones, where it is to be kept: how many these are
-// then.
-pub fn keep_if(
-    bytes: &mut [u8],
-    goals: usize,
-    base: usize,
-    keep: bool,
-    i: usize,
-    kept: usize,
-) -> usize
-    requires { ⌜ EntriesBytes goals base (now bytes) × ((kept ≤ i) × (i < 2 * goals)) ⌝ }
-    ensures { λ r. ⌜ Compacted goals base i kept keep (now (bytes .entry)) (now (bytes .exit)) r ⌝ }
-{
-    if !keep {
-        return kept;
-    }
-    move_entry(bytes, goals, base, i, kept);
-    kept + 1
-}
-
-// clear_dependent_provisional_results_for_rerun: how many entries are left. The frame at
-// index `rerun` has a new provisional result, so that entries that were given the old one are
-// wrong. An entry that only came by the frame, and used no result of it, is kept.
-pub fn clear_for_rerun(graph: &mut [u8], goals: usize, rerun: usize, entries: usize) -> usize
-    requires { ⌜ GraphBytes goals (now graph) × ((rerun < goals) × (entries ≤ 2 * goals)) ⌝ }
-    ensures { λ r. ⌜ Cleared goals rerun entries (now (graph .entry)) (now (graph .exit)) r ⌝ }
-{
-    let base = offsets::entries_start(goals);
-    let mut kept: usize = 0;
-    let mut i: usize = 0;
-    while i < entries {
-        let keep = entry::survives_rerun(entry_from(graph, goals, base, i), goals, rerun);
-        kept = keep_if(graph, goals, base, keep, i, kept);
-        i = i + 1;
-    }
-    kept
 }
 
 // Copies n bytes to a place behind them.

@@ -16,7 +16,7 @@ use Rattle.definition.specs.declared.replies.Refusal.the-variants.{Unreachable}
 use Rattle.definition.specs.Part.{Book, partAt}
 use Rattle.definition.specs.Graph.{Graph, withStack}
 use Rattle.definition.specs.Graph as graph
-use Rattle.definition.specs.Task.{evaluateGoalInTask}
+use Rattle.definition.specs.Task.{evaluateGoalInTask, iteration}
 use Rattle.definition.specs.Task as task
 use Rattle.definition.specs.Evaluate.{evalPart, computeGoal, newFrame, afterTask, evaluateNewFrame, evaluateGoalWith, evaluateGoal}
 use Rattle.layout.specs.Work.{mergedOf, stackOf}
@@ -34,8 +34,8 @@ use Rattle.lookup.specs.declared.Found.the-variants.{Known, Push}
 use Rattle.lookup.specs.Lookups.{found}
 use Rattle.task.specs.declared.Iteration.{Iteration}
 use Rattle.task.specs.declared.Iteration.the-variants.{End, Again}
-use Rattle.task.specs.Turns.{turn, turned, FewTurned, CountsTurned}
-use Rattle.task.proofs.Turns.{turn-is}
+use Rattle.task.specs.Turns.{nextTurn, turned, FewTurned, CountsTurned}
+use Rattle.task.proofs.Turns.{turn-is, next-is}
 use Rattle.search_graph.specs.Calls.{Running, evaluator, goalFrom, taskFrom, Comes, TaskComes, partFrom, computed}
 use Rattle.search_graph.specs.Between.{LookedUp, Pushed, IterationEnded, Finished}
 
@@ -260,10 +260,10 @@ module _ {f : Graph → graph.Outcome} {goals root height most : ℕ} {whole : t
     {work1 cache1 : List ℕ} {o : Outcome}
     (read : Comes goals root height (height - 1) (f (graphAt goals root height n work cache)) work work1 cache1 o)
     {work2 : List ℕ} {r : Iteration} (ended : IterationEnded goals height left overflow o work1 work2 r) where
-  goes-on : turned goals root height (evaluateGoalInTask f (left - 1)) (graphIn goals work2) cache1 r ≡ whole
+  goes-on : turned goals root height (nextTurn f left) (graphIn goals work2) cache1 r ≡ whole
   goes-on =
-      sym (ended .is root cache1 (evaluateGoalInTask f (left - 1)))
-      ∙ ap (turn left (evaluateGoalInTask f (left - 1)) overflow) (read .is)
+      sym (ended .is root cache1 (nextTurn f left))
+      ∙ ap (iteration left (nextTurn f left) overflow) (read .is)
       ∙ sym (turn-is f left overflow (graphAt goals root height n work cache))
       ∙ here .value
 
@@ -274,8 +274,7 @@ module _ {f : Graph → graph.Outcome} {goals root height most : ℕ} {whole : t
   unfolding turned
   turn-ends t e =
       record {
-        is = sym (ap (turned goals root height (evaluateGoalInTask f (left - 1)) (graphIn goals work2) cache1) e)
-            ∙ goes-on;
+        is = sym (ap (turned goals root height (nextTurn f left) (graphIn goals work2) cache1) e) ∙ goes-on;
         few = subst (FewTurned goals left) e (ended .few);
         merged = merged-on;
       }
@@ -293,8 +292,9 @@ module _ {f : Graph → graph.Outcome} {goals root height most : ℕ} {whole : t
       record {
         low = omega arith;
         few = subst (FewTurned goals left) e (ended .few) .0;
-        value = sym (ap (turned goals root height (evaluateGoalInTask f (left - 1)) (graphIn goals work2) cache1) e)
-            ∙ goes-on;
+        value =
+            sym (ap (λ (next : Bool → Graph → task.TaskOutcome). next met (graphAt goals root height m work2 cache1)) (next-is f left some))
+            ∙ sym (ap (turned goals root height (nextTurn f left) (graphIn goals work2) cache1) e) ∙ goes-on;
         merged = merged-on;
         counts = subst (CountsTurned (stackIn goals height work2)) e (ended .counts);
       }

@@ -10,6 +10,7 @@ use Rattle.definition.specs.Stack.{Stack, CountsTrue}
 use Rattle.definition.specs.Evaluate.{evaluateGoalWith, newFrame, afterTask}
 use Rattle.layout.specs.Work.{graphLength, stackOf, entriesOf, graphOf}
 use Rattle.stack.specs.Bytes.{StackBytes}
+use Rattle.definition.specs.Task.{iteration}
 use Rattle.stack.proofs.Parts.{part, returned}
 use Rattle.evaluation.specs.declared.Outcome.{Outcome}
 use Rattle.evaluation.specs.declared.TaskOutcome.{TaskOutcome}
@@ -20,7 +21,7 @@ use Rattle.lookup.specs.declared.Found.{Found}
 use Rattle.lookup.specs.Lookups.{found}
 use Rattle.lookup.specs.Answers.{Answered}
 use Rattle.task.specs.declared.Iteration.{Iteration}
-use Rattle.task.specs.Turns.{turn, turned, CountsTurned}
+use Rattle.task.specs.Turns.{turned, CountsTurned}
 use Rattle.task.specs.Iterations.{TurnTaken}
 use Rattle.task.specs.Results as results
 use Rattle.search_graph.specs.Between.{LookedUp, Pushed, IterationEnded, Finished}
@@ -108,7 +109,7 @@ module _
     iteration-ended height left overflow o r taken =
         record {
           is = λ root cache next.
-              ap (λ (bs : List ℕ). turn left next overflow (outcomeOf goals root height bs cache o)) (sym (lent-graph goals work w n is))
+              ap (λ (bs : List ℕ). iteration left next overflow (outcomeOf goals root height bs cache o)) (sym (lent-graph goals work w n is))
               ∙ taken .is root cache next
               ∙ ap (λ (bs : List ℕ). turned goals root height next bs cache r) (sym (graph-back goals work w n is ys kept));
           few = taken .few;

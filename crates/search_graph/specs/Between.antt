@@ -20,7 +20,7 @@ use Rattle.lookup.specs.declared.Found.{Found}
 use Rattle.lookup.specs.declared.Found.the-variants.{Push}
 use Rattle.lookup.specs.Lookups.{found}
 use Rattle.task.specs.declared.Iteration.{Iteration}
-use Rattle.task.specs.Turns.{turn, turned, CountsTurned, FewTurned}
+use Rattle.task.specs.Turns.{turned, CountsTurned, FewTurned}
 
 -- the merged usages are as they were
 abbrev pub MergedKept : ℕ → List ℕ → List ℕ → Type 0
@@ -54,7 +54,7 @@ pub record Pushed (goals height goal : ℕ) (step : PathKind) (available : ℕ) 
 
 pub record IterationEnded (goals height left : ℕ) (overflow : Bool) (o : Outcome) (old new : List ℕ) (r : Iteration) : Type 0 where
   pub is : (root : ℕ) (cache : List ℕ) (next : Bool → Graph → task.TaskOutcome)
-      → turn left next overflow (outcomeOf goals root height (graphIn goals old) cache o)
+      → task.iteration left next overflow (outcomeOf goals root height (graphIn goals old) cache o)
       ≡ turned goals root height next (graphIn goals new) cache r
   pub few : FewTurned goals left r
   pub counts : CountsTurned (stackIn goals height new) r

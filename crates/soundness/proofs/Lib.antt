@@ -22,6 +22,7 @@ pub mod Mixed
 pub mod Orders
 pub mod Parts
 pub mod Pigeons
+pub mod Pop
 pub mod Queries
 pub mod Reach
 pub mod Reading
@@ -32,6 +33,7 @@ pub mod Sample
 pub mod SampleAlways
 pub mod SampleBooks
 pub mod SampleGroups
+pub mod SamplePop
 pub mod SampleSets
 pub mod SampleStatement
 pub mod SampleTrace

@@ -1,43 +1,47 @@
 -- A pushed frame: its runs, until it is popped for good.
 use mathlib.Core.Bool.{Bool}
-use mathlib.Core.List.{List, [], _∷_}
+use mathlib.Core.List.{List, _∷_}
 use mathlib.Core.Logic.{_⊎_, inl, inr}
-use mathlib.Core.Option.{Option, none, some}
+use mathlib.Core.Option.{Option, some}
 use mathlib.Core.Path.{_∙_, _≡_, ap, refl, sym}
 use Prim.Native.Nat.{_*_, _<_, _≤_, suc, zero, ℕ}
 use native.Mathlib.Omega.{arith}
 use lib.Dec.{T}
 use lib.ListN.{length}
-use Rattle.definition.specs.Graph.{Done, Entry, EvaluationResult, Graph, Outcome, Stopped, finalize, withStack}
+use Rattle.definition.specs.Answers.{isAmbiguous}
+use Rattle.definition.specs.Endings.{endingOf, tidyUp}
+use Rattle.definition.specs.Graph.{Done, EvaluationResult, Graph, Outcome, Stopped, finalize, withStack}
 use Rattle.definition.specs.Parent.{orNoUsages}
 use Rattle.definition.specs.Stack.{Frame, Stack}
-use Rattle.definition.specs.Task.{Evaluated, Finish, Next, Rebase, Rerun, TaskOutcome, TaskStopped, endIteration, evaluateGoalInTask, iteration, nextOf, nextOfHead, pushRerun, rebased, rerunFrame, stepLimitReached}
+use Rattle.definition.specs.Task.{Evaluated, TaskOutcome, TaskStopped, afterPop, evaluateGoalInTask, iteration, pushRerun, rerunFrame}
 use Rattle.definition.specs.Usages.{noUsages}
 use Rattle.definition.specs.declared.answers.Answer.{Answer}
 use Rattle.definition.specs.declared.answers.Answer.the-variants.{Overflow}
-use Rattle.definition.specs.declared.answers.RebaseReason.{RebaseReason}
-use Rattle.definition.specs.declared.answers.RebaseReason.the-variants.{Ambiguity}
+use Rattle.definition.specs.declared.endings.Ending.{Ending}
+use Rattle.definition.specs.declared.endings.Ending.the-variants as ending
 use Rattle.definition.specs.declared.paths.PathKind.{PathKind}
 use Rattle.definition.specs.declared.usages.HeadUsages.{HeadUsages}
-use Rattle.soundness.specs.Always.{EventInOrder, Every, Expected, FrameInOrder, FramesInOrder, HasHead, Known}
-use Rattle.soundness.specs.Trace.{MeetsOnly, Trace, after, traceNext, traceTask}
-use Rattle.soundness.proofs.Logic.{nobody}
+use Rattle.soundness.specs.Always.{EventInOrder, Every, Expected, FrameInOrder, FramesInOrder, HasHead, HeadsBelow, Known}
+use Rattle.soundness.specs.Trace.{MeetsOnly, Trace, after, ifRerun, traceNext, traceTask}
+use Rattle.definition.proofs.Reruns.{rerun-left}
+use Rattle.soundness.proofs.Logic.{clash, nobody}
 use Rattle.soundness.proofs.Traces.{only-append}
 use Rattle.soundness.proofs.World.{World}
-use Rattle.soundness.proofs.Counters.{Reads, counter, counter-none, limit-positive}
-use Rattle.soundness.proofs.Assumed.{A, Base, Within, assumes-none, baseOf, basesOf, length-bases}
+use Rattle.soundness.proofs.Counters.{Reads, counter, limit-positive}
+use Rattle.soundness.proofs.Assumed.{A, Base, Within, baseOf, basesOf, length-bases}
 use Rattle.soundness.proofs.Inv.{After, BasesOk, CacheOk, EntryOk, Gain, Inv, State, Change, all-above, readsOf, top-gains, under-above}
 use Rattle.soundness.proofs.Changes.{every-map}
 use Rattle.soundness.proofs.Parts.{RightGoal}
-use Rattle.soundness.proofs.Settle.{Turn, Why, again, ends, mixed, settled, turn, without}
-use Rattle.soundness.proofs.Rebase.{Rest, finished, rebased-fewer, rebased-ok, survivors-fewer, survivors-ok}
+use Rattle.soundness.proofs.Pop.{tidied-fewer, tidies-entries}
+use Rattle.soundness.proofs.Settle.{Turn, Why, again, ends, first, kept-why, later, limit, mixed, no-head, settled, turn, unread, why-not}
+use Rattle.soundness.proofs.Rebase.{KeepsRight, Rest, entry-under, not-known, tidied-ok}
 
 -- what is known when the frame on fs is popped for good
 pub record Finished (W : World) (xs : List Base) (fs : Stack) (goal available : ℕ) (g : Graph) (r : EvaluationResult) : Type 0 where
   pub stack : g .stack ≡ fs
   pub claims : T (W .claim (r .result) (A W xs (readsOf (r .heads))) goal)
   pub heads : length (r .heads) ≡ W .book .header .goals
-  pub below : (i : ℕ) → HasHead (r .heads) i → i < length fs
+  pub below : HeadsBelow (length fs) (r .heads)
   pub nested : length (r .nestedGoals) ≡ W .book .header .goals
   pub required : r .requiredDepth ≤ available
   pub inv : Inv W xs (λ i. Known fs i ⊎ HasHead (r .heads) i) g
@@ -85,44 +89,45 @@ module _ (W : World) (xs : List Base) (fs : Stack) (goal available : ℕ) (here 
     top : (k : PathKind) → 0 < reads (length xs) k → 0 < counter (orNoUsages (f .usages)) k
     right : RightGoal W (x ∷ xs) (x .goal) reads a
 
-  finish : (x : Base) (f : Frame) (g : Graph) (a : Answer) → Ran x f g a → (o : Bool) (r : Answer) (es : List Entry)
-      → T (W .claim r (A W xs (readsOf (f .heads))) (x .goal)) → Every (EntryOk W xs (Rest W x xs f fs len)) es
-      → length es ≤ length (g .provisionalCache)
-      → Finished W xs fs goal available (record { rootDepth = g .rootDepth; stack = fs; provisionalCache = es; globalCache = g .globalCache })
-      (finalize f o r)
-  finish x f g a v o r es c w l =
-      record {
-        stack = refl;
-        claims = rw (v .isGoal) at c;
-        heads = v .frame .heads;
-        below = v .frame .below;
-        nested = v .frame .nested;
-        required = omega (arith, v .isDepth, ap (λ (y : Base). y .depth) (v .same));
-        inv =
-            record {
-              here = here;
-              root = v .root;
-              frames = framesOk;
-              entries = w;
-              live = omega (arith, v .live);
-              cache = v .cache;
-            };
-      }
+  -- f ends for the reason w with the answer r, of which c is the claim
+  module _ (x : Base) (f : Frame) (g : Graph) (a : Answer) (v : Ran x f g a) (o : Bool) (end : Ending) (r : Answer)
+      (w : Why (x .provisional) (f .usages) r end) (c : T (W .claim r (A W xs (readsOf (f .heads))) (x .goal))) where
+    abbrev remains : Graph
+    remains = tidyUp end (withStack g fs) f
 
-  not-a-head : (x : Base) (f : Frame) (g : Graph) (a : Answer) (o : Bool) → Ran x f g a → f .usages ≡ none
-      → Finished W xs fs goal available (withStack g fs) (finalize f o a)
-  not-a-head x f g a o v e =
-      finish x f g a v o a (g .provisionalCache)
-      (without W x xs (v .reads) (readsOf (f .heads)) noUsages a (v .under) (rw e at (v .top)) (under-above W x xs (v .bases) (readsOf (f .heads))) (v .right)
-      (assumes-none (W .start (x .goal)) (x .provisional) (counter noUsages) counter-none))
-      (every-map _ _ (λ y w. finished W x xs f fs len y w e) (g .provisionalCache) (v .entries)) (omega arith)
+    keeps-right : KeepsRight W x xs f fs len end
+    keeps-right u s k t = go (kept-why (W .start (x .goal)) w u s k t)
+      where
+        go : (r ≡ W .start (x .goal)) ⊎ T (isAmbiguous s)
+            → T (W .claim (W .start (x .goal)) (A W xs (readsOf (f .heads))) (x .goal)) ⊎ T (isAmbiguous s)
+        go (inl z) = inl (rw z at c)
+        go (inr m) = inr m
 
-  rebase : (x : Base) (f : Frame) (g : Graph) (a : Answer) (o : Bool) → Ran x f g a → (u : HeadUsages) (reason : RebaseReason) (r : Answer)
-      → Why (x .provisional) u r reason
-      → T (W .claim r (A W xs (readsOf (f .heads))) (x .goal)) → Task (rebased (withStack g fs) f reason o r)
-  rebase x f g a o v u reason r w c =
-      finish x f g a v o r _ c (rebased-ok W x xs f fs len reason u r w small c (g .provisionalCache) (v .entries))
-      (rebased-fewer fs f reason (g .provisionalCache))
+    entries-left : Every (EntryOk W xs (Rest W x xs f fs len)) (remains .provisionalCache)
+    entries-left =
+        tidied-ok W x xs f fs len end (λ z. not-known W x xs f fs len (why-not w .1 z)) small keeps-right _ (λ i k. k)
+        (λ z. absurd (why-not w .0 z)) g (v .entries)
+
+    finish : Finished W xs fs goal available remains (finalize f o r)
+    finish =
+        rw (tidies-entries end (withStack g fs) f)
+        (record {
+          stack = refl;
+          claims = rw (v .isGoal) at c;
+          heads = v .frame .heads;
+          below = v .frame .below;
+          nested = v .frame .nested;
+          required = omega (arith, v .isDepth, ap (λ (y : Base). y .depth) (v .same));
+          inv =
+              record {
+                here = here;
+                root = v .root;
+                frames = framesOk;
+                entries = entries-left;
+                live = omega (arith, v .live, tidied-fewer end (withStack g fs) f);
+                cache = v .cache;
+              };
+        })
 
   -- a run from g₀, whose stack has f₀ on fs, ends in g
   abbrev Popped : Base → Graph → Stack → Answer → Type 0
@@ -158,42 +163,46 @@ module _ (W : World) (xs : List Base) (fs : Stack) (goal available : ℕ) (here 
   ran x f₀ g₀ g a d i j v st s r =
       popped-ran x f₀ g a i j v (rw st at (s .gain)) (s .inv) (s .inv .here) (s .inv .frames) r
 
-  RerunOk : (Bool → Graph → Frame → Answer → TaskOutcome) → Type 0
-  RerunOk more = (o : Bool) (x : Base) (f : Frame) (g : Graph) (a : Answer) → Ran x f g a → Task (more o (withStack g fs) f a)
+  -- f is pushed again
+  abbrev rerunFrom : Graph → Frame → Answer → Graph
+  rerunFrom g f a = pushRerun (tidyUp ending.Rerun (withStack g fs) f) f a
 
-  module _ (more : Bool → Graph → Frame → Answer → TaskOutcome) (ok : RerunOk more) where
-    turn-ok : (x : Base) (f : Frame) (g : Graph) (a : Answer) (o : Bool) → Ran x f g a → (u : HeadUsages) → f .usages ≡ some u → (n : Next)
-        → Turn (f .provisionalResult) u a n → nextOf f a ≡ n
-        → Task (endIteration more o (withStack g fs) f a)
-    unfolding RerunOk
-    turn-ok x f g a o v u h (Rebase reason) (ends w) e =
-        let z : f .provisionalResult ≡ x .provisional = ap (λ (y : Base). y .provisional) (v .same) in
-        let w′ : Why (x .provisional) u a reason = rw z at w in
-        rw (e, endIteration)
-        (rebase x f g a o v u reason a w′ (settled W x xs (v .reads) (readsOf (f .heads)) u a (v .under) (rw h at (v .top))
-        (under-above W x xs (v .bases) (readsOf (f .heads))) (v .right) w′))
-    turn-ok x f g a o v u h Rerun again e = rw (e, endIteration) (ok o x f g a v)
+  -- the next turn of the loop
+  abbrev NextOk : ℕ → (Bool → Graph → TaskOutcome) → Type 0
+  NextOk left next =
+      (o : Bool) (x : Base) (f : Frame) (g : Graph) (a : Answer) → Ran x f g a → endingOf left f a ≡ ending.Rerun
+      → Task (next o (rerunFrom g f a))
 
-    next-ok : (x : Base) (f : Frame) (g : Graph) (a : Answer) (o : Bool) → Ran x f g a → (u : Option HeadUsages) → f .usages ≡ u
-        → Task (endIteration more o (withStack g fs) f a)
-    next-ok x f g a o v none e =
-        let z : nextOf f a ≡ Finish = ap (λ (w : Option HeadUsages). elim w [ none ↦ Finish | some u ↦ nextOfHead (f .provisionalResult) u a ]) e in
-        rw (z, endIteration) (not-a-head x f g a o v e)
-    next-ok x f g a o v (some u) e =
-        turn-ok x f g a o v u e _ (turn (f .provisionalResult) u a)
-        (ap (λ (w : Option HeadUsages). elim w [ none ↦ Finish | some u ↦ nextOfHead (f .provisionalResult) u a ]) e)
+  module _ (left : ℕ) (next : Bool → Graph → TaskOutcome) (ok : NextOk left next) where
+    ended : {p : Option Answer} {u : Option HeadUsages} {a : Answer} {end : Ending} → Why p u a end
+        → (o : Bool) (f : Frame) (g : Graph) → afterPop next o f a end g ≡ Evaluated g (finalize f o a)
+    ended (no-head e) o f g = refl
+    ended (later e) o f g = refl
+    ended (first e s) o f g = refl
+    ended (unread s) o f g = refl
+    ended (mixed s) o f g = refl
 
-    run-ok : (x : Base) (f₀ : Frame) (g₀ : Graph) (o : Bool) → x .goal ≡ goal → x .depth ≡ available → BasesOk W (x ∷ xs) → g₀ .stack ≡ f₀ ∷ fs
-        → (out : Outcome)
-        → After W (x ∷ xs) g₀ (RightGoal W (x ∷ xs) (x .goal)) out → Task (iteration more o out)
+    turn-ok : (x : Base) (f : Frame) (g : Graph) (a : Answer) (o : Bool) → Ran x f g a → {end : Ending}
+        → endingOf left f a ≡ end → Turn (x .provisional) (f .usages) a end
+        → Task (afterPop next o f a end (tidyUp end (withStack g fs) f))
+    turn-ok x f g a o v {end} e (ends w) =
+        rw (ended w o f (tidyUp end (withStack g fs) f))
+        (finish x f g a v o end a w
+        (settled W x xs (v .reads) (readsOf (f .heads)) (f .usages) a (v .under) (v .top)
+        (under-above W x xs (v .bases) (readsOf (f .heads))) (v .right) w))
+    turn-ok x f g a o v e limit =
+        finish x f g a v o (ending.Ambiguity Overflow) Overflow (mixed tt)
+        (W .ambiguous Overflow tt (A W xs (readsOf (f .heads))) (x .goal))
+    turn-ok x f g a o v e again = ok o x f g a v e
+
+    run-ok : (x : Base) (f₀ : Frame) (g₀ : Graph) (o : Bool) → x .goal ≡ goal → x .depth ≡ available
+        → BasesOk W (x ∷ xs) → g₀ .stack ≡ f₀ ∷ fs
+        → (out : Outcome) → After W (x ∷ xs) g₀ (RightGoal W (x ∷ xs) (x .goal)) out → Task (iteration left next o out)
     run-ok x f₀ g₀ o i j v st (Done g a) (d, s, r) =
-        let (f, e, w) = ran x f₀ g₀ g a d i j v st s r in rw e (next-ok x f g a _ w (f .usages) refl)
+        let (f, e, w) = ran x f₀ g₀ g a d i j v st s r in
+        let z : f .provisionalResult ≡ x .provisional = ap (λ (y : Base). y .provisional) (w .same) in
+        rw e (turn-ok x f g a _ w refl (rw z at (turn left (f .provisionalResult) (f .usages) a)))
     run-ok x f₀ g₀ o i j v st (Stopped r) t = t
-
-  limit-ok : RerunOk stepLimitReached
-  unfolding RerunOk
-  limit-ok o x f g a v =
-      rebase x f g a o v noUsages (Ambiguity Overflow) Overflow (mixed tt) (W .ambiguous Overflow tt (A W xs (readsOf (f .heads))) (x .goal))
 
   -- ---- the loop
   abbrev rerun-base : Base → Answer → Base
@@ -219,27 +228,38 @@ module _ (W : World) (xs : List Base) (fs : Stack) (goal available : ℕ) (here 
   rerun-frame : {f : Frame} {a : Answer} → FrameInOrder (W .book .header) (length fs) f → FrameInOrder (W .book .header) (length fs) (rerunFrame f a)
   rerun-frame v = record { goal = v .goal; depth = v .depth; reached = v .reached; heads = v .heads; below = v .below; nested = v .nested }
 
+  rest-known : (x : Base) (f : Frame) (g : Graph) (a : Answer) → Ran x f g a → (i : ℕ) → Rest W x xs f fs len i
+      → Known (rerunFrame f a ∷ fs) i
+  rest-known x f g a v i (inl k) = inr (inr k)
+  rest-known x f g a v i (inr p) = inr (inl (v .frame .below i p, p))
+
   rerun-inv : (x : Base) (f : Frame) (g : Graph) (a : Answer) → Ran x f g a
-      → Inv W (rerun-base x a ∷ xs) (Known (rerunFrame f a ∷ fs)) (pushRerun (withStack g fs) f a)
+      → Inv W (rerun-base x a ∷ xs) (Known (rerunFrame f a ∷ fs)) (rerunFrom g f a)
   rerun-inv x f g a v =
       record {
         here = ap (λ (y : Base). rerun-base y a ∷ basesOf fs) (v .same) ∙ ap (λ (ys : List Base). rerun-base x a ∷ ys) here;
         root = v .root;
         frames = (rerun-frame (v .frame), framesOk);
-        entries = survivors-ok W x xs f fs len (rerun-base x a) (rerunFrame f a) (rerun-known f a) (g .provisionalCache) (v .entries);
-        live = omega (arith, survivors-fewer (length fs) (g .provisionalCache), v .live);
+        entries =
+            every-map _ _ (entry-under W (rerun-base x a) xs (Known (rerunFrame f a ∷ fs)))
+            (rerunFrom g f a .provisionalCache)
+            (tidied-ok W x xs f fs len ending.Rerun (λ z. clash (cc)) small (λ u r k. absurd k) _
+            (rest-known x f g a v) (λ z. rerun-known f a) g (v .entries));
+        live = omega (arith, v .live, tidied-fewer ending.Rerun (withStack g fs) f);
         cache = v .cache;
       }
 
-  pub task-ok : (compute : ℕ → Graph → Outcome) → ComputesGoal W xs compute → (left : ℕ) (o : Bool) (x : Base) (f : Frame) (g : Graph)
+  pub task-ok : (compute : ℕ → Graph → Outcome) → ComputesGoal W xs compute
+      → (left : ℕ) (o : Bool) (x : Base) (f : Frame) (g : Graph)
       → x .goal ≡ goal → x .depth ≡ available → BasesOk W (x ∷ xs) → g .stack ≡ f ∷ fs
       → State W (x ∷ xs) g → Task (evaluateGoalInTask (compute goal) left o g)
-  unfolding RerunOk
-  task-ok compute ok zero o x f g i j v st inv = run-ok stepLimitReached limit-ok x f g o i j v st (compute goal g) (rw (← i) (ok x v g inv))
+  task-ok compute ok zero o x f g i j v st inv =
+      run-ok zero _ (λ o′ x′ f′ g′ a w z. absurd (omega (arith, rerun-left zero f′ a z)))
+      x f g o i j v st (compute goal g) (rw (← i) (ok x v g inv))
   task-ok compute ok (suc left) o x f g i j v st inv =
-      run-ok (λ o g f a. evaluateGoalInTask (compute goal) left o (pushRerun g f a))
-      (λ o′ x′ f′ g′ a w. task-ok compute ok left o′ (rerun-base x′ a) (rerunFrame f′ a) (pushRerun (withStack g′ fs) f′ a) (w .isGoal) (w .isDepth)
-      (rerun-bases x′ f′ g′ a w) refl (rerun-inv x′ f′ g′ a w))
+      run-ok (suc left) (evaluateGoalInTask (compute goal) left)
+      (λ o′ x′ f′ g′ a w z. task-ok compute ok left o′ (rerun-base x′ a) (rerunFrame f′ a) (rerunFrom g′ f′ a)
+      (w .isGoal) (w .isDepth) (rerun-bases x′ f′ g′ a w) refl (rerun-inv x′ f′ g′ a w))
       x f g o i j v st (compute goal g) (rw (← i) (ok x v g inv))
 
   -- ---- what the runs meet
@@ -249,24 +269,26 @@ module _ (W : World) (xs : List Base) (fs : Stack) (goal available : ℕ) (here 
       → BasesOk W (x ∷ xs) → g .stack ≡ f ∷ fs → State W (x ∷ xs) g
       → Ordered W (trace g)
 
-  next-meets : (n : Next) (t : Trace) → Ordered W t
-      → Ordered W (elim n [ Finish ↦ [] | Rebase reason ↦ [] | Rerun ↦ t ])
-  next-meets Finish t v = tt
-  next-meets (Rebase reason) t v = tt
-  next-meets Rerun t v = v
+  next-meets : (end : Ending) (t : Trace) → Ordered W t → Ordered W (ifRerun end t)
+  next-meets ending.Nothing t v = tt
+  next-meets (ending.Fixpoint fixpoint) t v = tt
+  next-meets ending.NoUsages t v = tt
+  next-meets (ending.Ambiguity kind) t v = tt
+  next-meets ending.Overflow t v = tt
+  next-meets ending.Rerun t v = v
 
-  run-meets : (more : Graph → Trace) → MeetsFrom more
+  run-meets : (left : ℕ) (more : Graph → Trace) → MeetsFrom more
       → (x : Base) (f₀ : Frame) (g₀ : Graph) → x .goal ≡ goal → x .depth ≡ available
       → BasesOk W (x ∷ xs) → g₀ .stack ≡ f₀ ∷ fs
       → (out : Outcome) → After W (x ∷ xs) g₀ (RightGoal W (x ∷ xs) (x .goal)) out
-      → Ordered W (after out λ g a. traceNext more g (g .stack) a)
-  run-meets more k x f₀ g₀ i j v st (Done g a) (d, s, r) =
+      → Ordered W (after out λ g a. traceNext left more g (g .stack) a)
+  run-meets left more k x f₀ g₀ i j v st (Done g a) (d, s, r) =
       let (f, e, w) = ran x f₀ g₀ g a d i j v st s r in
       rw e
-      (next-meets (nextOf f a) (more (pushRerun (withStack g fs) f a))
-      (k (rerun-base x a) (rerunFrame f a) (pushRerun (withStack g fs) f a) (w .isGoal) (w .isDepth)
+      (next-meets (endingOf left f a) (more (rerunFrom g f a))
+      (k (rerun-base x a) (rerunFrame f a) (rerunFrom g f a) (w .isGoal) (w .isDepth)
       (rerun-bases x f g a w) refl (rerun-inv x f g a w)))
-  run-meets more k x f₀ g₀ i j v st (Stopped r) t = tt
+  run-meets left more k x f₀ g₀ i j v st (Stopped r) t = tt
 
   pub task-meets : (compute : ℕ → Graph → Outcome) → ComputesGoal W xs compute
       → (trace : ℕ → Graph → Trace) → TracesGoal W xs trace → (left : ℕ)
@@ -274,5 +296,5 @@ module _ (W : World) (xs : List Base) (fs : Stack) (goal available : ℕ) (here 
   task-meets compute ok trace meets zero x f g i j v st inv = rw (← i) (meets x v g inv)
   task-meets compute ok trace meets (suc left) x f g i j v st inv =
       only-append (EventInOrder (W .book .header)) (trace goal g) _ (rw (← i) (meets x v g inv))
-      (run-meets (traceTask (compute goal) (trace goal) left) (task-meets compute ok trace meets left)
+      (run-meets (suc left) (traceTask (compute goal) (trace goal) left) (task-meets compute ok trace meets left)
       x f g i j v st (compute goal g) (rw (← i) (ok x v g inv)))

@@ -43,13 +43,13 @@ distinct : Distinct (0 ∷ 1 ∷ [])
 distinct = ((λ e. omega arith, tt), (tt, tt))
 
 -- ---- states. Two goals, T 0; the frame of goal 1 stands on that of goal 0, which is a head of it
-abbrev someHead : CycleHead
+abbrev pub someHead : CycleHead
 someHead = record { paths = 1; usages = noUsages }
 
 abbrev head0 : CycleHeads
 head0 = some someHead ∷ none ∷ []
 
-abbrev head1 : CycleHeads
+abbrev pub head1 : CycleHeads
 head1 = none ∷ some someHead ∷ []
 
 abbrev noHead : CycleHeads
@@ -77,7 +77,7 @@ bottom = frame 0 0 0 noHead (some noUsages)
 abbrev top : Frame
 top = frame 1 0 0 head0 none
 
-abbrev entry : CycleHeads → Entry
+abbrev pub entry : CycleHeads → Entry
 entry heads = record { input = 1; encounteredOverflow = false; heads = heads; pathFromHead = Inductive; result = No }
 
 abbrev graph : ℕ → Stack → List Entry → List ℕ → Graph
@@ -96,7 +96,7 @@ abbrev missing : {A : Type 0} → Option A → Bool
 missing none = true
 missing (some x) = false
 
-not-there : {A : Type 0} (o : Option A) (x : A) → o ≡ some x → T (missing o) → ⊥
+pub not-there : {A : Type 0} (o : Option A) (x : A) → o ≡ some x → T (missing o) → ⊥
 not-there o x e t = subst (λ o. T (missing o)) e t
 
 none-there : (i : ℕ) → HasHead noHead i → ⊥

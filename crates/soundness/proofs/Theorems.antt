@@ -1,4 +1,4 @@
--- The theorems. What they say stands in specs/: Sets, Statement, Groups, Trace and Always.
+-- The theorems. What they say stands in specs/: Sets, Statement, Groups, Trace, Always and Pop.
 use mathlib.Core.Bool.{Bool}
 use mathlib.Core.List.{List}
 use mathlib.Core.Option.{some}
@@ -12,9 +12,11 @@ use Rattle.definition.specs.declared.format.Line.{Line}
 use Rattle.definition.specs.declared.replies.Refusal.the-variants.{CacheConflict, ProvisionalCacheFull}
 use Rattle.soundness.specs.Always.{Always, Conflict, Follows, Full, InOrder, NeverUnreachable, OnlyUnder}
 use Rattle.soundness.specs.Groups.{GroupsFit, RightByGroups, StepsAreLines}
+use Rattle.soundness.specs.Pop.{PopKeepsHeads}
 use Rattle.soundness.specs.Sets.{GreatestSelfSupporting, LeastClosed, greatest, least}
 use Rattle.soundness.specs.Statement.{Demand3}
 use Rattle.soundness.proofs.Fixpoints.{greatest-is, least-is}
+use Rattle.soundness.proofs.Pop.{keeps-heads}
 use Rattle.soundness.proofs.Reading.{any-read}
 use Rattle.soundness.proofs.StepLines.{steps-are-lines}
 use Rattle.soundness.proofs.Demand3.{demand-3-of-groups, groups-fit, right-by-groups}
@@ -64,3 +66,7 @@ refused-when-full = only-when-full
 
 pub refused-on-conflict : OnlyUnder CacheConflict Conflict
 refused-on-conflict = only-on-conflict
+
+-- ---- after document 02's pop no entry has a head off the stack
+pub pop-keeps-heads : PopKeepsHeads
+pop-keeps-heads = keeps-heads

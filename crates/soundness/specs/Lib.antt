@@ -3,3 +3,4 @@ pub mod Statement
 pub mod Groups
 pub mod Trace
 pub mod Always
+pub mod Pop

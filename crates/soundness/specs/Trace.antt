@@ -8,10 +8,13 @@ use Rattle.definition.specs.declared.paths.PathKind.{PathKind}
 use Rattle.definition.specs.declared.paths.PathKind.the-variants.{Inductive}
 use Rattle.definition.specs.declared.answers.Answer.{Answer}
 use Rattle.definition.specs.declared.answers.Answer.the-variants.{No, Yes}
+use Rattle.definition.specs.declared.endings.Ending.{Ending}
+use Rattle.definition.specs.declared.endings.Ending.the-variants as ending
 use Rattle.definition.specs.declared.format.Header.{Header}
 use Rattle.definition.specs.declared.replies.Refusal.the-variants.{Unreachable}
 use Rattle.definition.specs.Answers.{sameAnswer}
 use Rattle.definition.specs.Candidates.{enterSingleCandidate, finishSingleCandidate}
+use Rattle.definition.specs.Endings.{endingOf, pop}
 use Rattle.definition.specs.Evaluate.{Evaluator, computeGoal, evalPart, evaluateGoal, evaluateGoalWith, newFrame}
 use Rattle.definition.specs.Graph.{Done, EvaluationResult, Graph, Outcome, Stopped, withStack}
 use Rattle.definition.specs.Heads.{headsEmpty}
@@ -20,7 +23,7 @@ use Rattle.definition.specs.Parent.{Ordinary, updateParentGoal}
 use Rattle.definition.specs.Part.{All, Any, Book, Call, End, Node, Part, Parts, Pick, Then, UndecidedLine, partAt}
 use Rattle.definition.specs.Query.{newGraph}
 use Rattle.definition.specs.Stack.{Stack}
-use Rattle.definition.specs.Task.{Evaluated, Finish, Rebase, Rerun, TaskOutcome, TaskStopped, evaluateGoalInTask, nextOf, pushRerun}
+use Rattle.definition.specs.Task.{Evaluated, TaskOutcome, TaskStopped, evaluateGoalInTask, pushRerun}
 
 pub data Act : Type 0 where
   -- evaluate_goal begins on a goal; it computes the goal, once in each iteration; it ends with an answer
@@ -89,20 +92,25 @@ traceCompute evaluate trace b input g =
 
 -- ---- evaluate_goal_in_task
 
+-- what is met after an ending: nothing after any but a rerun
+abbrev pub ifRerun : Ending → Trace → Trace
+ifRerun ending.Nothing next = []
+ifRerun (ending.Fixpoint fixpoint) next = []
+ifRerun ending.NoUsages next = []
+ifRerun (ending.Ambiguity kind) next = []
+ifRerun ending.Overflow next = []
+ifRerun ending.Rerun next = next
+
 -- an iteration's end: the frame on top is pushed again where it runs again
-abbrev pub traceNext : (Graph → Trace) → Graph → Stack → Answer → Trace
-traceNext rerun g [] result = []
-traceNext rerun g (f ∷ fs) result =
-    elim (nextOf f result) [
-      | Finish ↦ []
-      | Rebase reason ↦ []
-      | Rerun ↦ rerun (pushRerun (withStack g fs) f result)
-    ]
+abbrev pub traceNext : ℕ → (Graph → Trace) → Graph → Stack → Answer → Trace
+traceNext left rerun g [] result = []
+traceNext left rerun g (f ∷ fs) result =
+    ifRerun (endingOf left f result) (rerun (pushRerun (pop ending.Rerun (withStack g (f ∷ fs))) f result))
 
 abbrev pub traceTask : (Graph → Outcome) → (Graph → Trace) → ℕ → Graph → Trace
 traceTask compute trace zero g = trace g
 traceTask compute trace (suc left) g =
-    trace g ++ after (compute g) λ g1 a. traceNext (traceTask compute trace left) g1 (g1 .stack) a
+    trace g ++ after (compute g) λ g1 a. traceNext (suc left) (traceTask compute trace left) g1 (g1 .stack) a
 
 -- ---- evaluate_goal
 abbrev pub traceInsert : Header → Graph → ℕ → EvaluationResult → Trace

@@ -1,4 +1,4 @@
-pub mod Choices
+pub mod Endings
 pub mod Nested
 pub mod Insertions
 pub mod Counts

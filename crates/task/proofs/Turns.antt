@@ -1,130 +1,206 @@
 -- The end of an iteration.
-use mathlib.Core.Path.{_≡_, refl, sym, ap, _∙_}
+use mathlib.Core.Path.{_≡_, refl, sym, ap, ap₂, _∙_, subst}
 use mathlib.Core.Bool.{Bool, _||_}
-use mathlib.Core.List.{List, _∷_}
-use Prim.Native.Nat.{ℕ, zero, suc, _+_, _-_, _≤_, _<_}
+use mathlib.Core.List.{List, [], _∷_}
+use Prim.Native.Nat.{ℕ, zero, suc, _+_, _-_, _*_, _≤_, _<_}
 use native.Mathlib.Omega.{arith}
+use mathlib.Core.Logic.{⊎-elim}
+use types.Run.{OneOf}
+use denote.Enum.Declared.{tagOf}
 use Rattle.definition.specs.declared.answers.Answer.{Answer}
 use Rattle.definition.specs.declared.answers.Answer.the-variants.{Overflow}
-use Rattle.definition.specs.declared.answers.RebaseReason.{RebaseReason}
-use Rattle.definition.specs.declared.answers.RebaseReason.the-variants.{Ambiguity}
+use Rattle.definition.specs.declared.endings.Ending.{Ending}
+use Rattle.definition.proofs.endings.Ending.{the-type}
+use Rattle.definition.specs.declared.endings.Ending.the-variants as ending
 use Rattle.definition.specs.declared.replies.Refusal.{Refusal}
-use Rattle.definition.specs.Stack.{Stack, Frame}
-use Rattle.definition.specs.Graph.{Graph, finalize}
+use Rattle.definition.specs.Stack.{Stack, Frame, CountsTrue}
+use Rattle.definition.specs.Graph.{Graph, finalize, withStack}
 use Rattle.definition.specs.Graph as graph
+use Rattle.definition.specs.Endings.{endingOf, pop}
 use Rattle.definition.specs.Task as task
+use Rattle.definition.proofs.Reruns.{rerun-left}
 use Rattle.layout.specs.Frame.{frameOf}
-use Rattle.layout.specs.Work.{stackOf, entriesOf, graphOf}
-use Rattle.stack.specs.Bytes.{frameBytes, frameAt}
+use Rattle.layout.specs.Work.{stackOf, graphOf}
+use Rattle.stack.specs.Bytes.{StackBytes, frameBytes, frameAt}
+use Rattle.stack.specs.Written.{TopChanged}
 use Rattle.stack.proofs.Loops.{top}
-use Rattle.provisional_cache.specs.Reruns.{Cleared}
-use Rattle.provisional_cache.proofs.Outcomes.{cleared-graph}
+use Rattle.stack.proofs.Counts.{rerun-true}
 use Rattle.provisional_cache.proofs.Writes.{frame-kept}
-use Rattle.rebase.specs.Rebased.{Rebased}
+use Rattle.pop.specs.Endings as pops
 use Rattle.evaluation.specs.declared.Outcome.{Outcome}
 use Rattle.evaluation.specs.declared.Outcome.the-variants.{Done, Stopped}
-use Rattle.evaluation.specs.declared.TaskOutcome.{TaskOutcome}
 use Rattle.evaluation.specs.declared.TaskOutcome.the-variants.{Evaluated, TaskStopped}
 use Rattle.evaluation.specs.Outcomes.{outcomeOf, taskOutcomeOf}
 use Rattle.task.specs.declared.Iteration.{Iteration}
 use Rattle.task.specs.declared.Iteration.the-variants.{End, Again}
-use Rattle.task.specs.declared.after.Next.{Next}
-use Rattle.task.specs.declared.after.Next.the-variants.{Finish, Rebase, Rerun}
-use Rattle.task.specs.Turns.{nextFor, rerunBy, turn, turned}
+use Rattle.task.specs.Turns.{nextTurn, turned, FewLeft, FewTurned}
+use Rattle.task.specs.Iterations.{FramePopped, Followed, TurnTaken}
 
--- ---- `rebased`
-pub rebased-task : (goals root own n r : ℕ) (old new cache : List ℕ) (reason : RebaseReason) (overflow : Bool) (answer : Answer) → own < goals → Rebased goals own reason n old new r
-    → taskOutcomeOf goals root own new cache (Evaluated answer overflow r) ≡ task.rebased (graphOf goals root own n old cache) (frameAt goals own old) reason overflow answer
-unfolding taskOutcomeOf
-rebased-task goals root own n r old new cache reason overflow answer lt made =
-    let s = made .frames .stacks own (omega arith) in
-    let f = frame-kept goals old new own (made .frames) lt in
-    let es = made .entries in
-    λ t. task.Evaluated (record { rootDepth = root; stack = s t; provisionalCache = es t; globalCache = cache }) (finalize (f t) overflow answer)
+abbrev Next : Type 0
+Next = Bool → Graph → task.TaskOutcome
 
--- ---- an end, in a turn with one frame more
-pub end-turn : (goals root own : ℕ) (next : Bool → Graph → task.TaskOutcome) (bs cache : List ℕ) (o : TaskOutcome) → taskOutcomeOf goals root own bs cache o ≡ turned goals root (own + 1) next bs cache (End o)
-unfolding turned
-end-turn goals root own next bs cache o = let e : own ≡ own + 1 - 1 = omega arith in ap (λ (k : ℕ). taskOutcomeOf goals root k bs cache o) e
+-- ---- `popped`, by the numbers of the endings' variants
+ends-so : (e : Ending) → OneOf (0 ∷ 1 ∷ 2 ∷ 3 ∷ 4 ∷ []) (tagOf the-type e) → (answer : Answer)
+    → (e ≡ ending.Overflow → answer ≡ Overflow) → (next : Next) (overflow : Bool) (f : Frame) (g : Graph)
+    → task.afterPop next overflow f answer e g ≡ task.Evaluated g (finalize f overflow answer)
+ends-so ending.Nothing k answer h next overflow f g = refl
+ends-so (ending.Fixpoint fixpoint) k answer h next overflow f g = refl
+ends-so ending.NoUsages k answer h next overflow f g = refl
+ends-so (ending.Ambiguity kind) k answer h next overflow f g = refl
+ends-so ending.Overflow k answer h next overflow f g =
+    ap (λ (a : Answer). task.Evaluated g (finalize f overflow a)) (sym (h refl))
+ends-so ending.Rerun k answer h next overflow f g =
+    absurd (⊎-elim (λ x. omega arith)
+    (⊎-elim (λ x. omega arith) (⊎-elim (λ x. omega arith) (⊎-elim (λ x. omega arith) (λ x. omega arith)))) k)
 
--- ---- `again`
-module _ (goals root own n left : ℕ) (old cache : List ℕ) (next : Bool → Graph → task.TaskOutcome) (overflow : Bool) (answer : Answer) where
-  pub again-none : left ≡ 0 → (new : List ℕ) (o : TaskOutcome)
-      → taskOutcomeOf goals root own new cache o ≡ task.rebased (graphOf goals root own n old cache) (frameAt goals own old) (Ambiguity Overflow) overflow Overflow
-      → rerunBy left next overflow (graphOf goals root own n old cache) (frameAt goals own old) answer ≡ turned goals root (own + 1) next new cache (End o)
-  again-none z new o e =
-      ap (λ (k : ℕ). rerunBy k next overflow (graphOf goals root own n old cache) (frameAt goals own old) answer) z ∙ sym e ∙ end-turn goals root own next new cache o
+module _ (goals height n : ℕ) (e : Ending) (overflow : Bool) (answer : Answer) (old : List ℕ)
+    (st : StackBytes goals height old)
+    (some : 1 ≤ height) (few : n ≤ 2 * goals) (mid : List ℕ) (kept : ℕ)
+    (popped : pops.FramePopped goals height e n old mid kept) where
+  abbrev own : ℕ
+  own = height - 1
 
-  pub again-some : 0 < left → own < goals → (r : ℕ) (mid new : List ℕ) → Cleared goals own n old mid r
-      → stackOf goals (own + 1) new ≡ task.rerunFrame (frameAt goals own mid) answer ∷ stackOf goals own mid → ((k : ℕ) → entriesOf goals k new ≡ entriesOf goals k mid)
-      → rerunBy left next overflow (graphOf goals root own n old cache) (frameAt goals own old) answer ≡ turned goals root (own + 1) next new cache (Again overflow r)
+  abbrev f : Frame
+  f = frameAt goals own old
+
+  left-few : kept ≤ 2 * goals
+  left-few = let l = popped .few in omega arith
+
+  -- the goal's outcome
+  pub over : OneOf (0 ∷ 1 ∷ 2 ∷ 3 ∷ 4 ∷ []) (tagOf the-type e) → (e ≡ ending.Overflow → answer ≡ Overflow)
+      → FramePopped goals height e n overflow answer old mid (End (Evaluated answer overflow kept))
+  unfolding turned taskOutcomeOf
+  over k limit =
+      let h = st .high in
+      let same = sym (frame-kept goals old mid own (popped .frames) (omega arith)) in
+      record {
+        is = λ root cache next.
+            ends-so e k answer limit next overflow f (pop e (graphOf goals root height n old cache))
+            ∙ ap₂ (λ (x : Frame) (g : Graph). task.Evaluated g (finalize x overflow answer)) same
+            (sym (popped .is root cache));
+        few = left-few;
+        counts = tt;
+      }
+
+  -- the frame is on top again
+  pub again : e ≡ ending.Rerun → (new : List ℕ) → TopChanged goals own (λ f. task.rerunFrame f answer) mid new
+      → FramePopped goals height e n overflow answer old new (Again overflow kept)
   unfolding turned
-  again-some pos lt r mid new cleared stack entries =
-      let z : left ≡ suc (left - 1) = omega arith in
-      let kept = cleared .frames in
-      let f = sym (frame-kept goals old mid own kept lt) in
-      let s = (λ t. task.rerunFrame (f t) answer ∷ sym (kept .stacks own (omega arith)) t) ∙ sym stack in
-      let c = sym (cleared-graph goals root own n r old mid cache (omega arith) kept (cleared .entries)) in
-      let e = ap (λ (x : Graph). x .provisionalCache) c ∙ sym (entries r) in
-      ap (λ (k : ℕ). rerunBy k next overflow (graphOf goals root own n old cache) (frameAt goals own old) answer) z
-      ∙ ap (next overflow) (λ t. record { rootDepth = root; stack = s t; provisionalCache = e t; globalCache = cache })
+  again is new w =
+      let whole : own + 1 ≡ height = omega arith in
+      let h = st .high in
+      let same = sym (frame-kept goals old mid own (popped .frames) (omega arith)) in
+      let s = sym (ap (λ (k : ℕ). stackOf goals k new) (sym whole) ∙ w .stack) in
+      let es = sym (w .entries kept) in
+      record {
+        is = λ root cache next.
+            ap₂ (λ (x : Ending) (g : Graph). task.afterPop next overflow f answer x g) is (sym (popped .is root cache))
+            ∙ ap (λ (x : Frame). next overflow (task.pushRerun (graphOf goals root own kept mid cache) x answer)) same
+            ∙ ap (next overflow)
+            (λ t. record { rootDepth = root; stack = s t; provisionalCache = es t; globalCache = cache });
+        few = (left-few, is);
+        counts =
+            subst (λ (k : ℕ). CountsTrue (stackOf goals k new)) whole
+            (rerun-true goals own answer mid new w
+            (subst (λ (k : ℕ). CountsTrue (stackOf goals k mid)) (sym whole)
+            (subst CountsTrue (sym (popped .frames .stacks height (st .high))) (st .counts))));
+      }
 
--- ---- `popped`
-module _ (rerun : Bool → Graph → Frame → Answer → task.TaskOutcome) (overflow : Bool) (g : Graph) (f : Frame) (answer : Answer) (met : Bool) (is-met : met ≡ (overflow || f .encounteredOverflow)) (nx : Next) (is-next : nextFor nx ≡ task.nextOf f answer) where
-  abbrev followed : Bool → task.Next → task.TaskOutcome
-  followed m x = elim x [ task.Finish ↦ task.Evaluated g (finalize f m answer) | task.Rebase reason ↦ task.rebased g f reason m answer | task.Rerun ↦ rerun m g f answer ]
+-- ---- `followed`
 
-  pub follows : task.endIteration rerun (overflow || f .encounteredOverflow) g f answer ≡ followed met (nextFor nx)
-  follows = sym (λ t. followed (is-met t) (is-next t))
+-- any ending but the step limit's
+pub not-limit : (e : Ending) → OneOf (0 ∷ 1 ∷ 2 ∷ 3 ∷ 5 ∷ []) (tagOf the-type e) → e ≡ ending.Overflow → ⊥
+not-limit e k is =
+    let z : OneOf (0 ∷ 1 ∷ 2 ∷ 3 ∷ 5 ∷ []) 4 =
+    subst (λ (x : Ending). OneOf (0 ∷ 1 ∷ 2 ∷ 3 ∷ 5 ∷ []) (tagOf the-type x)) is k in
+    ⊎-elim (λ x. omega arith) (⊎-elim (λ x. omega arith)
+    (⊎-elim (λ x. omega arith) (⊎-elim (λ x. omega arith) (λ x. omega arith)))) z
 
-  pub follows-finish : nx ≡ Finish → task.endIteration rerun (overflow || f .encounteredOverflow) g f answer ≡ task.Evaluated g (finalize f met answer)
-  follows-finish is = follows ∙ ap (λ (x : Next). followed met (nextFor x)) is
-
-  pub follows-rebase : (reason : RebaseReason) → nx ≡ Rebase reason → task.endIteration rerun (overflow || f .encounteredOverflow) g f answer ≡ task.rebased g f reason met answer
-  follows-rebase reason is = follows ∙ ap (λ (x : Next). followed met (nextFor x)) is
-
-  pub follows-rerun : nx ≡ Rerun → task.endIteration rerun (overflow || f .encounteredOverflow) g f answer ≡ rerun met g f answer
-  follows-rerun is = follows ∙ ap (λ (x : Next). followed met (nextFor x)) is
-
-pub finished-turn : (goals root own n : ℕ) (next : Bool → Graph → task.TaskOutcome) (bs cache : List ℕ) (met : Bool) (answer : Answer)
-    → task.Evaluated (graphOf goals root own n bs cache) (finalize (frameAt goals own bs) met answer) ≡ turned goals root (own + 1) next bs cache (End (Evaluated answer met n))
-unfolding taskOutcomeOf
-finished-turn goals root own n next bs cache met answer = end-turn goals root own next bs cache (Evaluated answer met n)
-
--- whether overflow was met, read from the frame's bytes
-pub met-is : (goals own : ℕ) (bs r : List ℕ) (overflow b met : Bool) → r ≡ frameBytes goals own bs → b ≡ (frameOf goals r) .encounteredOverflow → met ≡ (overflow || b)
+-- what is read of the frame's bytes
+pub met-is : (goals own : ℕ) (bs r : List ℕ) (overflow b met : Bool) → r ≡ frameBytes goals own bs
+    → b ≡ (frameOf goals r) .encounteredOverflow → met ≡ (overflow || b)
     → met ≡ (overflow || (frameAt goals own bs) .encounteredOverflow)
-met-is goals own bs r overflow b met is e m = m ∙ ap (λ (x : Bool). overflow || x) (e ∙ ap (λ (l : List ℕ). (frameOf goals l) .encounteredOverflow) is)
+met-is goals own bs r overflow b met is e m =
+    m
+    ∙ ap (λ (x : Bool). overflow || x) (e ∙ ap (λ (l : List ℕ). (frameOf goals l) .encounteredOverflow) is)
 
-pub next-is : (goals own : ℕ) (bs r : List ℕ) (answer : Answer) (x : task.Next) → r ≡ frameBytes goals own bs → x ≡ task.nextOf (frameOf goals r) answer → x ≡ task.nextOf (frameAt goals own bs) answer
-next-is goals own bs r answer x is e = e ∙ ap (λ (l : List ℕ). task.nextOf (frameOf goals l) answer) is
+pub ending-is : (goals own left : ℕ) (bs r : List ℕ) (answer : Answer) (x : Ending) → r ≡ frameBytes goals own bs
+    → x ≡ endingOf left (frameOf goals r) answer
+    → x ≡ endingOf left (frameAt goals own bs) answer
+ending-is goals own left bs r answer x is e = e ∙ ap (λ (l : List ℕ). endingOf left (frameOf goals l) answer) is
+
+module _ (goals height n left : ℕ) (overflow : Bool) (answer : Answer) (old : List ℕ) (some : 1 ≤ height) (met : Bool)
+    (is-met : met ≡ (overflow || (frameAt goals (height - 1) old) .encounteredOverflow))
+    (e : Ending) (is-e : e ≡ endingOf left (frameAt goals (height - 1) old) answer) (new : List ℕ) (r : Iteration) where
+  abbrev frame : Frame
+  frame = frameAt goals (height - 1) old
+
+  opened : (root : ℕ) (cache : List ℕ) (next : Next)
+      → task.endIteration left next overflow (graphOf goals root height n old cache) answer (stackOf goals height old)
+      ≡ task.afterPop next met frame answer e (pop e (graphOf goals root height n old cache))
+  opened root cache next =
+      let g : Graph = graphOf goals root height n old cache in
+      let s = top goals old height some in
+      ap (task.endIteration left next overflow g answer) s
+      ∙ ap (λ (x : Stack). task.afterPop next (overflow || frame .encounteredOverflow) frame answer
+      (endingOf left frame answer) (pop (endingOf left frame answer) (withStack g x))) (sym s)
+      ∙ ap₂ (λ (m : Bool) (x : Ending). task.afterPop next m frame answer x (pop x g)) (sym is-met) (sym is-e)
+
+  few-turned : (i : Iteration) → FewLeft goals e i → FewTurned goals left i
+  few-turned (End t) w = w
+  few-turned (Again m k) w = (w .0, rerun-left left frame answer (sym is-e ∙ w .1))
+
+  pub follows : FramePopped goals height e n met answer old new r
+      → Followed goals height n left overflow answer old new r
+  follows made =
+      record {
+        is = λ root cache next. opened root cache next ∙ made .is root cache next;
+        few = few-turned r (made .few);
+        counts = made .counts;
+      }
+
+  -- past the step limit
+  pub follows-limit : e ≡ ending.Overflow → FramePopped goals height ending.Overflow n met Overflow old new r
+      → Followed goals height n left overflow answer old new r
+  follows-limit is made =
+      follows (record {
+        is = λ root cache next.
+            ap (λ (x : Ending). task.afterPop next met frame answer x
+            (pop x (graphOf goals root height n old cache))) is ∙ made .is root cache next;
+        few = subst (λ (x : Ending). FewLeft goals x r) (sym is) (made .few);
+        counts = made .counts;
+      })
 
 -- ---- `end_iteration`
-module _ (goals root height left : ℕ) (next : Bool → Graph → task.TaskOutcome) (overflow : Bool) (bs cache : List ℕ) (o : Outcome) where
-  pub turn-stopped : (r : Refusal) → o ≡ Stopped r → turn left next overflow (outcomeOf goals root height bs cache o) ≡ turned goals root height next bs cache (End (TaskStopped r))
+module _ (goals height left : ℕ) (overflow : Bool) (bs : List ℕ) (o : Outcome) where
+  pub turn-stopped : (r : Refusal) → o ≡ Stopped r → TurnTaken goals height left overflow o bs bs (End (TaskStopped r))
   unfolding outcomeOf taskOutcomeOf turned
-  turn-stopped r is = ap (λ (x : Outcome). turn left next overflow (outcomeOf goals root height bs cache x)) is
+  turn-stopped r is =
+      record {
+        is = λ root cache next. ap (λ (x : Outcome). task.iteration left next overflow
+            (outcomeOf goals root height bs cache x)) is;
+        few = tt;
+        counts = tt;
+      }
 
-  pub turn-done : (answer : Answer) (n : ℕ) → o ≡ Done answer n → 1 ≤ height → (new : List ℕ) (r : Iteration)
-      → task.endIteration (rerunBy left next) (overflow || (frameAt goals (height - 1) bs) .encounteredOverflow) (graphOf goals root (height - 1) n bs cache) (frameAt goals (height - 1) bs) answer
-      ≡ turned goals root (height - 1 + 1) next new cache r
-      → turn left next overflow (outcomeOf goals root height bs cache o) ≡ turned goals root height next new cache r
+  pub turn-done : (answer : Answer) (n : ℕ) → o ≡ Done answer n → (new : List ℕ) (r : Iteration)
+      → Followed goals height n left overflow answer bs new r → TurnTaken goals height left overflow o bs new r
   unfolding outcomeOf
-  turn-done answer n is pos new r e =
-      let z : height - 1 + 1 ≡ height = omega arith in
-      ap (λ (x : Outcome). turn left next overflow (outcomeOf goals root height bs cache x)) is
-      ∙ ap (λ (s : Stack). task.popped (rerunBy left next) overflow (graphOf goals root height n bs cache) s answer) (top goals bs height pos)
-      ∙ e
-      ∙ ap (λ (k : ℕ). turned goals root k next new cache r) z
+  turn-done answer n is new r w =
+      record {
+        is = λ root cache next.
+            ap (λ (x : Outcome). task.iteration left next overflow (outcomeOf goals root height bs cache x)) is
+            ∙ w .is root cache next;
+        few = w .few;
+        counts = w .counts;
+      }
 
 -- a turn is one of the definition's, with those after it
 pub turn-is : (compute : Graph → graph.Outcome) (left : ℕ) (overflow : Bool) (g : Graph)
-    → task.evaluateGoalInTask compute left overflow g ≡ turn left (task.evaluateGoalInTask compute (left - 1)) overflow (compute g)
+    → task.evaluateGoalInTask compute left overflow g ≡ task.iteration left (nextTurn compute left) overflow (compute g)
 turn-is compute zero overflow g = refl
-turn-is compute (suc left) overflow g =
-    let e : left ≡ suc left - 1 = omega arith in
-    ap (λ (k : ℕ). turn (suc left) (task.evaluateGoalInTask compute k) overflow (compute g)) e
+turn-is compute (suc left) overflow g = refl
 
--- no more are left than there were
-pub fewer : (r n m : ℕ) → r ≤ n → n ≤ m → r ≤ m
-fewer r n m p q = omega arith
+pub next-is : (compute : Graph → graph.Outcome) (left : ℕ) → 0 < left
+    → nextTurn compute left ≡ task.evaluateGoalInTask compute (left - 1)
+next-is compute left some = let e : left ≡ suc (left - 1) = omega arith in ap (nextTurn compute) e

@@ -1,9 +1,8 @@
 // The parts of evaluate_goal and evaluate_goal_in_task of mod.rs that evaluate no goal:
 // the end of an iteration, and what follows a goal's last one.
-use after::Next;
 use buffer::scalars;
 use definition::answers::Answer;
-use definition::answers::RebaseReason;
+use definition::endings::Ending;
 use definition::format::Header;
 use definition::paths::PathKind;
 use evaluation::Outcome;
@@ -12,12 +11,14 @@ use stack::frame;
 ghost use mathlib.Core.Path.{_≡_};
 ghost use Prim.Native.Nat.{_*_, _≤_, _<_};
 ghost use lib.ListN.{length};
+ghost use Rattle.definition.specs.declared.answers.Answer.the-variants as answers;
+ghost use Rattle.definition.specs.declared.endings.Ending.the-variants as endings;
 ghost use Rattle.stack.specs.Bytes.{GraphBytes, StackBytes};
 ghost use Rattle.task.specs.Places.{IterationEnded, TaskEnded};
-ghost use Rattle.task.specs.Iterations.{TaskRebased, RunAgain, FramePopped, TurnTaken};
+ghost use Rattle.task.specs.Iterations.{FramePopped, Followed, TurnTaken};
 ghost use Rattle.task.specs.Results.{ParentUpdated, Finished};
 
-mod after;
+mod ending;
 mod insert;
 
 // After an iteration: the goal's outcome, or another iteration, with whether overflow
@@ -27,85 +28,59 @@ pub enum Iteration {
     Again(bool, usize),
 }
 
-// ---- the end of an iteration; the frame at index `own` was popped
+// ---- the end of an iteration
 
-// The entries that depend on the frame are rebased.
-fn rebased(
-    graph: &mut [u8],
-    goals: usize,
-    own: usize,
-    entries: usize,
-    reason: RebaseReason,
-    overflow: bool,
-    answer: Answer,
-) -> TaskOutcome
-    requires { ⌜ StackBytes goals own (now graph) × ((own < goals) × (entries ≤ 2 * goals)) ⌝ }
-    ensures { λ r. ⌜ TaskRebased goals own entries reason overflow answer
-        (now (graph .entry)) (now (graph .exit)) r ⌝ }
-{
-    let left = rebase::rebase_provisional_cache_entries(graph, goals, own, reason, entries);
-    TaskOutcome::Evaluated(answer, overflow, left)
-}
-
-// Another iteration, unless none is left. Entries that used the frame's last provisional
-// result go, for it has another one now. The frame keeps what is read only once its goal is
-// done: its heads, nested goals and the depth reached. Its overflow and usages start afresh.
-fn again(
-    graph: &mut [u8],
-    goals: usize,
-    own: usize,
-    entries: usize,
-    left: usize,
-    overflow: bool,
-    answer: Answer,
-) -> Iteration
-    requires { ⌜ StackBytes goals own (now graph) × ((own < goals) × (entries ≤ 2 * goals)) ⌝ }
-    ensures { λ r. ⌜ RunAgain goals own entries left overflow answer
-        (now (graph .entry)) (now (graph .exit)) r ⌝ }
-{
-    if left == 0 {
-        let reason = RebaseReason::Ambiguity(Answer::Overflow);
-        let o = rebased(
-            graph,
-            goals,
-            own,
-            entries,
-            reason,
-            overflow,
-            Answer::Overflow,
-        );
-        return Iteration::End(o);
-    }
-    let kept = provisional_cache::clear_for_rerun(graph, goals, own, entries);
-    stack::reset_for_rerun(graph, goals, own, answer);
-    Iteration::Again(overflow, kept)
-}
-
-// What follows the iteration. That an iteration met overflow counts for the goal, though the
-// frame forgets it in a rerun.
+// The frame on top is popped: the goal's outcome, or the frame on top again. In a rerun it keeps
+// what is read only once its goal is done: its heads, nested goals and the depth reached. Its
+// overflow and usages start afresh.
 fn popped(
     graph: &mut [u8],
     goals: usize,
-    own: usize,
+    height: usize,
+    ending: Ending,
+    entries: usize,
+    overflow: bool,
+    answer: Answer,
+) -> Iteration
+    requires { ⌜ StackBytes goals height (now graph)
+        × ((1 ≤ height) × ((entries ≤ 2 * goals) × (ending ≡ endings.Overflow → answer ≡ answers.Overflow))) ⌝ }
+    ensures { λ r. ⌜ FramePopped goals height ending entries overflow answer
+        (now (graph .entry)) (now (graph .exit)) r ⌝ }
+{
+    let kept = pop::pop(graph, goals, height, ending, entries);
+    match ending {
+        Ending::Rerun => {
+            stack::reset_for_rerun(graph, goals, height - 1, answer);
+            Iteration::Again(overflow, kept)
+        }
+        _ => Iteration::End(TaskOutcome::Evaluated(answer, overflow, kept)),
+    }
+}
+
+// What follows the iteration: past the step limit the goal's answer is an overflow. That an
+// iteration met overflow counts for the goal, though the frame forgets it in a rerun.
+fn followed(
+    graph: &mut [u8],
+    goals: usize,
+    height: usize,
     entries: usize,
     left: usize,
     overflow: bool,
     answer: Answer,
 ) -> Iteration
-    requires { ⌜ StackBytes goals own (now graph) × ((own < goals) × (entries ≤ 2 * goals)) ⌝ }
-    ensures { λ r. ⌜ FramePopped goals own entries left overflow answer
+    requires { ⌜ StackBytes goals height (now graph) × ((1 ≤ height) × (entries ≤ 2 * goals)) ⌝ }
+    ensures { λ r. ⌜ Followed goals height entries left overflow answer
         (now (graph .entry)) (now (graph .exit)) r ⌝ }
 {
-    let f = stack::frame_at(graph, goals, own);
+    let f = stack::frame_at(graph, goals, height - 1);
     let met = scalars::either(overflow, frame::overflow(f, goals));
-    let follows = after::next_of(f, goals, answer);
-    match follows {
-        Next::Finish => Iteration::End(TaskOutcome::Evaluated(answer, met, entries)),
-        Next::Rebase(reason) => {
-            let o = rebased(graph, goals, own, entries, reason, met, answer);
-            Iteration::End(o)
+    let ending = ending::ending_of(f, goals, left, answer);
+    match ending {
+        Ending::Overflow => {
+            let limit = Ending::Overflow;
+            popped(graph, goals, height, limit, entries, met, Answer::Overflow)
         }
-        Next::Rerun => again(graph, goals, own, entries, left, met, answer),
+        _ => popped(graph, goals, height, ending, entries, met, answer),
     }
 }
 
@@ -124,7 +99,7 @@ pub fn end_iteration(
     match o {
         Outcome::Stopped(r) => Iteration::End(TaskOutcome::TaskStopped(r)),
         Outcome::Done(answer, entries) => {
-            popped(graph, goals, height - 1, entries, left, overflow, answer)
+            followed(graph, goals, height, entries, left, overflow, answer)
         }
     }
 }

@@ -40,7 +40,7 @@ oracle: document 01's queries, answered by the original search graph
       greatest or either. Where the condition is broken, prints the group, its first inductive
       and its first coinductive line (the header is line 0); exit status 1.
   oracle extensions < TABLE
-      Compares a table of 1,024 numbers, as crates/rebase/src/table.rt has it between `[` and
+      Compares a table of 1,024 numbers, as crates/pop/src/table.rt has it between `[` and
       `]`, with every set of paths extended by every set; exit status 1 if something differs.
   oracle recorded FILE
       Prints one of the recorded files of tests/vectors, made anew: document, refusals, caches

@@ -1,0 +1,9 @@
+pub mod Tests
+pub mod Kept
+pub mod Writes
+pub mod Filled
+pub mod Loops
+pub mod Entries
+pub mod Rounds
+pub mod Endings
+pub mod Theorems

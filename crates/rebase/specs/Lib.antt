@@ -1,3 +1,0 @@
-pub mod Popped
-pub mod Heads
-pub mod Rebased
