@@ -34,7 +34,9 @@ size_t search_graph_cache_len(size_t goals, size_t top_depth);
 
    book   is only read.
    cache  is read and written. A new one is all zeros; it is then carried from query to query on
-          the same book.
+          the same book. One that was kept from a library without the rule on 2 and 3 below must
+          be filled with zeros first: it may hold a 3 where this library says 2. Nothing marks
+          it, so that it is not refused.
    work   holds the search graph while the query runs. It need not be cleared.
 
    Answer (code % 256), where refusal is 0:
@@ -42,6 +44,8 @@ size_t search_graph_cache_len(size_t goals, size_t top_depth);
      1  Yes
      2  undecided
      3  overflow
+   Where all, any or pick meets both 2 and 3 among its parts, and neither No nor Yes decides it,
+   it comes to 2.
 
    Refusal (code / 256); the first of these is given, with answer 0, which then says nothing:
       0  none: the query was accepted, and work is filled with zeros

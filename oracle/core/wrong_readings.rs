@@ -1,5 +1,5 @@
-//! Wrong readings of document 01's added parts, numbers 100 to 199: edits of this crate's files,
-//! each behind a switch. `mutant(n)` is true when number n is switched on.
+//! Wrong readings of document 01's added parts and of document 02, numbers 100 to 199: edits of this
+//! crate's files, each behind a switch. `mutant(n)` is true when number n is switched on.
 
 use crate::Edit;
 use crate::apply::edit;
@@ -21,8 +21,8 @@ pub const READINGS: &[(u32, &str)] = &[
     (109, "any does not stop at a Yes"),
     (110, "an empty all is No"),
     (111, "an empty any is Yes"),
-    (112, "undecided is the highest number"),
-    (113, "the last number met counts, not the highest"),
+    (112, "of undecided and overflow the higher number counts, as in document 01"),
+    (113, "of undecided and overflow the last one met counts"),
     (114, "inductive cycles begin with Yes, coinductive ones with No"),
     (115, "unknown cycles begin with overflow, forced ones with undecided"),
     (116, "undecided and overflow are confused as initial results"),
@@ -40,6 +40,20 @@ pub const READINGS: &[(u32, &str)] = &[
     (128, "a pick does not ignore ambiguous candidates"),
     (129, "undecided and overflow are never initial results"),
     (130, "all is undecided where an earlier part was, in spite of a No"),
+    (131, "of undecided and overflow the first one met counts"),
+    (132, "a pick takes the higher number"),
+    (133, "all takes the higher number"),
+    (134, "any takes the higher number"),
+    (135, "all and any inside a pick take the higher number"),
+    (136, "any is undecided where an earlier part was, in spite of a Yes"),
+    (137, "a pick is undecided where a candidate was, in spite of a Yes"),
+    (138, "all takes the higher number where it met a Yes too"),
+    (139, "any takes the higher number where it met a No too"),
+    (140, "an undecided that was met in a part of a part counts"),
+    (141, "an undecided line that was not evaluated counts"),
+    (142, "a list that met overflow and nothing worse is undecided"),
+    (143, "the step limit is undecided where a run met undecided"),
+    (144, "too little depth is undecided where undecided was met before"),
     (150, "every book is turned away"),
     (151, "2 G - 1 entries may live"),
     (152, "2 G + 1 entries may live"),
@@ -130,22 +144,23 @@ pub const EDITS: &[Edit] = &[
     ),
     edit(
         "delegate.rs",
-        "wrong reading 117",
+        "wrong readings 117, 144",
         "    fn stack_overflow_result(_: Lent, _: usize) -> u8 {
         OVERFLOW
 ",
         "    fn stack_overflow_result(_: Lent, _: usize) -> u8 {
-        if mutant(117) { UNDECIDED } else { OVERFLOW }
+        if mutant(117) || mutant(144) && SEEN.get().any { UNDECIDED } else { OVERFLOW }
 ",
     ),
     edit(
         "delegate.rs",
-        "wrong reading 118",
+        "wrong readings 118, 143",
         "    fn fixpoint_overflow_result(_: Lent, _: usize) -> u8 {
         OVERFLOW
 ",
-        "    fn fixpoint_overflow_result(_: Lent, _: usize) -> u8 {
-        if mutant(118) { UNDECIDED } else { OVERFLOW }
+        "    fn fixpoint_overflow_result(_: Lent, goal: usize) -> u8 {
+        let met = mutant(143) && SEEN.get().goals & goal_bit(goal) != 0;
+        if mutant(118) || met { UNDECIDED } else { OVERFLOW }
 ",
     ),
     edit(
@@ -163,9 +178,103 @@ pub const EDITS: &[Edit] = &[
     ),
     edit(
         "delegate.rs",
-        "wrong reading 126",
+        "wrong readings 126, 135, 140, 143",
         "        read_part(graph, &book.parts[goal])\n",
-        "        if mutant(126) { UNDECIDED } else { read_part(graph, &book.parts[goal]) }\n",
+        "        let outside = SEEN.get();
+        SEEN.set(Seen { below: false, in_pick: false, ..outside });
+        let answer =
+            if mutant(126) { UNDECIDED } else { read_part(graph, &book.parts[goal]) };
+        let inside = SEEN.get();
+        let own = if inside.below { goal_bit(goal) } else { 0 };
+        SEEN.set(Seen { goals: inside.goals | own, any: inside.any, ..outside });
+        answer
+",
+    ),
+    edit(
+        "delegate.rs",
+        "wrong readings 135, 140, 143, 144: what was met",
+        "/// Evaluates one goal from an empty stack.",
+        "/// Whether undecided was met: inside the part at hand, in some run of a goal (bit by bit), at
+/// all; and whether the part at hand stands in a pick.
+#[derive(Clone, Copy, Default)]
+struct Seen {
+    below: bool,
+    in_pick: bool,
+    goals: u64,
+    any: bool,
+}
+
+thread_local! {
+    static SEEN: Cell<Seen> = Cell::new(Seen::default());
+}
+
+fn goal_bit(goal: usize) -> u64 {
+    1u64.wrapping_shl(goal as u32)
+}
+
+fn holds_undecided(part: &Part) -> bool {
+    match part {
+        Part::Call { .. } => false,
+        Part::All(parts) | Part::Any(parts) | Part::Pick(parts) => {
+            parts.iter().any(holds_undecided)
+        }
+        Part::Undecided => true,
+    }
+}
+
+/// Evaluates one goal from an empty stack.",
+    ),
+    edit(
+        "delegate.rs",
+        "wrong readings 135, 140, 143, 144: nothing was met",
+        "    FUEL.set(fuel);\n",
+        "    FUEL.set(fuel);\n    SEEN.set(Seen::default());\n",
+    ),
+    edit(
+        "delegate.rs",
+        "wrong readings 140 to 142",
+        "fn read_part(graph: &mut SearchGraph<PartReader>, part: &Part) -> u8 {
+",
+        "fn read_part(graph: &mut SearchGraph<PartReader>, part: &Part) -> u8 {
+    let outside = SEEN.get().below;
+    SEEN.set(Seen { below: false, ..SEEN.get() });
+    let is_list = !matches!(part, Part::Call { .. } | Part::Undecided);
+    let answer = match read_plain_part(graph, part) {
+        OVERFLOW if is_list && mutant(140) && SEEN.get().below => UNDECIDED,
+        OVERFLOW if is_list && mutant(141) && holds_undecided(part) => UNDECIDED,
+        OVERFLOW if is_list && mutant(142) => UNDECIDED,
+        answer => answer,
+    };
+    let seen = SEEN.get();
+    let below = seen.below || answer == UNDECIDED;
+    SEEN.set(Seen { below: outside || below, any: seen.any || below, ..seen });
+    answer
+}
+
+fn read_plain_part(graph: &mut SearchGraph<PartReader>, part: &Part) -> u8 {
+",
+    ),
+    edit(
+        "delegate.rs",
+        "wrong readings 112, 113, 131, 135",
+        "        (UNDECIDED, OVERFLOW) | (OVERFLOW, UNDECIDED) => UNDECIDED,
+",
+        "        _ if mutant(112) || mutant(135) && SEEN.get().in_pick => a.max(b),
+        _ if mutant(113) && b >= UNDECIDED => b,
+        _ if mutant(131) && a >= UNDECIDED => a,
+        (UNDECIDED, OVERFLOW) | (OVERFLOW, UNDECIDED) => UNDECIDED,
+",
+    ),
+    edit(
+        "delegate.rs",
+        "wrong reading 135",
+        "        let next = read_part(graph, candidate);
+",
+        "        let outside = SEEN.get().in_pick;
+        SEEN.set(Seen { in_pick: true, ..SEEN.get() });
+        let next = read_part(graph, candidate);
+        SEEN.set(Seen { in_pick: outside, ..SEEN.get() });
+",
     ),
     edit("delegate.rs", "wrong reading 125", "if *lower {", "if *lower != mutant(125) {"),
     edit(
@@ -179,15 +288,18 @@ pub const EDITS: &[Edit] = &[
     ),
     edit(
         "delegate.rs",
-        "wrong readings 108, 109, 112, 113, 130",
+        "wrong readings 108, 109, 130, 133, 134, 136, 138, 139",
         "        if next == deciding {
             return deciding;
         }
-        answer = answer.max(next);
+        answer = combine(answer, next);
     }
     answer
 ",
         "        if next == deciding && mutant(130) && deciding == NO && answer >= UNDECIDED {
+            return answer;
+        }
+        if next == deciding && mutant(136) && deciding == YES && answer == UNDECIDED {
             return answer;
         }
         if next == deciding {
@@ -197,31 +309,38 @@ pub const EDITS: &[Edit] = &[
             }
             return deciding;
         }
-        answer = match answer {
-            UNDECIDED if mutant(112) => answer,
-            _ if mutant(112) && next == UNDECIDED => next,
-            _ if mutant(113) && next >= UNDECIDED => next,
-            _ => answer.max(next),
-        };
+        neutral |= next == empty;
+        highest = highest.max(next);
+        answer = combine(answer, next);
     }
-    if met { deciding } else { answer }
+    let in_all = deciding == NO;
+    let takes_higher = in_all && (mutant(133) || mutant(138) && neutral)
+        || !in_all && (mutant(134) || mutant(139) && neutral);
+    match () {
+        _ if met => deciding,
+        _ if takes_higher => highest,
+        _ => answer,
+    }
 ",
     ),
     edit(
         "delegate.rs",
-        "wrong readings 108, 109",
+        "wrong readings 108, 109, 133, 134, 138, 139",
         "    let mut answer = empty;\n",
-        "    let mut answer = empty;\n    let mut met = false;\n",
+        "    let mut answer = empty;
+    let mut highest = empty;
+    let (mut met, mut neutral) = (false, false);
+",
     ),
     edit(
         "delegate.rs",
-        "wrong readings 105, 127, 128",
+        "wrong readings 105, 127, 128, 132",
         "        let usages = graph.finish_single_candidate();
         if next == YES && !yes_met {
             yes_met = true;
         } else {
             others.merge_usages(usages);
-            highest = highest.max(next);
+            combined = combine(combined, next);
         }
 ",
         "        let usages = graph.finish_single_candidate();
@@ -244,7 +363,7 @@ pub const EDITS: &[Edit] = &[
             others.merge_usages(usages);
         }
         yes_met |= first;
-        highest = highest.max(next);
+        combined = if mutant(132) { combined.max(next) } else { combine(combined, next) };
         if mutant(106) && yes_met {
             break;
         }
@@ -261,23 +380,23 @@ pub const EDITS: &[Edit] = &[
     ),
     edit(
         "delegate.rs",
-        "wrong readings 104, 107",
+        "wrong readings 104, 107, 137",
         "    if !yes_met {
-        return highest;
+        return combined;
     }
     graph.ignore_candidate_head_usages(others);
 ",
         "    if !yes_met && !mutant(104) {
-        return highest;
+        return combined;
     }
     if !mutant(100) {
         graph.ignore_candidate_head_usages(others);
     }
-    if mutant(107) && (no_met || highest >= UNDECIDED) {
-        return if no_met { NO } else { highest };
+    if mutant(107) && (no_met || combined >= UNDECIDED) {
+        return if no_met { NO } else { combined };
     }
-    if !yes_met {
-        return highest;
+    if !yes_met || mutant(137) && combined == UNDECIDED {
+        return combined;
     }
 ",
     ),

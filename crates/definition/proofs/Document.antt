@@ -5,6 +5,7 @@ use mathlib.Core.List.{List, [], _∷_}
 use lib.ListN.{replicate, take, getD}
 use Rattle.definition.specs.declared.replies.Refusal.the-variants.{ProvisionalCacheFull, CacheConflict}
 use Rattle.definition.specs.declared.replies.Response.the-variants.{Refused}
+use Rattle.definition.specs.Answers.{combine}
 use Rattle.definition.specs.Usages.{counterLimit}
 use Rattle.definition.specs.Query.{query, workLength}
 use Rattle.definition.proofs.Example.{line, book, Example, Right, replyTo, noExample, each-right, workFor}
@@ -48,12 +49,12 @@ table =
 
 -- the twelve examples
 pub examples : (k : ℕ) → k < 12 → Right (getD table k noExample)
-unfolding counterLimit
+unfolding counterLimit combine
 examples = each-right table tt
 
 -- after line four the success slot is 1, 0, 1, 3
 pub slot-after-four : take 4 (replyTo (getD table 3 noExample) .cache) ≡ 1 ∷ 0 ∷ 1 ∷ 3 ∷ []
-unfolding counterLimit
+unfolding counterLimit combine
 slot-after-four = refl
 
 -- refusal 10: goal 0 a pick of eight calls; the seventh entry is one too many
@@ -65,11 +66,11 @@ book10 =
 
 pub refusal-10 : query book10 (replicate 72 0) (workFor 3) 0 2
     ≡ record { response = Refused ProvisionalCacheFull; cache = replicate 72 0; work = replicate (workLength 3) 0 }
-unfolding counterLimit
+unfolding counterLimit combine
 refusal-10 = refl
 
 -- refusal 11: a cache written by hand says Yes, required depth 5, for an empty any, asked at depth 3
 pub refusal-11 : query (getD table 0 noExample .bytes) (1 ∷ 1 ∷ 5 ∷ 0 ∷ replicate 24 0) (workFor 1) 0 3
     ≡ record { response = Refused CacheConflict; cache = replicate 28 0; work = replicate (workLength 1) 0 }
-unfolding counterLimit
+unfolding counterLimit combine
 refusal-11 = refl

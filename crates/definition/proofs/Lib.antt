@@ -1,3 +1,5 @@
+pub mod Combined
+pub mod Combining
 pub mod Counters
 pub mod Document
 pub mod Everywhere
@@ -7,7 +9,9 @@ pub mod Hunted
 pub mod Lists
 pub mod Numbers
 pub mod SampleEndings
+pub mod SampleMaybe
 pub mod SampleSteps
 pub mod Reruns
 pub mod StepCounts
 pub mod Tests
+pub mod WhichMaybe

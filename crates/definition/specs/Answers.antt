@@ -1,6 +1,6 @@
 -- The answers and refusals with document 01's numbers, and what the delegate says of answers.
 use Prim.Native.Nat.{ℕ, zero, suc}
-use mathlib.Core.Bool.{Bool, true, false}
+use mathlib.Core.Bool.{Bool, true, false, _||_}
 use lib.Dec.{eqb, leb}
 use Rattle.definition.specs.declared.paths.PathKind.{PathKind}
 use Rattle.definition.specs.declared.paths.PathKind.the-variants.{Inductive, Unknown, Coinductive, ForcedAmbiguity}
@@ -26,9 +26,14 @@ answerOf (suc (suc (suc n))) = Overflow
 abbrev pub sameAnswer : Answer → Answer → Bool
 sameAnswer a b = eqb (answerNumber a) (answerNumber b)
 
--- what all, any and pick make of two answers that do not decide them: the one with the higher number
-abbrev pub combine : Answer → Answer → Answer
-combine a b = elim (leb (answerNumber a) (answerNumber b)) [ true ↦ b | false ↦ a ]
+-- what all, any and pick make of two answers that do not decide them: 2 where one of them is 2 (document 02, item 4),
+-- else the one with the higher number. Proofs go by its laws (Combining.antt)
+unfoldable pub combine : Answer → Answer → Answer
+combine a b =
+    elim (sameAnswer a Undecided || sameAnswer b Undecided) [
+      | true ↦ Undecided
+      | false ↦ elim (leb (answerNumber a) (answerNumber b)) [ true ↦ b | false ↦ a ]
+    ]
 
 abbrev pub initialProvisionalResult : PathKind → Answer
 initialProvisionalResult Inductive = No

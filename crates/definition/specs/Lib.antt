@@ -16,6 +16,7 @@ pub mod Endings
 pub mod Task
 pub mod Part
 pub mod Evaluate
+pub mod Combining
 pub mod Line
 pub mod Reader
 pub mod CacheForm

@@ -41,10 +41,17 @@ impl Answer {
         self.number() == other.number()
     }
 
-    // Of two answers that decide nothing, the one with the higher number.
+    // Of two answers that decide nothing: undecided where one of them is, else the one with the
+    // higher number.
     pub fn combine(self, other: Answer) -> Answer
         ensures { λ r. ⌜ r ≡ combine self other ⌝ }
     {
+        if self.same(Answer::Undecided) {
+            return Answer::Undecided;
+        }
+        if other.same(Answer::Undecided) {
+            return Answer::Undecided;
+        }
         if self.number() <= other.number() {
             other
         } else {

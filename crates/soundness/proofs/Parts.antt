@@ -29,7 +29,8 @@ use Rattle.soundness.proofs.Assumed.{A, A-mono, Base, Within}
 use Rattle.soundness.proofs.Inv.{After, CalledBy, State, Change}
 use Rattle.soundness.proofs.Changes.{after-from, after-map, after-then, change-nothing, change-trans}
 use Rattle.soundness.proofs.Candidates.{Untracked, can-be-ignored, enter-change, finish-change, finish-untracked, ignore-change, merged, no-candidate, tracked-since}
-use Rattle.soundness.proofs.Answers.{both-no, both-yes, differ, neither, same→≡}
+use Rattle.definition.proofs.Combining.{same→≡}
+use Rattle.soundness.proofs.Answers.{both-no, both-yes, differ, neither-no, neither-yes}
 
 -- an answer may be given of a goal, on what reads assume
 abbrev pub Claims : World → List Base → ℕ → Reads → Answer → Type 0
@@ -134,7 +135,7 @@ module _ (W : World) (xs : List Base) where
   all-more combined a p ps d e r h t q =
       record {
         whenYes = λ z n.
-            let w : (combine combined a ≡ Yes) × T (yesHolds (Y e) (Node All ps)) = q .whenYes z (neither No combined a n h) in
+            let w : (combine combined a ≡ Yes) × T (yesHolds (Y e) (Node All ps)) = q .whenYes z (neither-no combined a n) in
             let y : (combined ≡ Yes) × (a ≡ Yes) = both-yes combined a n h (w .0) in (
               y .0,
               both (yesHolds (Y (plus d e)) p) (everyHolds false (Y (plus d e)) ps)
@@ -143,7 +144,7 @@ module _ (W : World) (xs : List Base) where
             );
         whenNo = λ z n.
             not-and-right (holds true (outside (N (plus d e))) p) (everyHolds true (outside (N (plus d e))) ps)
-            (no-mono (Node All ps) e (plus d e) (second d e) (q .whenNo z (neither No combined a n h)));
+            (no-mono (Node All ps) e (plus d e) (second d e) (q .whenNo z (neither-no combined a n)));
       }
 
   any-more : (combined a : Answer) (p : Part) (ps : Parts) (d e : Reads) (r : Answer) → a ≢ Yes → RightAt W xs p d a
@@ -152,7 +153,7 @@ module _ (W : World) (xs : List Base) where
       record {
         whenYes = λ z n.
             or-right (yesHolds (Y (plus d e)) p) (someHolds false (Y (plus d e)) ps)
-            (yes-mono (Node Any ps) e (plus d e) (second d e) (q .whenYes z (neither Yes combined a n h)));
+            (yes-mono (Node Any ps) e (plus d e) (second d e) (q .whenYes z (neither-yes combined a n h)));
         whenNo = λ z.
             let w : (combined ≡ No) × (a ≡ No) = both-no combined a (q .whenNo z .0) in (
               w .0,
@@ -166,7 +167,7 @@ module _ (W : World) (xs : List Base) where
       → Within (length xs) D E → Within (length xs) d E → ForPick E (combine combined a) ps e r → ForPick D combined (Then p ps) e r
   pick-more D E combined a p ps d e r h t DE dE q =
       record {
-        whenYes = λ z n. or-right (yesHolds (Y e) p) (someHolds false (Y e) ps) (q .whenYes z (neither Yes combined a n h));
+        whenYes = λ z n. or-right (yesHolds (Y e) p) (someHolds false (Y e) ps) (q .whenYes z (neither-yes combined a n h));
         whenNo = λ z.
             let w : (combined ≡ No) × (a ≡ No) = both-no combined a (q .whenNo z .0) in (
               w .0,

@@ -8,6 +8,7 @@ use lib.ListN.{getD, replicate}
 use Rattle.definition.specs.Answers.{answerNumber}
 use Rattle.definition.specs.Graph.{Done, EvaluationResult, Graph, Stopped}
 use Rattle.definition.specs.Part.{All, Any, Book, Call, End, Node, Part, Parts, Pick, Then, UndecidedLine}
+use Rattle.definition.specs.Answers.{combine}
 use Rattle.definition.specs.Usages.{counterLimit}
 use Rattle.definition.specs.declared.answers.Answer.the-variants.{Yes}
 use Rattle.definition.specs.declared.format.Header.{Header}
@@ -53,7 +54,7 @@ ring-meets : words (traceRoot ring (replicate 54 0) 0 1)
     ∷ evaluates 2 ∷ computes 2 ∷ slot 2 ∷ answers 2
     ∷ computes 0 ∷ evaluates 1 ∷ computes 1 ∷ evaluates 0 ∷ answers 0 ∷ entry 1 ∷ answers 1
     ∷ slot 0 ∷ answers 0 ∷ []
-unfolding counterLimit
+unfolding counterLimit combine
 ring-meets = refl
 
 -- ---- goal 0 is any of 1 and 2, goal 1 an undecided line, goal 2 a call of 1, which lowers the depth, or all of nothing

@@ -1,5 +1,5 @@
-//! Document 01's delegate. The original hands no state to a delegate, so the book, the cache
-//! and the fuel of the evaluation at hand are kept per thread.
+//! Document 01's delegate, with item 4 of document 02. The original hands no state to a delegate,
+//! so the book, the cache and the fuel of the evaluation at hand are kept per thread.
 
 use std::cell::{Cell, RefCell};
 use std::panic::{AssertUnwindSafe, catch_unwind};
@@ -160,7 +160,16 @@ fn read_part(graph: &mut SearchGraph<PartReader>, part: &Part) -> u8 {
     }
 }
 
-/// Left to right up to the deciding answer; else the highest number of 2 and 3 met, else `empty`.
+/// What all, any and pick make of two answers that do not decide them: 2 of 2 and 3 (document 02,
+/// item 4), and otherwise the higher number.
+fn combine(a: u8, b: u8) -> u8 {
+    match (a, b) {
+        (UNDECIDED, OVERFLOW) | (OVERFLOW, UNDECIDED) => UNDECIDED,
+        _ => a.max(b),
+    }
+}
+
+/// Left to right up to the deciding answer; else what was met, combined, from `empty` on.
 fn read_until(graph: &mut SearchGraph<PartReader>, parts: &[Part], deciding: u8, empty: u8) -> u8 {
     let mut answer = empty;
     for part in parts {
@@ -168,7 +177,7 @@ fn read_until(graph: &mut SearchGraph<PartReader>, parts: &[Part], deciding: u8,
         if next == deciding {
             return deciding;
         }
-        answer = answer.max(next);
+        answer = combine(answer, next);
     }
     answer
 }
@@ -176,7 +185,7 @@ fn read_until(graph: &mut SearchGraph<PartReader>, parts: &[Part], deciding: u8,
 /// Every candidate is evaluated; combined as any; after a Yes the usages of all candidates but
 /// the first Yes are merged and ignored.
 fn read_pick(graph: &mut SearchGraph<PartReader>, candidates: &[Part]) -> u8 {
-    let mut highest = NO;
+    let mut combined = NO;
     let mut yes_met = false;
     let mut others = CandidateHeadUsages::default();
     for candidate in candidates {
@@ -187,11 +196,11 @@ fn read_pick(graph: &mut SearchGraph<PartReader>, candidates: &[Part]) -> u8 {
             yes_met = true;
         } else {
             others.merge_usages(usages);
-            highest = highest.max(next);
+            combined = combine(combined, next);
         }
     }
     if !yes_met {
-        return highest;
+        return combined;
     }
     graph.ignore_candidate_head_usages(others);
     YES

@@ -31,6 +31,8 @@ pub const READINGS: &[(u32, &str)] = &[
     (224, "an entry that lost its last head is kept"),
     (225, "rebasing checks paths without the popped head's own step"),
     (226, "an entry's path is carried on without the popped head's own step"),
+    (227, "rebasing for an overflow keeps undecided entries too"),
+    (228, "rebasing for undecided keeps entries that overflowed, as undecided"),
     (230, "a rerun drops entries that do not use the result"),
     (231, "a rerun drops all entries"),
 ];
@@ -157,13 +159,16 @@ pub const EDITS: &[Edit] = &[
     ),
     edit(
         "mod.rs",
-        "wrong readings 212 to 215",
+        "wrong readings 212 to 215, 227, 228",
         "                            if !D::is_ambiguous_result(*result).is_some_and(|k| k == kind) {\n",
-        "                            if crate::mutant(215) {
+        "                            let overflow = kind == D::FIXPOINT_OVERFLOW_AMBIGUITY_KIND;
+                            let ambiguous = D::is_ambiguous_result(*result).is_some();
+                            if crate::mutant(215) || crate::mutant(228) && ambiguous && !overflow {
                                 *result = final_result;
                             }
+                            let either = crate::mutant(214) || crate::mutant(227) && overflow;
                             if !D::is_ambiguous_result(*result)
-                                .is_some_and(|k| k == kind || crate::mutant(214))
+                                .is_some_and(|k| k == kind || either)
                                 && !crate::mutant(212)
                                 || crate::mutant(213)
                             {
