@@ -1,6 +1,6 @@
 -- The machine's operations on masks, as flags.
 use mathlib.Core.Path.{_≡_, refl, sym, ap, ap₂, _∙_}
-use mathlib.Core.Bool.{Bool, true, false, not, _&&_, _||_}
+use mathlib.Core.Bool.{Bool, true, false, not, _&&_, _||_, or-true, or-false}
 use mathlib.Core.List.{List, [], _∷_, _++_, map, append-nil}
 use Prim.Native.Nat.{ℕ, zero, suc, _+_, _*_, _-_, _/_, _%_, _^_, _≤_, _<_, min, max}
 use native.Mathlib.Nat.{pow-suc, mod-lt, mod-eq-of-lt, one-mul}
@@ -94,14 +94,6 @@ andNot-none : (k a : ℕ) → pairwise andNot (flags k a) (flags k 0) ≡ flags 
 unfolding flags pairwise
 andNot-none zero a = refl
 andNot-none (suc k) a = ap (λ (l : List Bool). flag (a % 2) ∷ l) (andNot-none k (a / 2))
-
-or-true : (x : Bool) → (x || true) ≡ true
-or-true true = refl
-or-true false = refl
-
-or-false : (x : Bool) → (x || false) ≡ x
-or-false true = refl
-or-false false = refl
 
 -- the flag of 2 ^ i joined to others
 or-one : (k i a : ℕ) → i < k → pairwise _||_ (flags k a) (flags k (2 ^ i)) ≡ set (flags k a) i true

@@ -2,13 +2,12 @@
 use mathlib.Core.Path.{_≡_, refl}
 use mathlib.Core.Bool.{Bool, true, false}
 use mathlib.Core.Option.{Option, none}
-use mathlib.Core.Logic.{⊎-elim}
 use mathlib.Core.List.{List, [], _∷_}
 use Prim.Native.Nat.{ℕ, zero, suc, _≤_}
 use native.Mathlib.Omega.{arith}
 use lib.Dec.{eqb}
 use borrow.Author.Tests.{ne-eqb}
-use types.Run.{OneOf}
+use types.Run.{OneOf, miss}
 use denote.Enum.Declared.{tagOf}
 use Rattle.definition.specs.declared.format.Line.{Line}
 use Rattle.definition.specs.Reader.{TakenPart, readCall, readUndecided, readNode, readPick, readByCode}
@@ -81,19 +80,17 @@ known-digit (suc (suc (suc (suc (suc (suc (suc n))))))) h = absurd (h refl)
 
 -- parts stand below a group and a pick, which are variants 2 and 3, and below no other line
 pub some-below : (code : Code) (n : ℕ) → OneOf (2 ∷ 3 ∷ []) (tagOf the-type code) → countBelow code n ≡ n
-some-below codes.Goal n k = absurd (⊎-elim (λ x. omega arith) (λ x. omega arith) k)
-some-below codes.Call n k = absurd (⊎-elim (λ x. omega arith) (λ x. omega arith) k)
+some-below codes.Goal n k = absurd (miss (2 ∷ 3 ∷ []) 0 tt k)
+some-below codes.Call n k = absurd (miss (2 ∷ 3 ∷ []) 1 tt k)
 some-below (codes.Group op) n k = refl
 some-below codes.Pick n k = refl
-some-below codes.Undecided n k = absurd (⊎-elim (λ x. omega arith) (λ x. omega arith) k)
-some-below codes.Unknown n k = absurd (⊎-elim (λ x. omega arith) (λ x. omega arith) k)
+some-below codes.Undecided n k = absurd (miss (2 ∷ 3 ∷ []) 4 tt k)
+some-below codes.Unknown n k = absurd (miss (2 ∷ 3 ∷ []) 5 tt k)
 
 pub none-below : (code : Code) (n : ℕ) → OneOf (0 ∷ 1 ∷ 4 ∷ 5 ∷ []) (tagOf the-type code) → countBelow code n ≡ 0
 none-below codes.Goal n k = refl
 none-below codes.Call n k = refl
-none-below (codes.Group op) n k =
-    absurd (⊎-elim (λ x. omega arith) (⊎-elim (λ x. omega arith) (⊎-elim (λ x. omega arith) (λ x. omega arith))) k)
-none-below codes.Pick n k =
-    absurd (⊎-elim (λ x. omega arith) (⊎-elim (λ x. omega arith) (⊎-elim (λ x. omega arith) (λ x. omega arith))) k)
+none-below (codes.Group op) n k = absurd (miss (0 ∷ 1 ∷ 4 ∷ 5 ∷ []) 2 tt k)
+none-below codes.Pick n k = absurd (miss (0 ∷ 1 ∷ 4 ∷ 5 ∷ []) 3 tt k)
 none-below codes.Undecided n k = refl
 none-below codes.Unknown n k = refl

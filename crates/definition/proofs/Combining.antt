@@ -1,17 +1,14 @@
 -- The laws of combining answers, each by one test of all of them.
-use mathlib.Core.Path.{_≡_, refl, ap, sym, _∙_}
+use mathlib.Core.Path.{_≡_, refl}
 use mathlib.Core.Logic.{_≢_}
-use mathlib.Core.Bool.{Bool, true, false, not, _&&_, _||_}
-use lib.Dec.{T, eqb→eq}
+use mathlib.Core.Bool.{Bool, true, false, _&&_, _||_, Bool·beq}
+use lib.Dec.{T}
 use Rattle.definition.specs.declared.answers.Answer.{Answer}
 use Rattle.definition.specs.declared.answers.Answer.the-variants.{No, Yes, Undecided, Overflow}
-use Rattle.definition.specs.Answers.{answerNumber, answerOf, combine, isAmbiguous, sameAnswer}
+use Rattle.definition.specs.Answers.{combine, isAmbiguous, sameAnswer}
 use Rattle.definition.specs.Combining.{Combines}
-use Rattle.definition.proofs.Numbers.{answer-back}
+use Rattle.definition.proofs.Numbers.{same→≡}
 use Rattle.definition.proofs.Tests.{and-left, and-right}
-
-pub same→≡ : (a b : Answer) → T (sameAnswer a b) → a ≡ b
-same→≡ a b t = sym (answer-back a) ∙ ap answerOf (eqb→eq (answerNumber a) (answerNumber b) t) ∙ answer-back b
 
 -- a test of every answer
 abbrev every : (Answer → Bool) → Bool
@@ -47,14 +44,11 @@ combines =
     after-yes Undecided h = refl
     after-yes Overflow h = refl
 
-    alike : Bool → Bool → Bool
-    alike s t = elim s [ true ↦ t | false ↦ not t ]
-
-    equal : (s t : Bool) → T (alike s t) → s ≡ t
+    equal : (s t : Bool) → T (Bool·beq s t) → s ≡ t
     equal true true e = refl
     equal true false e = absurd e
     equal false true e = absurd e
     equal false false e = refl
 
     maybes : (a b : Answer) → isAmbiguous (combine a b) ≡ isAmbiguous a || isAmbiguous b
-    maybes a b = equal _ _ (at-two (λ x y. alike (isAmbiguous (combine x y)) (isAmbiguous x || isAmbiguous y)) tt a b)
+    maybes a b = equal _ _ (at-two (λ x y. Bool·beq (isAmbiguous (combine x y)) (isAmbiguous x || isAmbiguous y)) tt a b)

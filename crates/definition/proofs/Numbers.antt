@@ -1,12 +1,12 @@
 -- Facts on small numbers.
-use mathlib.Core.Path.{_≡_, refl, sym, ap₂, _∙_}
+use mathlib.Core.Path.{_≡_, refl, sym, ap, ap₂, _∙_}
 use mathlib.Core.Bool.{true, false}
 use Prim.Native.Nat.{ℕ, zero, suc, _≤_, _<_}
-use lib.Dec.{leb}
+use lib.Dec.{T, eqb→eq, leb}
 use borrow.Author.Tests.{le-leb, lt-leb}
 use Rattle.definition.specs.declared.answers.Answer.{Answer}
 use Rattle.definition.specs.declared.answers.Answer.the-variants.{No, Yes, Undecided, Overflow}
-use Rattle.definition.specs.Answers.{answerNumber, answerOf}
+use Rattle.definition.specs.Answers.{answerNumber, answerOf, sameAnswer}
 
 -- what holds from 3 on holds of a number that is not 0, 1 or 2
 pub from-three : (P : ℕ → Type 0) → ((n : ℕ) → P (suc (suc (suc n)))) → (n : ℕ) → (n ≡ 0 → ⊥) → (n ≡ 1 → ⊥) → (n ≡ 2 → ⊥) → P n
@@ -32,3 +32,6 @@ answer-back No = refl
 answer-back Yes = refl
 answer-back Undecided = refl
 answer-back Overflow = refl
+
+pub same→≡ : (a b : Answer) → T (sameAnswer a b) → a ≡ b
+same→≡ a b t = sym (answer-back a) ∙ ap answerOf (eqb→eq (answerNumber a) (answerNumber b) t) ∙ answer-back b

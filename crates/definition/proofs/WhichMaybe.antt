@@ -1,6 +1,6 @@
 -- Document 02's rule on 2 and 3 (item 4), of whole lists of parts.
 use mathlib.Core.Path.{_≡_, refl, ap, sym, _∙_, subst}
-use mathlib.Core.Bool.{Bool, true, false, _||_}
+use mathlib.Core.Bool.{Bool, true, false, _||_, or-assoc, or-false}
 use mathlib.Core.List.{List, [], _∷_}
 use Prim.Native.Nat.{ℕ}
 use Rattle.definition.specs.declared.answers.Answer.{Answer}
@@ -21,12 +21,13 @@ abbrev fold : Answer → List Answer → Answer
 fold c [] = c
 fold c (a ∷ xs) = fold (combine c a) xs
 
--- by which answers are among them
+-- `maybe`, by whether 2 and 3 are among the answers
+abbrev maybeBy : Answer → Bool → Bool → Answer
+maybeBy empty u o = elim u [ true ↦ Undecided | false ↦ elim o [ true ↦ Overflow | false ↦ empty ] ]
+
+-- and by whether Yes is, where none decides
 abbrev ranked : Bool → Bool → Bool → Answer
-ranked true o y = Undecided
-ranked false true y = Overflow
-ranked false false true = Yes
-ranked false false false = No
+ranked u o y = maybeBy (elim y [ true ↦ Yes | false ↦ No ]) u o
 
 one-more : (a : Answer) (u o y : Bool)
     → combine a (ranked u o y)
@@ -61,9 +62,6 @@ folded (a ∷ xs) =
     ap (λ (x : Answer). fold x xs) (combines .from-no a) ∙ fold-from a xs ∙ ap (combine a) (folded xs)
     ∙ one-more a (met Undecided xs) (met Overflow xs) (met Yes xs)
 
-abbrev maybeBy : Answer → Bool → Bool → Answer
-maybeBy empty u o = elim u [ true ↦ Undecided | false ↦ elim o [ true ↦ Overflow | false ↦ empty ] ]
-
 all-maybe : (xs : List Answer) → fold Yes xs ≡ maybe Yes xs
 unfolding combine
 all-maybe xs = fold-from Yes xs ∙ ap (combine Yes) (folded xs) ∙ go (met Undecided xs) (met Overflow xs) (met Yes xs)
@@ -75,13 +73,7 @@ all-maybe xs = fold-from Yes xs ∙ ap (combine Yes) (folded xs) ∙ go (met Und
     go false false false = refl
 
 any-maybe : (xs : List Answer) → met Yes xs ≡ false → fold No xs ≡ maybe No xs
-any-maybe xs e =
-    folded xs ∙ ap (ranked (met Undecided xs) (met Overflow xs)) e ∙ go (met Undecided xs) (met Overflow xs)
-  where
-    go : (u o : Bool) → ranked u o false ≡ maybeBy No u o
-    go true o = refl
-    go false true = refl
-    go false false = refl
+any-maybe xs e = folded xs ∙ ap (ranked (met Undecided xs) (met Overflow xs)) e
 
 -- ---- all and any
 abbrev decides : Bool → Answer → Answer → Answer
@@ -130,19 +122,11 @@ abbrev Ends : Bool → Answer → Meeting → Outcome → Type 0
 Ends b c (Met xs g) o = (others : List HeadUsages) × (o ≡ endPick (b || met Yes xs) (fold c xs) others g)
 Ends b c (Halted r) o = Unit {0}
 
-no-more : (b : Bool) → b ≡ b || false
-no-more true = refl
-no-more false = refl
-
-or-first : (s t u : Bool) → (s || t) || u ≡ s || (t || u)
-or-first true t u = refl
-or-first false t u = refl
-
 module _ (b : Bool) (c : Answer) where
   one-candidate : (a : Answer) (m : Meeting) (o : Outcome)
       → Ends (b || sameAnswer a Yes) (combine c a) m o → Ends b c (metFirst a m) o
   one-candidate a (Met xs g) o (others, e) =
-      let met-before = or-first b (sameAnswer a Yes) (met Yes xs) in
+      let met-before = or-assoc b (sameAnswer a Yes) (met Yes xs) in
       (others, e ∙ ap (λ (t : Bool). endPick t (fold (combine c a) xs) others g) met-before)
   one-candidate a (Halted r) o e = tt
 
@@ -187,7 +171,7 @@ module _ (evaluate : Evaluator) (goals : ℕ) where
 
   pick-meets : (ps : Parts) (b : Bool) (c : Answer) (others : List HeadUsages) (g : Graph)
       → Ends b c (pick-met ps g) (evalPick evaluate goals ps b c others g)
-  pick-meets End b c others g = (others, ap (λ (t : Bool). endPick t c others g) (no-more b))
+  pick-meets End b c others g = (others, ap (λ (t : Bool). endPick t c others g) (sym (or-false b)))
   pick-meets (Then p ps) b c others g =
       candidate-then b c (part evaluate goals p (enterSingleCandidate goals g)) _ (pick-met ps)
       λ g1 a. pick-meets ps (b || sameAnswer a Yes) (combine c a) _ (finishSingleCandidate g1)

@@ -46,8 +46,12 @@ abbrev pub iteration : ℕ → (Bool → Graph → TaskOutcome) → Bool → Out
 iteration left next overflow (Stopped r) = TaskStopped r
 iteration left next overflow (Done g result) = endIteration left next overflow g result (g .stack)
 
+-- the turn after the last one that is allowed: none is taken
+abbrev pub noTurn : Bool → Graph → TaskOutcome
+noTurn overflow g = TaskStopped Unreachable
+
 -- `left` reruns are allowed: where none is, none follows. `overflow`: an earlier iteration met it
 abbrev pub evaluateGoalInTask : (Graph → Outcome) → ℕ → Bool → Graph → TaskOutcome
-evaluateGoalInTask compute zero overflow g = iteration zero (λ o g1. TaskStopped Unreachable) overflow (compute g)
+evaluateGoalInTask compute zero overflow g = iteration zero noTurn overflow (compute g)
 evaluateGoalInTask compute (suc left) overflow g =
     iteration (suc left) (evaluateGoalInTask compute left) overflow (compute g)

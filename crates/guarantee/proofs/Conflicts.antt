@@ -2,14 +2,13 @@
 use mathlib.Core.Path.{_≡_, refl, sym, ap, ap₂, _∙_}
 use mathlib.Core.Bool.{Bool, true, false, not, _&&_}
 use mathlib.Core.List.{List, [], _∷_}
-use mathlib.Core.Logic.{⊎-elim}
 use mathlib.Core.Option.{Option, none, some}
 use Prim.Native.Nat.{ℕ, _^_, _≤_, _<_}
 use native.Mathlib.Decide.{decLt}
 use native.Mathlib.Omega.{arith}
 use lib.Dec.{ltb}
 use borrow.Author.Tests.{not-true, not-false, lt-ltb, le-ltb}
-use types.Run.{OneOf}
+use types.Run.{OneOf, miss}
 use denote.Enum.Declared.{tagOf}
 use Rattle.definition.specs.declared.paths.PathKind.the-variants.{Inductive, Coinductive}
 use Rattle.definition.specs.Part.{Book}
@@ -182,4 +181,4 @@ module _ (b : Book) (all : List StepLine) where
       go none v e k = refl
       go (some d) (Refused r) e k = let z : _≡_ {A = ℕ} 0 1 = cc in absurd (omega arith)
       go (some d) Given e k = let z : _≡_ {A = ℕ} 0 1 = cc in absurd (omega arith)
-      go (some d) (Broken c) e k = absurd (⊎-elim (λ x. omega arith) (λ x. omega arith) k)
+      go (some d) (Broken c) e k = absurd (miss (0 ∷ 1 ∷ []) 2 tt k)

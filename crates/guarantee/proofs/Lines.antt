@@ -11,9 +11,8 @@ use lib.Dec.{eqb, leb}
 use lib.ListN.{length, getD, set, take, drop, replicate, length-drop}
 use lib.Seq.{getD-set-same, getD-set-other}
 use borrow.Author.Tests.{eqb-true, eq-eqb, ne-eqb, leb-false}
-use types.Run.{OneOf}
+use types.Run.{OneOf, miss}
 use denote.Enum.Declared.{tagOf}
-use mathlib.Core.Logic.{⊎-elim}
 use Rattle.definition.specs.declared.format.Line.{Line}
 use Rattle.definition.specs.declared.paths.PathKind.{PathKind}
 use Rattle.definition.specs.Paths.{kindOf}
@@ -70,10 +69,8 @@ call-number (suc (suc (suc (suc (suc (suc (suc n))))))) =
 -- every other line, by the number of its variant
 pub other-code : (code : Code) → OneOf (2 ∷ 3 ∷ 4 ∷ 5 ∷ []) (tagOf the-type code)
     → (isCall code ≡ false) × (isGoal code ≡ false)
-other-code codes.Goal k =
-    absurd (⊎-elim (λ x. omega arith) (⊎-elim (λ x. omega arith) (⊎-elim (λ x. omega arith) (λ x. omega arith))) k)
-other-code codes.Call k =
-    absurd (⊎-elim (λ x. omega arith) (⊎-elim (λ x. omega arith) (⊎-elim (λ x. omega arith) (λ x. omega arith))) k)
+other-code codes.Goal k = absurd (miss (2 ∷ 3 ∷ 4 ∷ 5 ∷ []) 0 tt k)
+other-code codes.Call k = absurd (miss (2 ∷ 3 ∷ 4 ∷ 5 ∷ []) 1 tt k)
 other-code (codes.Group op) k = (refl, refl)
 other-code codes.Pick k = (refl, refl)
 other-code codes.Undecided k = (refl, refl)

@@ -1,8 +1,7 @@
 -- `pop`: the graph that is left, by its ending.
 use mathlib.Core.Path.{_≡_, refl, sym, ap, ap₂, _∙_}
-use mathlib.Core.Logic.{⊎-elim}
 use mathlib.Core.List.{List, [], _∷_}
-use types.Run.{OneOf}
+use types.Run.{OneOf, miss}
 use denote.Enum.Declared.{tagOf}
 use Prim.Native.Nat.{ℕ, _-_, _≤_, _<_}
 use native.Mathlib.Omega.{arith}
@@ -27,14 +26,12 @@ use Rattle.pop.specs.Endings.{FramePopped}
 -- an ending that rebases, by the number of its variant
 rebases : (e : Ending) → OneOf (1 ∷ 2 ∷ 3 ∷ 4 ∷ []) (tagOf the-type e) → (g : Graph) (p : Frame)
     → rebaseProvisionalCacheEntries g p (reasonOf e) ≡ tidyUp e g p
-rebases ending.Nothing k g p =
-    absurd (⊎-elim (λ x. omega arith) (⊎-elim (λ x. omega arith) (⊎-elim (λ x. omega arith) (λ x. omega arith))) k)
+rebases ending.Nothing k g p = absurd (miss (1 ∷ 2 ∷ 3 ∷ 4 ∷ []) 0 tt k)
 rebases (ending.Fixpoint fixpoint) k g p = refl
 rebases ending.NoUsages k g p = refl
 rebases (ending.Ambiguity kind) k g p = refl
 rebases ending.Overflow k g p = refl
-rebases ending.Rerun k g p =
-    absurd (⊎-elim (λ x. omega arith) (⊎-elim (λ x. omega arith) (⊎-elim (λ x. omega arith) (λ x. omega arith))) k)
+rebases ending.Rerun k g p = absurd (miss (1 ∷ 2 ∷ 3 ∷ 4 ∷ []) 5 tt k)
 
 module _ (goals height : ℕ) (old : List ℕ) (s : StackBytes goals height old) (some : 1 ≤ height) where
   abbrev popped : ℕ

@@ -2,9 +2,8 @@
 use mathlib.Core.Path.{_≡_, refl, sym, ap, ap₂, _∙_}
 use mathlib.Core.Bool.{Bool, true, false}
 use mathlib.Core.Option.{Option, none, some}
-use mathlib.Core.Logic.{⊎-elim}
 use mathlib.Core.List.{List, [], _∷_, _++_}
-use types.Run.{OneOf}
+use types.Run.{OneOf, miss}
 use denote.Enum.Declared.{tagOf}
 use Prim.Native.Nat.{ℕ, _+_, _-_, _≤_, _<_}
 use native.Mathlib.Omega.{arith}
@@ -118,14 +117,11 @@ stay-start goals base popped n bs =
     record { few = omega arith; stay = λ s p reason high. whole-start (rebaseEntries s p reason) goals base n bs }
 
 -- ---- `reason_of`, by the numbers of the endings' variants
-no-tag : {n : ℕ} → (n ≡ 0 → ⊥) → (n ≡ 4 → ⊥) → (n ≡ 5 → ⊥) → OneOf (0 ∷ 4 ∷ 5 ∷ []) n → ⊥
-no-tag x y z k = ⊎-elim x (⊎-elim y z) k
-
 pub reason-else : (e : Ending) → OneOf (0 ∷ 4 ∷ 5 ∷ []) (tagOf the-type e) → Ambiguity Overflow ≡ reasonOf e
 reason-else ending.Nothing k = refl
-reason-else (ending.Fixpoint fixpoint) k = absurd (no-tag (λ x. omega arith) (λ x. omega arith) (λ x. omega arith) k)
-reason-else ending.NoUsages k = absurd (no-tag (λ x. omega arith) (λ x. omega arith) (λ x. omega arith) k)
-reason-else (ending.Ambiguity kind) k = absurd (no-tag (λ x. omega arith) (λ x. omega arith) (λ x. omega arith) k)
+reason-else (ending.Fixpoint fixpoint) k = absurd (miss (0 ∷ 4 ∷ 5 ∷ []) 1 tt k)
+reason-else ending.NoUsages k = absurd (miss (0 ∷ 4 ∷ 5 ∷ []) 2 tt k)
+reason-else (ending.Ambiguity kind) k = absurd (miss (0 ∷ 4 ∷ 5 ∷ []) 3 tt k)
 reason-else ending.Overflow k = refl
 reason-else ending.Rerun k = refl
 

@@ -1,12 +1,11 @@
 -- A part is read by its first line; the parts of a group, and the candidates of a pick, one by one.
 use mathlib.Core.Path.{_≡_, refl, sym, ap, _∙_, subst}
 use mathlib.Core.Bool.{Bool, true, false}
-use mathlib.Core.Logic.{⊎-elim}
 use mathlib.Core.List.{List, [], _∷_}
 use Prim.Native.Nat.{ℕ, _*_, _-_, _≤_, _<_}
 use native.Mathlib.Omega.{arith}
 use lib.ListN.{length, take, drop, length-drop}
-use types.Run.{OneOf}
+use types.Run.{OneOf, miss}
 use denote.Enum.Declared.{tagOf}
 use mathlib.Core.Option.{some}
 use Rattle.search_graph.proofs.Cycle.{part-counts}
@@ -60,9 +59,9 @@ module _ (goals : ℕ) (inPick : Bool) (p : List ℕ) (reads : Reads goals inPic
   undecided : (code : Code) → code ≡ codeOf (lineIn p .code) → OneOf (0 ∷ 4 ∷ 5 ∷ []) (tagOf the-type code)
       → partIn goals inPick p ≡ UndecidedLine
   undecided codes.Goal e k = absurd (no-goal-line goals inPick p (lineIn p) refl reads (sym e))
-  undecided codes.Call e k = absurd (⊎-elim (λ x. omega arith) (⊎-elim (λ x. omega arith) (λ x. omega arith)) k)
-  undecided (codes.Group op) e k = absurd (⊎-elim (λ x. omega arith) (⊎-elim (λ x. omega arith) (λ x. omega arith)) k)
-  undecided codes.Pick e k = absurd (⊎-elim (λ x. omega arith) (⊎-elim (λ x. omega arith) (λ x. omega arith)) k)
+  undecided codes.Call e k = absurd (miss (0 ∷ 4 ∷ 5 ∷ []) 1 tt k)
+  undecided (codes.Group op) e k = absurd (miss (0 ∷ 4 ∷ 5 ∷ []) 2 tt k)
+  undecided codes.Pick e k = absurd (miss (0 ∷ 4 ∷ 5 ∷ []) 3 tt k)
   undecided codes.Undecided e k = is-undecided goals inPick p (lineIn p) refl reads (sym e)
   undecided codes.Unknown e k = absurd (known-code goals inPick p (lineIn p) refl reads (sym e))
 

@@ -29,7 +29,7 @@ use Rattle.soundness.proofs.Assumed.{A, A-mono, Base, Within}
 use Rattle.soundness.proofs.Inv.{After, CalledBy, State, Change}
 use Rattle.soundness.proofs.Changes.{after-from, after-map, after-then, change-nothing, change-trans}
 use Rattle.soundness.proofs.Candidates.{Untracked, can-be-ignored, enter-change, finish-change, finish-untracked, ignore-change, merged, no-candidate, tracked-since}
-use Rattle.definition.proofs.Combining.{same→≡}
+use Rattle.definition.proofs.Numbers.{same→≡}
 use Rattle.soundness.proofs.Answers.{both-no, both-yes, differ, neither-no, neither-yes}
 
 -- an answer may be given of a goal, on what reads assume

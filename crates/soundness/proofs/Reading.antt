@@ -1,8 +1,8 @@
 -- A book that was read: every call is of one of its goals, and the calls of its parts are those of its lines.
-use mathlib.Core.Bool.{Bool, _&&_, _||_, false, true}
+use mathlib.Core.Bool.{Bool, _&&_, _||_, false, or-assoc, true}
 use mathlib.Core.List.{List, [], _∷_}
 use mathlib.Core.Option.{Option, none, some}
-use mathlib.Core.Path.{_∙_, _≡_, ap, refl}
+use mathlib.Core.Path.{_∙_, _≡_, ap, refl, sym}
 use Prim.Native.Nat.{_/_, _<_, suc, zero, ℕ}
 use native.Mathlib.Nat.{div-add-mod', mod-lt}
 use native.Mathlib.Omega.{arith}
@@ -22,10 +22,6 @@ use Rattle.soundness.specs.Groups.{someCall, someCallIn}
 use Rattle.definition.proofs.Tests.{and-left, and-right}
 use Rattle.soundness.proofs.Logic.{clash, of-true}
 use Rattle.soundness.proofs.Calls.{AllCalls, BookOk, Calls, exactly, some-call}
-
-or-assoc : (a b c : Bool) → (a || (b || c)) ≡ ((a || b) || c)
-or-assoc true b c = refl
-or-assoc false b c = refl
 
 -- a wanted call stands in the lines, or in the parts: its caller, its goal and its kind
 module _ (wanted : ℕ → ℕ → PathKind → Bool) where
@@ -113,7 +109,7 @@ module _ (n : ℕ) (wanted : ℕ → ℕ → PathKind → Bool) where
     (h .0, s .0),
     h .1
         ∙ (ap (_||_ (someCall (wanted c) (p .part))) (s .1)
-        ∙ or-assoc (someCall (wanted c) (p .part)) (someCallIn (wanted c) (ps .parts)) (inLines wanted c (ps .rest))),
+        ∙ sym (or-assoc (someCall (wanted c) (p .part)) (someCallIn (wanted c) (ps .parts)) (inLines wanted c (ps .rest)))),
   )
 
   more-ok : (c : ℕ) (read : List Line → Option TakenPart) (m : ℕ)

@@ -4,8 +4,7 @@ use mathlib.Core.Bool.{Bool, _||_}
 use mathlib.Core.List.{List, [], _∷_}
 use Prim.Native.Nat.{ℕ, zero, suc, _+_, _-_, _*_, _≤_, _<_}
 use native.Mathlib.Omega.{arith}
-use mathlib.Core.Logic.{⊎-elim}
-use types.Run.{OneOf}
+use types.Run.{OneOf, miss}
 use denote.Enum.Declared.{tagOf}
 use Rattle.definition.specs.declared.answers.Answer.{Answer}
 use Rattle.definition.specs.declared.answers.Answer.the-variants.{Overflow}
@@ -49,9 +48,7 @@ ends-so ending.NoUsages k answer h next overflow f g = refl
 ends-so (ending.Ambiguity kind) k answer h next overflow f g = refl
 ends-so ending.Overflow k answer h next overflow f g =
     ap (λ (a : Answer). task.Evaluated g (finalize f overflow a)) (sym (h refl))
-ends-so ending.Rerun k answer h next overflow f g =
-    absurd (⊎-elim (λ x. omega arith)
-    (⊎-elim (λ x. omega arith) (⊎-elim (λ x. omega arith) (⊎-elim (λ x. omega arith) (λ x. omega arith)))) k)
+ends-so ending.Rerun k answer h next overflow f g = absurd (miss (0 ∷ 1 ∷ 2 ∷ 3 ∷ 4 ∷ []) 5 tt k)
 
 module _ (goals height n : ℕ) (e : Ending) (overflow : Bool) (answer : Answer) (old : List ℕ)
     (st : StackBytes goals height old)
@@ -113,8 +110,7 @@ pub not-limit : (e : Ending) → OneOf (0 ∷ 1 ∷ 2 ∷ 3 ∷ 5 ∷ []) (tagOf
 not-limit e k is =
     let z : OneOf (0 ∷ 1 ∷ 2 ∷ 3 ∷ 5 ∷ []) 4 =
     subst (λ (x : Ending). OneOf (0 ∷ 1 ∷ 2 ∷ 3 ∷ 5 ∷ []) (tagOf the-type x)) is k in
-    ⊎-elim (λ x. omega arith) (⊎-elim (λ x. omega arith)
-    (⊎-elim (λ x. omega arith) (⊎-elim (λ x. omega arith) (λ x. omega arith)))) z
+    miss (0 ∷ 1 ∷ 2 ∷ 3 ∷ 5 ∷ []) 4 tt z
 
 -- what is read of the frame's bytes
 pub met-is : (goals own : ℕ) (bs r : List ℕ) (overflow b met : Bool) → r ≡ frameBytes goals own bs

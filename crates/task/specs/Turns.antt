@@ -7,7 +7,6 @@ use Prim.Native.Nat.{ℕ, zero, suc, _-_, _*_, _≤_, _<_}
 use Rattle.definition.specs.declared.endings.Fixpoint.{Fixpoint}
 use Rattle.definition.specs.declared.endings.Ending.{Ending}
 use Rattle.definition.specs.declared.endings.Ending.the-variants.{Rerun}
-use Rattle.definition.specs.declared.replies.Refusal.the-variants.{Unreachable}
 use Rattle.definition.specs.Stack.{Stack, CountsTrue}
 use Rattle.definition.specs.Graph.{Graph, Outcome}
 use Rattle.definition.specs.Task as task
@@ -24,7 +23,7 @@ searchedOf Missed = none
 
 -- the turn of `evaluateGoalInTask` after one with which `left` more are allowed
 abbrev pub nextTurn : (Graph → Outcome) → ℕ → Bool → Graph → task.TaskOutcome
-nextTurn compute zero = λ overflow g. task.TaskStopped Unreachable
+nextTurn compute zero = task.noTurn
 nextTurn compute (suc left) = task.evaluateGoalInTask compute left
 
 -- `height` frames were on the stack, and are again in the next turn
@@ -37,12 +36,15 @@ abbrev pub CountsTurned : Stack → Iteration → Type 0
 CountsTurned s (End t) = Unit {0}
 CountsTurned s (Again met n) = CountsTrue s
 
--- no more entries than the graph has room for, and another turn only where the ending is a rerun
-abbrev pub FewLeft : ℕ → Ending → Iteration → Type 0
-FewLeft goals e (End t) = FewTaskEntries goals t
-FewLeft goals e (Again met n) = (n ≤ 2 * goals) × (e ≡ Rerun)
+-- no more entries than the graph has room for, and another turn only where P
+abbrev FewWhere : Type 0 → ℕ → Iteration → Type 0
+FewWhere P goals (End t) = FewTaskEntries goals t
+FewWhere P goals (Again met n) = (n ≤ 2 * goals) × P
 
--- or where one is left
+-- where the ending is a rerun
+abbrev pub FewLeft : ℕ → Ending → Iteration → Type 0
+FewLeft goals e i = FewWhere (e ≡ Rerun) goals i
+
+-- where one is left
 abbrev pub FewTurned : ℕ → ℕ → Iteration → Type 0
-FewTurned goals left (End t) = FewTaskEntries goals t
-FewTurned goals left (Again met n) = (n ≤ 2 * goals) × (0 < left)
+FewTurned goals left i = FewWhere (0 < left) goals i

@@ -1,9 +1,10 @@
 //! Item 4 of document 02 on the original with its delegate: which of undecided and overflow is
 //! seen. Every list of up to three lines, and every list of two lists of up to two lines.
 
-use oracle_core::book::{Book, Header, Part};
-use oracle_core::case::{Case, Expected, Query};
-use oracle_core::{Limits, work_len};
+use oracle_core::Limits;
+use oracle_core::book::Part;
+use oracle_core::case::Expected;
+use oracle_core::generate::examples::Example;
 
 type List = fn(Vec<Part>) -> Part;
 const LISTS: [List; 3] = [Part::All, Part::Any, Part::Pick];
@@ -27,38 +28,22 @@ fn choices(parts: &[Part], count: usize) -> Vec<Vec<Part>> {
     }
 }
 
-/// The answer by document 02's words: of the parts up to the one that decides, where one does.
+/// The answer by document 02's words. What comes after a part that decides changes nothing here.
 fn by_the_words(part: &Part) -> u8 {
-    let (parts, deciding, empty, stops) = match part {
+    let (parts, deciding, empty) = match part {
         Part::Call { .. } => return 3,
         Part::Undecided => return 2,
-        Part::All(parts) => (parts, 0, 1, true),
-        Part::Any(parts) => (parts, 1, 0, true),
-        Part::Pick(parts) => (parts, 1, 0, false),
+        Part::All(parts) => (parts, 0, 1),
+        Part::Any(parts) | Part::Pick(parts) => (parts, 1, 0),
     };
-    let mut met = Vec::new();
-    for answer in parts.iter().map(by_the_words) {
-        met.push(answer);
-        if stops && answer == deciding {
-            break;
-        }
-    }
+    let met: Vec<u8> = parts.iter().map(by_the_words).collect();
     [deciding, 2, 3].into_iter().find(|answer| met.contains(answer)).unwrap_or(empty)
 }
 
-fn by_the_original(part: &Part) -> u8 {
-    let header =
-        Header { provisional_cache: true, goals: 1, top_depth: 0, step_limit: 1, divisor: 1 };
-    let book = Book { header, parts: vec![part.clone()] };
-    let case = Case {
-        name: String::new(),
-        book: book.to_bytes(),
-        cache: vec![0; header.cache_len()],
-        queries: vec![Query::new(0, 0, work_len(1))],
-    };
-    match case.replies(Limits::default()).remove(0) {
+fn by_the_original(example: &Example) -> u8 {
+    match example.case().replies(Limits::default()).remove(0) {
         Some(Expected::Reply { answer, refusal: 0, .. }) => answer,
-        other => panic!("{part:?}: {other:?}"),
+        other => panic!("{:?}: {other:?}", example.part),
     }
 }
 
@@ -67,7 +52,8 @@ fn compared(lists: impl Iterator<Item = Part>) -> [u32; 4] {
     let mut seen = [0; 4];
     for list in lists {
         let answer = by_the_words(&list);
-        assert_eq!(by_the_original(&list), answer, "{list:?}");
+        let example = Example { part: list, step_limit: 1, depth: 0, answer };
+        assert_eq!(by_the_original(&example), answer, "{:?}", example.part);
         seen[usize::from(answer)] += 1;
     }
     seen
