@@ -14,7 +14,7 @@ size_t work_length(size_t goals) {
 }
 
 size_t cache_length(size_t goals, size_t top) {
-    return goals < 1 || goals > 64 || top > 63 ? 0 : goals * (top + 2) * (goals + 3);
+    return goals < 1 || goals > 64 || top > 63 ? 0 : goals * (top + 2) * (FLAGS + goals);
 }
 
 /* A number of three columns: right-justified, without leading zeros. */
@@ -68,42 +68,44 @@ static int body_is_right(struct lines *l) {
     return l->next == l->count;
 }
 
-/* 0 to 4. Goals and top depth are given where the header is in range, and left as they are elsewhere. */
-unsigned book_refusal(const uint8_t *book, size_t len, unsigned *goals, unsigned *top) {
+/* 0 to 4. The header is given where it is in range, and left as it is elsewhere. */
+unsigned book_refusal(const uint8_t *book, size_t len, struct header *header) {
     static unsigned line[1000][FIELDS];
     if (len % LINE != 0 || len < 48 || len > 16000) return 1;
     for (size_t i = 0; i < len / LINE; i++)
         if (!read_line(book + LINE * i, line[i])) return 2;
     const unsigned *h = line[0];
     if (h[0] > 1 || h[1] < 1 || h[1] > 64 || h[2] > 63 || h[3] > 99 || h[4] < 1 || h[4] > 99) return 3;
-    *goals = h[1];
-    *top = h[2];
+    *header = (struct header){h[1], h[2], h[3] == 0 ? 1 : h[3]};
     struct lines body = {line, len / LINE, 1, h[1]};
     return body_is_right(&body) ? 0 : 4;
 }
 
 /* Slot 0 of a goal is for success, slot 1 + d for overflow at required depth d. */
-static int slot_is_well_formed(const uint8_t *slot, unsigned number, unsigned goals, unsigned top) {
+static int slot_is_well_formed(const uint8_t *slot, unsigned number, const struct header *h) {
     unsigned highest = 0;
-    for (unsigned i = 0; i < goals; i++)
-        if (slot[3 + i] > highest) highest = slot[3 + i];
-    if (slot[0] == 0) return slot[1] == 0 && slot[2] == 0 && highest == 0;
-    return slot[0] == 1 && slot[1] <= 3 && slot[2] <= top && highest <= 31 && (number == 0 || slot[2] == number - 1);
+    for (unsigned i = 0; i < h->goals; i++)
+        if (slot[FLAGS + i] > highest) highest = slot[FLAGS + i];
+    if (slot[HELD] == 0) return slot[RESULT] == 0 && slot[DEPTH] == 0 && slot[PASSES] == 0 && highest == 0;
+    return slot[HELD] == 1 && slot[RESULT] <= 3 && slot[DEPTH] <= h->top && slot[PASSES] >= 1 && slot[PASSES] <= h->passes && highest <= 31
+           && (number == 0 || slot[DEPTH] == number - 1);
 }
 
-int cache_is_well_formed(const uint8_t *cache, unsigned goals, unsigned top) {
-    for (unsigned i = 0; i < goals * (top + 2); i++)
-        if (!slot_is_well_formed(cache + (size_t)i * (goals + 3), i % (top + 2), goals, top)) return 0;
+int cache_is_well_formed(const uint8_t *cache, const struct header *h) {
+    unsigned slots = h->top + 2;
+    for (unsigned i = 0; i < h->goals * slots; i++)
+        if (!slot_is_well_formed(cache + (size_t)i * (FLAGS + h->goals), i % slots, h)) return 0;
     return 1;
 }
 
 /* 1 to 9, or 0 where the query is evaluated. */
 unsigned expected_refusal(const struct query *q) {
-    unsigned goals = 0, top = 0, refusal = book_refusal(q->book.at, q->book.len, &goals, &top);
+    struct header h = {0};
+    unsigned refusal = book_refusal(q->book.at, q->book.len, &h);
     if (refusal != 0) return refusal;
-    if (q->goal >= goals) return 5;
-    if (q->depth > top) return 6;
-    if (q->cache.len != cache_length(goals, top)) return 7;
-    if (!cache_is_well_formed(q->cache.at, goals, top)) return 8;
-    return q->work.len == work_length(goals) ? 0 : 9;
+    if (q->goal >= h.goals) return 5;
+    if (q->depth > h.top) return 6;
+    if (q->cache.len != cache_length(h.goals, h.top)) return 7;
+    if (!cache_is_well_formed(q->cache.at, &h)) return 8;
+    return q->work.len == work_length(h.goals) ? 0 : 9;
 }

@@ -35,10 +35,18 @@ struct query {
     size_t goal, depth;
 };
 
+/* What a book's header says of its caches; `passes` are the most that a slot may say, L or 1. */
+struct header {
+    unsigned goals, top, passes;
+};
+
+/* Where a slot's bytes stand; from FLAGS on there is one for each goal. */
+enum { HELD, RESULT, DEPTH, PASSES, FLAGS };
+
 /* ---- make.c: books, caches and lengths, right and wrong, of an input */
 
 void make_book(struct input *in, struct bytes *book);
-void make_cache(struct input *in, unsigned goals, unsigned top, struct bytes *cache);
+void make_cache(struct input *in, const struct header *h, struct bytes *cache);
 void make_noise(unsigned seed, uint8_t *to, size_t len);
 size_t other_length(struct input *in, size_t right);
 
@@ -46,8 +54,8 @@ size_t other_length(struct input *in, size_t right);
 
 size_t work_length(size_t goals);
 size_t cache_length(size_t goals, size_t top);
-unsigned book_refusal(const uint8_t *book, size_t len, unsigned *goals, unsigned *top);
-int cache_is_well_formed(const uint8_t *cache, unsigned goals, unsigned top);
+unsigned book_refusal(const uint8_t *book, size_t len, struct header *header);
+int cache_is_well_formed(const uint8_t *cache, const struct header *h);
 unsigned expected_refusal(const struct query *q);
 
 /* ---- groups.c: the condition of mixed books, decided apart from the library */

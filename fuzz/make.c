@@ -163,24 +163,36 @@ void make_noise(unsigned seed, uint8_t *to, size_t len) {
 }
 
 /* Every slot is vacant, or holds a result with some nested goals. */
-static void right_slots(unsigned seed, unsigned goals, unsigned top, uint8_t *slot) {
+static void right_slots(unsigned seed, const struct header *h, uint8_t *slot) {
     uint32_t state = seed;
     unsigned held = 32 + noise(&state) / 2;
-    for (unsigned i = 0; i < goals * (top + 2); i++, slot += goals + 3) {
-        unsigned number = i % (top + 2);
-        memset(slot, 0, goals + 3);
+    for (unsigned i = 0; i < h->goals * (h->top + 2); i++, slot += FLAGS + h->goals) {
+        unsigned number = i % (h->top + 2), passes = noise(&state);
+        memset(slot, 0, FLAGS + h->goals);
         if (noise(&state) >= held) continue;
-        slot[0] = 1;
-        slot[1] = (uint8_t)(noise(&state) % 4);
-        slot[2] = (uint8_t)(number == 0 ? noise(&state) % (top + 1) : number - 1);
-        for (unsigned g = 0; g < goals; g++) slot[3 + g] = (uint8_t)(noise(&state) < 160 ? 0 : noise(&state) % 32);
+        slot[HELD] = 1;
+        slot[RESULT] = (uint8_t)(noise(&state) % 4);
+        slot[DEPTH] = (uint8_t)(number == 0 ? noise(&state) % (h->top + 1) : number - 1);
+        slot[PASSES] = (uint8_t)(passes % 2 == 0 ? h->passes : 1 + passes / 2 % h->passes);
+        for (unsigned g = 0; g < h->goals; g++) slot[FLAGS + g] = (uint8_t)(noise(&state) < 160 ? 0 : noise(&state) % 32);
+    }
+}
+
+/* Spoils a byte: any of the cache, or of a slot the depth, which becomes too great, or the passes, which become none or one too many. */
+static void spoil_slot(unsigned where, unsigned value, const struct header *h, struct bytes *cache) {
+    uint8_t *slot = cache->at + where % (h->goals * (h->top + 2)) * (FLAGS + h->goals);
+    switch (value % 16) {
+    case 7: slot[PASSES] = 0; break;
+    case 14: slot[DEPTH] = (uint8_t)(h->top + 1); break;
+    case 15: slot[PASSES] = (uint8_t)(h->passes + 1); break;
+    default: cache->at[where * 7 % cache->len] = (uint8_t)(value < 192 ? value % 34 : value);
     }
 }
 
 /* A cache of the right length: zeros, right slots, right slots with a byte or two spoilt, any bytes. */
-void make_cache(struct input *in, unsigned goals, unsigned top, struct bytes *cache) {
+void make_cache(struct input *in, const struct header *h, struct bytes *cache) {
     unsigned way = take(in) % 16;
-    cache->len = cache_length(goals, top);
+    cache->len = cache_length(h->goals, h->top);
     memset(cache->at, 0, cache->len);
     if (way < 7) return;
     unsigned seed = take2(in);
@@ -188,10 +200,10 @@ void make_cache(struct input *in, unsigned goals, unsigned top, struct bytes *ca
         make_noise(seed, cache->at, cache->len);
         return;
     }
-    if (way < 14) right_slots(seed, goals, top, cache->at);
+    if (way < 14) right_slots(seed, h, cache->at);
     for (unsigned times = way < 12 ? 0 : way - 11; times > 0; times--) {
-        unsigned where = take2(in), value = take(in);
-        cache->at[where * 7 % cache->len] = (uint8_t)(value < 192 ? value % 34 : value);
+        unsigned where = take2(in);
+        spoil_slot(where, take(in), h, cache);
     }
 }
 

@@ -108,10 +108,10 @@ static void check(const struct query *q, const struct query *placed, uint32_t co
 
 /* What an accepted query leaves is a cache for the next. */
 static void check_form(const struct query *q, uint32_t code) {
-    unsigned goals = 0, top = 0;
+    struct header h = {0};
     if (code / 256 != 0) return;
-    book_refusal(q->book.at, q->book.len, &goals, &top);
-    if (!cache_is_well_formed(q->cache.at, goals, top)) fail(q, code, "the cache that is left is ill-formed");
+    book_refusal(q->book.at, q->book.len, &h);
+    if (!cache_is_well_formed(q->cache.at, &h)) fail(q, code, "the cache that is left is ill-formed");
 }
 
 static void count(uint32_t code) {
@@ -155,7 +155,8 @@ static int ask(struct query *q, unsigned seed) {
 /* A book that is refused is refused the same with any goal, depth, cache and workspace. */
 static void ask_with_little(const struct query *q) {
     static uint8_t cache, work;
-    unsigned goals, top, refusal = book_refusal(q->book.at, q->book.len, &goals, &top);
+    struct header h;
+    unsigned refusal = book_refusal(q->book.at, q->book.len, &h);
     struct query bare = {q->book, {&cache, q->goal % 2}, {&work, q->depth % 2}, q->depth, q->goal};
     if (refusal != 0 && ask(&bare, 0) == 0) fail(&bare, 0, "refusing a book takes too long");
 }
@@ -179,7 +180,8 @@ static void check_lengths(struct input *in) {
 static void check_guarantee(struct input *in, const struct bytes *book) {
     uint64_t want[CONFLICT] = {0}, before[5];
     uint8_t none = 0;
-    unsigned n = take(in) % 6, goals, top, refusal = book_refusal(book->at, book->len, &goals, &top);
+    struct header h;
+    unsigned n = take(in) % 6, refusal = book_refusal(book->at, book->len, &h);
     struct query q = {*book, {&none, 0}, {(uint8_t *)before, n * sizeof *before}, n, 0}, placed;
     if (refusal == 0) *(expected_conflict(book->at, book->len, want) ? &broken : &given) += 1;
     for (int how = 0; how < PLACES; how++) {
@@ -196,12 +198,12 @@ static void check_guarantee(struct input *in, const struct bytes *book) {
 }
 
 /* One query; the cache, of the right length, is carried on where this one has it. 0 where it takes too long. */
-static int one_query(struct input *in, struct query *q, unsigned goals, unsigned top) {
+static int one_query(struct input *in, struct query *q, const struct header *h) {
     size_t right = q->cache.len;
     q->cache.len = other_length(in, right);
-    q->work.len = other_length(in, work_length(goals));
-    q->goal = any_number(in, goals);
-    q->depth = any_number(in, top + 1);
+    q->work.len = other_length(in, work_length(h->goals));
+    q->goal = any_number(in, h->goals);
+    q->depth = any_number(in, h->top + 1);
     int done = ask(q, take(in));
     q->cache.len = right;
     return done;
@@ -217,16 +219,16 @@ int LLVMFuzzerTestOneInput(const uint8_t *data, size_t size) {
     static uint8_t book[ROOM], cache[ROOM], work[ROOM];
     struct input in = {data, size};
     struct query q = {{book, 0}, {cache, 0}, {work, 0}, 0, 0};
-    unsigned goals = 3, top = 3;
+    struct header h = {3, 3, 1};
     if (inputs++ == 0) begin();
     check_lengths(&in);
     make_book(&in, &q.book);
-    book_refusal(book, q.book.len, &goals, &top);
+    book_refusal(book, q.book.len, &h);
     check_guarantee(&in, &q.book);
-    make_cache(&in, goals, top, &q.cache);
+    make_cache(&in, &h, &q.cache);
     for (unsigned left = 1 + take(&in) % 6; left > 0; left--) {
-        if (take(&in) % 32 == 31) make_cache(&in, goals, top, &q.cache);
-        if (!one_query(&in, &q, goals, top)) break;
+        if (take(&in) % 32 == 31) make_cache(&in, &h, &q.cache);
+        if (!one_query(&in, &q, &h)) break;
     }
     ask_with_little(&q);
     return 0;

@@ -22,7 +22,7 @@ size_t search_graph_work_len(size_t goals) {
 }
 
 size_t search_graph_cache_len(size_t goals, size_t top_depth) {
-    return wrong("cache-length") && top_depth == 64 ? goals * 66 * (goals + 3) : right_cache_len(goals, top_depth);
+    return wrong("cache-length") && top_depth == 64 ? goals * 66 * (goals + 4) : right_cache_len(goals, top_depth);
 }
 
 static void read_byte(const uint8_t *at) {
@@ -31,6 +31,19 @@ static void read_byte(const uint8_t *at) {
 
 static void write_same(const uint8_t *at) {
     *(volatile uint8_t *)(uintptr_t)at = *at;
+}
+
+/* The length of a slot, for a book whose header is right. */
+static size_t slot_length(const uint8_t *book) {
+    char goals[4] = {(char)book[3], (char)book[4], (char)book[5], 0};
+    return (size_t)atoi(goals) + 4;
+}
+
+/* Makes the passes that all held slots say, or those that say no pass, another number. */
+static void set_passes(const uint8_t *book, uint8_t *cache, size_t cache_len, int none_only, uint8_t passes) {
+    size_t slot = slot_length(book);
+    for (size_t i = 0; slot > 4 && i + slot <= cache_len; i += slot)
+        if (cache[i] == 1 && (!none_only || cache[i + 3] == 0)) cache[i + 3] = passes;
 }
 
 /* Faults before the query runs. */
@@ -47,8 +60,10 @@ static void before(const uint8_t *book, size_t book_len, uint8_t *cache, size_t 
 }
 
 /* Faults in the bytes that a query leaves. */
-static void leave(uint32_t refusal, uint8_t *cache, size_t cache_len, uint8_t *work, size_t work_len) {
+static void leave(uint32_t refusal, const uint8_t *book, uint8_t *cache, size_t cache_len, uint8_t *work, size_t work_len) {
     static unsigned calls;
+    if (wrong("passes-none") && refusal == 0) set_passes(book, cache, cache_len, 0, 0);
+    if (wrong("passes-beyond-limit") && refusal == 0) set_passes(book, cache, cache_len, 0, 100);
     if (wrong("cache-has-a-state") && refusal == 0 && ++calls % 1000 == 0) cache[cache_len - 1] ^= 1;
     if (wrong("accepted-leaves-work") && refusal == 0) work[work_len - 1] = 1;
     if (wrong("accepted-spoils-cache") && refusal == 0) cache[cache_len - 1] = 32;
@@ -87,11 +102,23 @@ static uint32_t other_code(uint32_t code, int odd_work, size_t cache_len, size_t
     return code;
 }
 
+/* The query, with slots that say no pass read as if they said one. */
+static uint32_t query_unchecked(const uint8_t *book, size_t book_len, uint8_t *cache, size_t cache_len, uint8_t *work, size_t work_len,
+                                size_t goal, size_t depth) {
+    uint8_t *copy = malloc(cache_len + 1);
+    memcpy(copy, cache, cache_len);
+    if (book_len >= 48) set_passes(book, copy, cache_len, 1, 1);
+    uint32_t code = right_query(book, book_len, copy, cache_len, work, work_len, goal, depth);
+    if (code / 256 == 0 || code / 256 > 9) memcpy(cache, copy, cache_len);
+    free(copy);
+    return code;
+}
+
 uint32_t search_graph_query(const uint8_t *book, size_t book_len, uint8_t *cache, size_t cache_len, uint8_t *work, size_t work_len, size_t goal,
                             size_t depth) {
     int odd_work = work_len > 0 && work[0] % 2 == 1;
     before(book, book_len, cache, cache_len, work, work_len);
-    uint32_t code = right_query(book, book_len, cache, cache_len, work, work_len, goal, depth);
-    leave(code / 256, cache, cache_len, work, work_len);
+    uint32_t code = (wrong("passes-unchecked") ? query_unchecked : right_query)(book, book_len, cache, cache_len, work, work_len, goal, depth);
+    leave(code / 256, book, cache, cache_len, work, work_len);
     return other_code(code, odd_work, cache_len, depth);
 }

@@ -25,7 +25,21 @@ extern "C" {
 size_t search_graph_work_len(size_t goals);
 
 /* The length in bytes of the cache for a number of goals, 1 to 64, and a top depth, 0 to 63; 0
-   where one is out of range. It is goals * (top_depth + 2) * (goals + 3). */
+   where one is out of range. It is goals * (top_depth + 2) * (goals + 4).
+
+   A cache is a row of slots of goals + 4 bytes. Each goal in turn has top_depth + 2 of them: one
+   for a result that met no overflow of the depth, then one for each required depth 0 to
+   top_depth, for results that met one. A slot is all zeros, or holds a result:
+     byte 0        1
+     byte 1        the result, 0 to 3 as the answers below
+     byte 2        the required depth; in a slot for one required depth, that depth
+     byte 3        the passes: how often the goal's part was run for this result, the last run
+                   included; at least 1, and at most the book's step limit, or 1 where that is 0
+     byte 4 + i    0, or the paths to goal i, which the result rests on: a sum of 1 (of no step),
+                   2 (inductive), 4 (unknown), 8 (coinductive), 16 (forced ambiguity)
+   An accepted query of goal g at depth d leaves what it found in g's first slot, with a byte 2 of
+   at most d, and else in the slot of g for required depth d. It may leave results of other goals
+   too; of goals that rest on each other it keeps the one that was called first. */
 size_t search_graph_cache_len(size_t goals, size_t top_depth);
 
 /* Evaluates a goal of the book at a depth, and returns answer + 256 * refusal: one of the answers
@@ -34,9 +48,8 @@ size_t search_graph_cache_len(size_t goals, size_t top_depth);
 
    book   is only read.
    cache  is read and written. A new one is all zeros; it is then carried from query to query on
-          the same book. One that was kept from a library without the rule on 2 and 3 below must
-          be filled with zeros first: it may hold a 3 where this library says 2. Nothing marks
-          it, so that it is not refused.
+          the same book. One that was kept from a library whose slots had no byte for passes has
+          another length, and is refused with 7: begin with zeros of the new length.
    work   holds the search graph while the query runs. It need not be cleared.
 
    Answer (code % 256), where refusal is 0:

@@ -74,7 +74,7 @@ fn floor(list: &List, times: usize) -> u64 {
 
 /// The same, each byte looked at by itself: the loop ends at a byte that stands in no book and no cache.
 fn byte_floor(list: &List, times: usize) -> u64 {
-    read_and_clear(list, times, |bytes| bytes.iter().any(|&b| b >= 64))
+    read_and_clear(list, times, |bytes| bytes.iter().any(|&b| b >= 100))
 }
 
 fn read_and_clear(list: &List, times: usize, read: impl Fn(&[u8]) -> bool) -> u64 {

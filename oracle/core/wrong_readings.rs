@@ -1,12 +1,20 @@
-//! Wrong readings of document 01's added parts and of document 02, numbers 100 to 199: edits of this
-//! crate's files, each behind a switch. `mutant(n)` is true when number n is switched on.
+//! Wrong readings of document 01's added parts and of document 02, numbers 100 to 199 and from 300
+//! on: edits of this crate's files, each behind a switch. `mutant(n)` is true when number n is
+//! switched on.
+
+pub mod passes;
 
 use crate::Edit;
 use crate::apply::edit;
 
 /// The files that are edited, and how visible their modules are.
-pub const FILES: [(&str, &str); 4] =
-    [("delegate.rs", ""), ("read_book.rs", ""), ("reply.rs", "pub"), ("cache.rs", "pub")];
+pub const FILES: [(&str, &str); 5] = [
+    ("book.rs", "pub"),
+    ("delegate.rs", ""),
+    ("read_book.rs", ""),
+    ("reply.rs", "pub"),
+    ("cache.rs", "pub"),
+];
 
 pub const READINGS: &[(u32, &str)] = &[
     (100, "a pick ignores no usages"),
@@ -520,10 +528,12 @@ fn read_plain_part(graph: &mut SearchGraph<PartReader>, part: &Part) -> u8 {
     edit(
         "cache.rs",
         "wrong readings 165, 169",
-        "            result <= 3 && depth_ok && flags.iter().all(|&f| f <= 31)\n",
-        "            result <= if mutant(165) { 2 } else { 3 }
-                && depth_ok
-                && flags.iter().all(|&f| f <= if mutant(169) { 15 } else { 31 })
+        "            let flags_ok = slot[FLAGS..].iter().all(|&f| f <= 31);
+            slot[RESULT] <= 3 && depth_ok && passes_ok && flags_ok
+",
+        "            let highest = if mutant(169) { 15 } else { 31 };
+            let flags_ok = slot[FLAGS..].iter().all(|&f| f <= highest);
+            slot[RESULT] <= if mutant(165) { 2 } else { 3 } && depth_ok && passes_ok && flags_ok
 ",
     ),
     edit("cache.rs", "wrong reading 171", "        _ => false,\n", "        _ => mutant(171),\n"),

@@ -84,6 +84,14 @@ pub const EDITS: &[Edit] = &[
               crate::hooks::insert_differs();\n                }",
         why: "insert's assertion on a success entry is refusal 11",
     },
+    // Document 02, item 8: how many passes.
+    Edit {
+        file: "mod.rs",
+        find: "            let result = D::compute_goal(self, cx, input, inspect);\n",
+        put: "            crate::hooks::part_is_run();\n            \
+              let result = D::compute_goal(self, cx, input, inspect);\n",
+        why: "the loop's runs of a goal's part are counted, frame by frame",
+    },
     // Document 01's statement on stack and entries after a finished frame.
     Edit {
         file: "mod.rs",

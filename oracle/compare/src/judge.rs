@@ -2,6 +2,7 @@
 
 use oracle_core::judge::too_long;
 
+use crate::passes::KINDS;
 use crate::tally::Tally;
 
 /// From so many cases on, a class is judged by its floors; fewer tell too little.
@@ -55,6 +56,7 @@ const FLOORS: &[Floors] = &[
     floors("damaged-book",     1000, [ 20,   22,  23,  35], [160, 120, 70, 370,   0,   0,   0,    0,   0,  0,   0]),
     floors("made-cache",       1200, [270,  350, 190, 250], [  0,   0,  0,   0,   7,   0,   0,    0,   0,  0,   9]),
     floors("changed-cache",    1200, [200,  330, 220, 320], [  0,   0,  0,   0,   6,   0,   0,    0,   0,  0,  16]),
+    floors("reruns",           1500, [550,    8, 310, 400], [  0,   0,  0,   0,   0,   0,   0,    0,   0,  0, 100]),
     floors("refusals-race",    1500, [120,  510, 150, 210], [  0,   0,  0,   0,   0,   0,   0,    0,   0, 65, 280]),
     floors("damaged-cache",    1200, [ 29,   21,  12,  22], [  0,   0,  0,   0,   9,   0,   0, 1000,   0,  0,   0]),
 ];
@@ -99,6 +101,18 @@ pub fn too_few_entries(all: &Tally) -> Vec<String> {
         return vec![];
     }
     vec![format!("never more than {} entries live at once, fewer than {ENTRIES}", all.entries)]
+}
+
+/// Of each of `KINDS`, in every `ENOUGH` cases of all classes: half of what they give.
+const PASSES: [u64; KINDS.len()] = [2_500, 180, 95, 23, 45];
+
+/// Where all classes together gave too few.
+pub fn too_few_passes(cases: u64, all: &Tally) -> Vec<String> {
+    let least = PASSES.map(|floor| floor * cases / ENOUGH);
+    let each = KINDS.iter().zip(all.passes).zip(least);
+    let few = each.filter(|((_, seen), least)| seen < least);
+    few.map(|((kind, seen), least)| format!("passes {kind}: {seen} queries, fewer than {least}"))
+        .collect()
 }
 
 /// Where a class is below its floors after so many cases.
@@ -193,6 +207,18 @@ mod tests {
             let mut tally = enough.clone();
             tally.guarantees[i] -= 1;
             assert_eq!(too_few_guarantees(2 * ENOUGH, &tally).len(), 1);
+        }
+    }
+
+    #[test]
+    fn one_query_with_passes_fewer_is_too_few() {
+        let enough = Tally { passes: PASSES.map(|n| 2 * n), ..Tally::default() };
+        assert!(too_few_passes(2 * ENOUGH, &enough).is_empty());
+        for (i, kind) in KINDS.iter().enumerate() {
+            let mut tally = enough.clone();
+            tally.passes[i] -= 1;
+            let found = too_few_passes(2 * ENOUGH, &tally);
+            assert!(found.len() == 1 && found[0].contains(kind), "{found:?}");
         }
     }
 

@@ -4,6 +4,7 @@
 mod guarantee;
 mod guarded;
 mod judge;
+mod passes;
 mod tally;
 
 use std::process::ExitCode;
@@ -11,9 +12,11 @@ use std::time::Instant;
 
 use guarded::Guarded;
 use oracle_core::arguments::Arguments;
+use oracle_core::book::{Book, Header};
 use oracle_core::case::{Case, Query};
 use oracle_core::generate::{CLASSES, Class, class_named};
 use oracle_core::{Limits, Outcome, reply_within, work_len};
+use passes::{KINDS, shown};
 use tally::Tally;
 
 const USAGE: &str = "usage: compare [--seed S] [--cases N] [--seconds T] [--fuel F] [--class NAME] [--least M]
@@ -66,6 +69,8 @@ fn any_bytes(len: usize, salt: usize) -> Vec<u8> {
 /// A query, and how it is told.
 struct Asked<'a> {
     case: &'a Case,
+    /// Where the book is good.
+    header: Option<Header>,
     number: usize,
     query: &'a Query,
 }
@@ -109,6 +114,7 @@ fn compare_query(asked: &Asked, cache: &mut [u8], limits: Limits, tally: &mut Ta
     let mut our_cache = Guarded::new(cache);
     let mut work = any_bytes(query.work_len, asked.number);
     let mut our_work = Guarded::new(&work);
+    let before = cache.to_vec();
     let said = original_says(asked, cache, &mut work, limits, tally);
     let Some((answer, refusal)) = said else { return };
     let book = Guarded::new(&case.book);
@@ -117,7 +123,7 @@ fn compare_query(asked: &Asked, cache: &mut [u8], limits: Limits, tally: &mut Ta
         library::query(book.inner(), our_cache.inner_mut(), our_work.inner_mut(), goal, depth);
     tally.compared += 1;
     match refusal {
-        0 => tally.answers[answer as usize] += 1,
+        0 => tally.accept(answer, asked.header.map(|header| shown(&header, &before, cache))),
         n => tally.refusals[n as usize] += 1,
     }
     let whole = book.guards_hold() && our_cache.guards_hold() && our_work.guards_hold();
@@ -140,8 +146,9 @@ fn compare_query(asked: &Asked, cache: &mut [u8], limits: Limits, tally: &mut Ta
 
 fn compare_case(case: &Case, limits: Limits, tally: &mut Tally) {
     let mut cache = case.cache.clone();
+    let header = Book::read(&case.book).ok().map(|book| book.header);
     for (number, query) in case.queries.iter().enumerate() {
-        compare_query(&Asked { case, number, query }, &mut cache, limits, tally);
+        compare_query(&Asked { case, header, number, query }, &mut cache, limits, tally);
     }
 }
 
@@ -154,7 +161,7 @@ fn compare_lengths() -> u64 {
         differences +=
             u64::from(library::work_len(goals) != if known { work_len(goals) } else { 0 });
         for top in numbers() {
-            let expected = if known && top <= 63 { goals * (top + 2) * (goals + 3) } else { 0 };
+            let expected = if known && top <= 63 { goals * (top + 2) * (goals + 4) } else { 0 };
             differences += u64::from(library::cache_len(goals, top) != expected);
         }
     }
@@ -194,6 +201,9 @@ fn print(options: &Options, tallies: &[Tally], cases: u64, all: &Tally) {
         "seed {}, {cases} cases of each class: {} queries compared, {} differences; not compared: {} too long, {} panics of the original, {} frames out of order",
         options.seed, all.compared, all.differences, all.too_long, all.panics, all.frames
     );
+    let passes: Vec<String> =
+        KINDS.iter().zip(all.passes).map(|(kind, count)| format!("{kind} {count}")).collect();
+    println!("accepted queries by the passes of the slots that they wrote: {}", passes.join(", "));
     let [given, broken, refused] = all.guarantees;
     println!(
         "guarantees: {given} given, {broken} broken, {refused} books refused, {} differences",
@@ -211,6 +221,7 @@ fn faults(options: &Options, tallies: &[Tally], cases: u64, all: &Tally) -> Vec<
         );
         if options.classes.len() == CLASSES.len() {
             found.extend(judge::too_few_guarantees(cases, all));
+            found.extend(judge::too_few_passes(cases, all));
             found.extend(judge::too_few_entries(all));
         }
     } else {

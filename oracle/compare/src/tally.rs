@@ -1,5 +1,7 @@
 //! What a run has seen of a class.
 
+use crate::passes::KINDS;
+
 #[derive(Clone, Default)]
 pub struct Tally {
     pub compared: u64,
@@ -10,6 +12,8 @@ pub struct Tally {
     pub refusals: [u64; 12],
     /// The most provisional entries that were live at once in a query.
     pub entries: usize,
+    /// Accepted queries by what the slots that they wrote say of passes, in the order of `KINDS`.
+    pub passes: [u64; KINDS.len()],
     pub too_long: u64,
     /// Of the original, as are frames out of order.
     pub panics: u64,
@@ -28,9 +32,16 @@ impl Tally {
         self.panics += other.panics;
         self.frames += other.frames;
         (0..4).for_each(|i| self.answers[i] += other.answers[i]);
+        (0..KINDS.len()).for_each(|i| self.passes[i] += other.passes[i]);
         self.wrong_guarantees += other.wrong_guarantees;
         (0..3).for_each(|i| self.guarantees[i] += other.guarantees[i]);
         (0..12).for_each(|i| self.refusals[i] += other.refusals[i]);
+    }
+
+    pub fn accept(&mut self, answer: u8, passes: Option<[bool; KINDS.len()]>) {
+        self.answers[usize::from(answer)] += 1;
+        let shown = passes.into_iter().flatten().enumerate();
+        shown.for_each(|(kind, shown)| self.passes[kind] += u64::from(shown));
     }
 
     pub fn asked(&self) -> u64 {

@@ -1,5 +1,7 @@
 //! A book as a tree, and how it is written.
 
+use crate::slot::FLAGS;
+
 pub const LINE: usize = 16;
 pub const MAX_LINES: usize = 1000;
 pub const MAX_NEST: usize = 8;
@@ -47,7 +49,12 @@ impl Header {
     }
 
     pub fn slot_len(&self) -> usize {
-        self.goals + 3
+        FLAGS + self.goals
+    }
+
+    /// The most runs of a goal's part in one frame: L, and 1 where L is 0.
+    pub fn most_passes(&self) -> usize {
+        self.step_limit.max(1)
     }
 
     pub fn cache_len(&self) -> usize {

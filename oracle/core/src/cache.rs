@@ -1,10 +1,12 @@
-//! The global cache in document 01's byte form (its notebook): form, loading, storing.
+//! The global cache in byte form (document 01's notebook, with item 8 of document 02): form,
+//! loading, storing.
 
 use original::Held;
 use original::search_graph::GlobalCache;
 
 use crate::book::Header;
-use crate::delegate::Lent;
+use crate::delegate::{Counted, Lent};
+use crate::slot::{DEPTH, FLAGS, HELD, PASSES, RESULT};
 
 /// Whether every slot is well-formed; the length is right.
 pub fn well_formed(header: &Header, bytes: &[u8]) -> bool {
@@ -14,13 +16,15 @@ pub fn well_formed(header: &Header, bytes: &[u8]) -> bool {
 
 /// `number` 0 is the success slot, else the overflow slot of required depth `number - 1`.
 fn slot_ok(header: &Header, number: usize, slot: &[u8]) -> bool {
-    let (held, result, depth, flags) = (slot[0], slot[1], usize::from(slot[2]), &slot[3..]);
-    match held {
+    let (depth, passes) = (usize::from(slot[DEPTH]), usize::from(slot[PASSES]));
+    match slot[HELD] {
         0 => slot.iter().all(|&b| b == 0),
         1 => {
             let depth_ok =
                 if number == 0 { depth <= header.top_depth } else { depth == number - 1 };
-            result <= 3 && depth_ok && flags.iter().all(|&f| f <= 31)
+            let passes_ok = (1..=header.most_passes()).contains(&passes);
+            let flags_ok = slot[FLAGS..].iter().all(|&f| f <= 31);
+            slot[RESULT] <= 3 && depth_ok && passes_ok && flags_ok
         }
         _ => false,
     }
@@ -30,13 +34,13 @@ fn slot_ok(header: &Header, number: usize, slot: &[u8]) -> bool {
 pub(crate) fn load(header: &Header, bytes: &[u8]) -> GlobalCache<Lent> {
     let mut cache = GlobalCache::new();
     for (i, slot) in bytes.chunks(header.slot_len()).enumerate() {
-        if slot[0] == 1 {
-            let flags = slot[3..].iter().enumerate();
+        if slot[HELD] == 1 {
+            let flags = slot[FLAGS..].iter().enumerate();
             cache.load(Held {
                 input: i / header.slots_per_goal(),
                 overflow: i % header.slots_per_goal() != 0,
-                required_depth: slot[2].into(),
-                result: slot[1],
+                required_depth: slot[DEPTH].into(),
+                result: Counted { value: slot[RESULT], passes: slot[PASSES].into() },
                 nested: flags.filter(|(_, f)| **f != 0).map(|(goal, &f)| (goal, f)).collect(),
             });
         }
@@ -51,11 +55,12 @@ pub(crate) fn store(header: &Header, cache: &GlobalCache<Lent>, bytes: &mut [u8]
         let number = if held.overflow { held.required_depth + 1 } else { 0 };
         let start = (held.input * header.slots_per_goal() + number) * header.slot_len();
         let slot = &mut bytes[start..start + header.slot_len()];
-        slot[0] = 1;
-        slot[1] = held.result;
-        slot[2] = u8::try_from(held.required_depth).expect("required depth fits in a byte");
+        slot[HELD] = 1;
+        slot[RESULT] = held.result.value;
+        slot[DEPTH] = u8::try_from(held.required_depth).expect("required depth fits in a byte");
+        slot[PASSES] = u8::try_from(held.result.passes).expect("passes fit in a byte");
         for (goal, flags) in held.nested {
-            slot[3 + goal] = flags;
+            slot[FLAGS + goal] = flags;
         }
     });
 }

@@ -1,7 +1,8 @@
-//! Document 01's delegate, with item 4 of document 02. The original hands no state to a delegate,
-//! so the book, the cache and the fuel of the evaluation at hand are kept per thread.
+//! Document 01's delegate, with items 4 and 8 of document 02. The original hands no state to a
+//! delegate, so the book, the cache and the fuel of the evaluation at hand are kept per thread.
 
 use std::cell::{Cell, RefCell};
+use std::fmt::Debug;
 use std::panic::{AssertUnwindSafe, catch_unwind};
 use std::rc::Rc;
 
@@ -23,6 +24,14 @@ pub(crate) const NO: u8 = 0;
 pub(crate) const YES: u8 = 1;
 pub(crate) const UNDECIDED: u8 = 2;
 pub(crate) const OVERFLOW: u8 = 3;
+
+/// What the original keeps as a tracked result: with it, how often the goal's part was run for it
+/// (document 02, item 8).
+#[derive(Clone, Debug)]
+pub(crate) struct Counted<T> {
+    pub value: T,
+    pub passes: usize,
+}
 
 /// How an evaluation ended.
 pub(crate) enum End {
@@ -72,17 +81,18 @@ impl Cx for Lent {
     type Input = usize;
     type Result = u8;
     type AmbiguityKind = u8;
-    type DepNodeIndex = ();
-    type Tracked<T: std::fmt::Debug + Clone> = T;
+    /// The runs of a frame, which is what the original calls a task.
+    type DepNodeIndex = usize;
+    type Tracked<T: Debug + Clone> = Counted<T>;
 
-    fn mk_tracked<T: std::fmt::Debug + Clone>(self, data: T, _: ()) -> T {
-        data
+    fn mk_tracked<T: Debug + Clone>(self, value: T, passes: usize) -> Counted<T> {
+        Counted { value, passes }
     }
-    fn get_tracked<T: std::fmt::Debug + Clone>(self, tracked: &T) -> T {
-        tracked.clone()
+    fn get_tracked<T: Debug + Clone>(self, tracked: &Counted<T>) -> T {
+        tracked.value.clone()
     }
-    fn with_cached_task<T>(self, task: impl FnOnce() -> T) -> (T, ()) {
-        (task(), ())
+    fn with_cached_task<T>(self, frame: impl FnOnce() -> T) -> (T, usize) {
+        hooks::counting_runs(frame)
     }
     fn with_global_cache<R>(self, f: impl FnOnce(&mut GlobalCache<Self>) -> R) -> R {
         CACHE.with_borrow_mut(f)

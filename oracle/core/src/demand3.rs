@@ -9,11 +9,13 @@ use std::rc::Rc;
 use std::time::{Duration, Instant};
 
 use crate::book::Book;
+use crate::cache::well_formed;
 use crate::case::{Case, Query};
 use crate::generate::{class_named, query};
 use crate::groups::wrong::Reading;
 use crate::random::Random;
 use crate::reply::{Limits, Outcome, reply_to_read};
+use crate::slot::{HELD, RESULT};
 pub use counts::{Counts, Seen};
 use measure::Measure;
 
@@ -135,6 +137,9 @@ impl List {
                 counts.accepted += 1;
                 counts.answers[usize::from(answer)] += 1;
                 counts.longest = counts.longest.max(report.goal_runs);
+                if !well_formed(&self.book.header, &self.cache) {
+                    return Some(format!("goal {goal} at depth {depth} leaves an ill-formed slot"));
+                }
                 return self.wrong_answer(goal, depth, answer);
             }
             Outcome::Replied { refusal, .. } => counts.refused[usize::from(refusal)] += 1,
@@ -164,7 +169,8 @@ impl List {
 fn wrong_slot(book: &Book, measure: &Measure, cache: &[u8]) -> Option<String> {
     let header = &book.header;
     let mut slots = cache.chunks(header.slot_len()).enumerate();
-    let (i, slot) = slots
-        .find(|(i, slot)| slot[0] == 1 && !measure.allows(i / header.slots_per_goal(), slot[1]))?;
-    Some(format!("a slot of goal {} holds {}", i / header.slots_per_goal(), slot[1]))
+    let goal = |i: usize| i / header.slots_per_goal();
+    let (i, slot) =
+        slots.find(|(i, slot)| slot[HELD] == 1 && !measure.allows(goal(*i), slot[RESULT]))?;
+    Some(format!("a slot of goal {} holds {}", goal(i), slot[RESULT]))
 }

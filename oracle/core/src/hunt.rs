@@ -54,7 +54,7 @@ const GROUPS: [(&[&str], bool); 4] = [
     (HONEST, true),
     (HONEST, false),
     (&["damaged-book", "bad-query"], false),
-    (&["made-cache", "changed-cache", "refusals-race", "damaged-cache"], false),
+    (&["made-cache", "changed-cache", "reruns", "refusals-race", "damaged-cache"], false),
 ];
 
 #[derive(Clone, Copy, Debug)]

@@ -1,7 +1,6 @@
 //! Document 01's queries, answered by the original.
 
 pub mod arguments;
-pub mod book;
 pub mod case;
 pub mod demand3;
 pub mod generate;
@@ -13,8 +12,11 @@ pub mod random;
 pub mod recorded;
 pub mod sets;
 pub mod shrink;
+pub mod slot;
 mod work;
 
+#[cfg(not(feature = "wrong_readings"))]
+pub mod book;
 #[cfg(not(feature = "wrong_readings"))]
 pub mod cache;
 #[cfg(not(feature = "wrong_readings"))]
@@ -26,7 +28,7 @@ pub mod reply;
 #[cfg(not(feature = "wrong_readings"))]
 pub mod session;
 
-// The same four modules, with the edits of wrong_readings.rs.
+// The same modules, with the edits of wrong_readings.rs.
 #[cfg(feature = "wrong_readings")]
 include!(concat!(env!("OUT_DIR"), "/modules.rs"));
 

@@ -8,6 +8,11 @@ impl Random {
         Random(seed)
     }
 
+    /// Another source; this one goes on as if it had not been asked.
+    pub fn apart(&self) -> Random {
+        Random(self.clone().number())
+    }
+
     pub fn number(&mut self) -> u64 {
         self.0 = self.0.wrapping_add(0x9e37_79b9_7f4a_7c15);
         let z = (self.0 ^ (self.0 >> 30)).wrapping_mul(0xbf58_476d_1ce4_e5b9);

@@ -2,6 +2,7 @@
 
 use crate::book::{Book, Header, Part};
 use crate::case::Case;
+use crate::slot::{DEPTH, FLAGS, HELD, PASSES};
 
 /// The smallest case that single steps lead to. The cache follows the book.
 pub fn shrink(case: &Case, still_fails: &dyn Fn(&Case) -> bool) -> Case {
@@ -36,22 +37,25 @@ fn steps(case: &Case) -> Vec<Case> {
     out
 }
 
-/// The cache with one slot vacant, or with one nested goal or the result less.
+/// The cache with one slot vacant, or with one nested goal or the result less, or one pass.
 fn smaller_caches(case: &Case, book: &Book) -> Vec<Case> {
     let mut out = Vec::new();
     if case.cache.len() != book.header.cache_len() {
         return out;
     }
-    let held = |start: &usize| case.cache[*start] != 0;
+    let held = |start: &usize| case.cache[*start + HELD] != 0;
     for start in (0..case.cache.len()).step_by(book.header.slot_len()).filter(held) {
         let slot = start..start + book.header.slot_len();
         let mut vacant = case.clone();
         vacant.cache[slot.clone()].fill(0);
         out.push(vacant);
-        for byte in (slot.start + 1..slot.end).filter(|byte| case.cache[*byte] != 0) {
-            let mut less = case.clone();
-            less.cache[byte] = 0;
-            out.push(less);
+        for byte in slot.clone().skip(1) {
+            let least = u8::from(byte == slot.start + PASSES);
+            if case.cache[byte] > least {
+                let mut less = case.clone();
+                less.cache[byte] = least;
+                out.push(less);
+            }
         }
     }
     out
@@ -167,15 +171,22 @@ fn with_book(case: &Case, book: &Book, gone: Option<usize>) -> Case {
     out
 }
 
-/// The slots that are left of a cache, without the goal `gone` and without the depths above T.
-fn following(old: &Header, new: &Header, cache: &[u8], gone: Option<usize>) -> Vec<u8> {
+/// The slots that are left of a cache, without the goal `gone`, without the depths above T and
+/// with no more passes than L allows, if they were as many before.
+pub(crate) fn following(old: &Header, new: &Header, cache: &[u8], gone: Option<usize>) -> Vec<u8> {
     let mut out = Vec::new();
     for (i, slot) in cache.chunks(old.slot_len()).enumerate() {
         let (goal, number) = (i / old.slots_per_goal(), i % old.slots_per_goal());
         if Some(goal) != gone && number < new.slots_per_goal() {
-            let depth = slot[2].min(new.top_depth as u8);
-            out.extend([slot[0], slot[1], if number == 0 { depth } else { slot[2] }]);
-            let nested = slot[3..].iter().enumerate();
+            let mut head = slot[..FLAGS].to_vec();
+            if number == 0 {
+                head[DEPTH] = head[DEPTH].min(new.top_depth as u8);
+            }
+            if usize::from(head[PASSES]) <= old.most_passes() {
+                head[PASSES] = head[PASSES].min(new.most_passes() as u8);
+            }
+            out.extend(head);
+            let nested = slot[FLAGS..].iter().enumerate();
             out.extend(nested.filter(|(goal, _)| Some(*goal) != gone).map(|(_, flags)| *flags));
         }
     }

@@ -27,8 +27,9 @@ fn twelve_examples() {
 #[test]
 fn slots_left_behind() {
     let table = examples::table();
-    assert_eq!(reply(&table[3].case()).2[..4], [1, 0, 1, 3]);
-    assert_eq!(reply(&table[6].case()).2[..4], [1, 3, 1, 17]);
+    assert_eq!(reply(&table[3].case()).2[..5], [1, 0, 1, 1, 3]);
+    assert_eq!(reply(&table[6].case()).2[..5], [1, 3, 1, 1, 17]);
+    assert_eq!(reply(&table[10].case()).2[..5], [1, 1, 1, 2, 3]);
 }
 
 #[test]

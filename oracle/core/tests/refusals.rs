@@ -10,7 +10,7 @@ fn book() -> Vec<u8> {
     Book { header, parts: vec![Part::All(vec![])] }.to_bytes()
 }
 
-const CACHE_LEN: usize = 7 * 4;
+const CACHE_LEN: usize = 7 * 5;
 
 struct Asked {
     book: Vec<u8>,
@@ -65,7 +65,7 @@ fn first_in_order() {
     }
     assert_eq!(asked.book, good);
     assert_eq!(asked.reply(), (1, 0));
-    assert_eq!(asked.cache[..4], [1, 1, 0, 0]);
+    assert_eq!(asked.cache[..5], [1, 1, 0, 1, 0]);
     assert!(asked.work.iter().all(|&b| b == 0));
 }
 
@@ -159,25 +159,30 @@ fn grammar() {
 
 #[test]
 fn slots() {
-    let refusal_with = |number: usize, slot: [u8; 4]| {
+    let refusal_with = |number: usize, slot: [u8; 5]| {
         let mut cache = vec![0; CACHE_LEN];
-        cache[4 * number..4 * number + 4].copy_from_slice(&slot);
+        cache[5 * number..5 * number + 5].copy_from_slice(&slot);
         let (work, book) = (vec![7; work_len(1)], book());
         Asked { book, cache, work, goal: 0, depth: 5 }.reply().1
     };
-    assert_eq!(refusal_with(0, [1, 1, 5, 31]), 0);
-    assert_eq!(refusal_with(1, [1, 3, 0, 0]), 0);
-    assert_eq!(refusal_with(6, [1, 0, 5, 0]), 0);
+    assert_eq!(refusal_with(0, [1, 1, 5, 1, 31]), 0);
+    assert_eq!(refusal_with(1, [1, 3, 0, 1, 0]), 0);
+    assert_eq!(refusal_with(6, [1, 0, 5, 1, 0]), 0);
     for (number, slot) in [
-        (0, [2, 0, 0, 0]),
-        (0, [0, 1, 0, 0]),
-        (0, [0, 0, 1, 0]),
-        (0, [0, 0, 0, 1]),
-        (0, [1, 4, 0, 0]),
-        (0, [1, 0, 6, 0]),
-        (0, [1, 0, 0, 32]),
-        (1, [1, 0, 1, 0]),
-        (6, [1, 0, 4, 0]),
+        (0, [2, 0, 0, 1, 0]),
+        (0, [0, 1, 0, 0, 0]),
+        (0, [0, 0, 1, 0, 0]),
+        (0, [0, 0, 0, 1, 0]),
+        (0, [0, 0, 0, 0, 1]),
+        (0, [1, 4, 0, 1, 0]),
+        (0, [1, 0, 6, 1, 0]),
+        (0, [1, 0, 0, 0, 0]),
+        (0, [1, 0, 0, 2, 0]),
+        (0, [1, 0, 0, 1, 32]),
+        (1, [1, 0, 1, 1, 0]),
+        (6, [1, 0, 4, 1, 0]),
+        (6, [1, 0, 5, 0, 0]),
+        (6, [1, 0, 5, 2, 0]),
     ] {
         assert_eq!(refusal_with(number, slot), 8, "slot {number} {slot:?}");
     }

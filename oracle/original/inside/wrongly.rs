@@ -3,6 +3,7 @@
 use std::cell::Cell;
 
 use super::*;
+use crate::hooks::RUNS;
 use crate::mutant;
 
 fn strength(kind: PathKind) -> usize {
@@ -168,6 +169,20 @@ impl AvailableDepth {
                 Some(Some(AvailableDepth(wrong)))
             }
         }
+    }
+}
+
+/// The frame's last run is not counted.
+pub(super) fn last_run_uncounted(number: u32) {
+    if mutant(number) {
+        RUNS.set(RUNS.get() - 1);
+    }
+}
+
+/// One run more is counted than there was.
+pub(super) fn run_counted_twice(number: u32) {
+    if mutant(number) {
+        RUNS.set(RUNS.get() + 1);
     }
 }
 

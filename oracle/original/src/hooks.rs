@@ -17,6 +17,8 @@ thread_local! {
     static ENTRY_LIMIT: Cell<usize> = const { Cell::new(usize::MAX) };
     static HIGH_WATER: Cell<usize> = const { Cell::new(0) };
     static CHECKING_FRAMES: Cell<bool> = const { Cell::new(false) };
+    /// Of the part of the goal on top of the stack, in its frame.
+    pub(crate) static RUNS: Cell<usize> = const { Cell::new(0) };
 }
 
 /// Prepares one evaluation.
@@ -29,6 +31,17 @@ pub fn start(entry_limit: usize, checking_frames: bool) {
 /// The most provisional entries that were live at once since `start`.
 pub fn high_water() -> usize {
     HIGH_WATER.get()
+}
+
+/// Evaluates a frame; tells how often the goal's part was run in it, frames above not counted.
+pub fn counting_runs<T>(frame: impl FnOnce() -> T) -> (T, usize) {
+    let below = RUNS.replace(0);
+    let result = frame();
+    (result, RUNS.replace(below))
+}
+
+pub(crate) fn part_is_run() {
+    RUNS.set(RUNS.get() + 1);
 }
 
 pub fn stop(why: Stop) -> ! {

@@ -16,6 +16,21 @@ pub const READINGS: &[(u32, &str)] = &[
 
 pub const EDITS: &[Edit] = &[
     edit(
+        "mod.rs",
+        "wrong readings 304, 306 to 310, 312: passes are told and replaced wrongly",
+        "    fn get_tracked<T: Debug + Clone>(self, tracked: &Self::Tracked<T>) -> T;\n",
+        "    fn get_tracked<T: Debug + Clone>(self, tracked: &Self::Tracked<T>) -> T;
+    fn counted_wrongly(self, goal: Self::Input, runs: Self::DepNodeIndex) -> Self::DepNodeIndex;
+    fn replaced_wrongly<T: Debug + Clone>(self, old: &Self::Tracked<T>, new: &Self::Tracked<T>);
+",
+    ),
+    edit(
+        "global_cache.rs",
+        "wrong readings 304, 306",
+        "        let result = cx.mk_tracked(result, dep_node);\n",
+        "        let result = cx.mk_tracked(result, cx.counted_wrongly(input, dep_node));\n",
+    ),
+    edit(
         "global_cache.rs",
         "wrong reading 294",
         "        if encountered_overflow {\n",
@@ -23,7 +38,7 @@ pub const EDITS: &[Edit] = &[
     ),
     edit(
         "global_cache.rs",
-        "wrong readings 292, 297",
+        "wrong readings 292, 297, 307 to 310, 312",
         "            let prev = entry.with_overflow.insert(required_depth, with_overflow);
             if let Some(prev) = &prev {
 ",
@@ -34,6 +49,9 @@ pub const EDITS: &[Edit] = &[
                 return;
             }
             let prev = entry.with_overflow.insert(required_depth, with_overflow);
+            if let (Some(old), Some(new)) = (&prev, entry.with_overflow.get(&required_depth)) {
+                cx.replaced_wrongly(&old.result, &new.result);
+            }
             if let Some(prev) = &prev
                 && !crate::mutant(297)
             {
@@ -41,7 +59,7 @@ pub const EDITS: &[Edit] = &[
     ),
     edit(
         "global_cache.rs",
-        "wrong readings 291, 297",
+        "wrong readings 291, 297, 307 to 310, 312",
         "            let prev = entry.success.replace(Success { required_depth, nested_goals, result });
             if let Some(prev) = &prev {
 ",
@@ -52,6 +70,9 @@ pub const EDITS: &[Edit] = &[
                 return;
             }
             let prev = entry.success.replace(Success { required_depth, nested_goals, result });
+            if let (Some(old), Some(new)) = (&prev, &entry.success) {
+                cx.replaced_wrongly(&old.result, &new.result);
+            }
             if let Some(prev) = &prev
                 && !crate::mutant(297)
             {

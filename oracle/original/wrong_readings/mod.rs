@@ -1,5 +1,6 @@
 //! Wrong readings of the original: edits on top of edits.rs, each behind a switch. `mutant(n)` is
-//! true when number n is switched on. Numbers 100 to 199 stand in core/wrong_readings.rs.
+//! true when number n is switched on. Numbers 100 to 199 and from 300 on stand in
+//! core/wrong_readings.rs.
 
 mod cache;
 mod depths;

@@ -6,6 +6,8 @@ use crate::Edit;
 pub const READINGS: &[(u32, &str)] = &[
     (2, "a rerun forgets the heads"),
     (217, "a later fixpoint keeps entries as a first one does"),
+    (258, "at the step limit the last run is not among the passes"),
+    (259, "at the step limit one pass more is counted"),
     (260, "a first fixpoint needs no single kind of usages"),
     (261, "a later run can finish as a first one does"),
     (262, "a first run is never a fixpoint"),
@@ -32,6 +34,10 @@ pub const READINGS: &[(u32, &str)] = &[
     (283, "a rerun is no head until it is used"),
     (284, "a rerun keeps the candidate usages"),
     (285, "every rerun starts from the first run's result"),
+    (286, "the run of a frame that is no head is not among the passes"),
+    (287, "the run that reaches a fixpoint is not among the passes"),
+    (288, "a last run without usages is not among the passes"),
+    (289, "an ambiguous last run is not among the passes"),
 ];
 
 pub const EDITS: &[Edit] = &[
@@ -220,6 +226,57 @@ pub const EDITS: &[Edit] = &[
                     _ => Some(HeadUsages::default()),
                 },
                 candidate_usages: stack_entry.candidate_usages.filter(|_| crate::mutant(284)),
+",
+    ),
+    edit(
+        "mod.rs",
+        "wrong reading 286",
+        "            let Some(usages) = stack_entry.usages else {\n",
+        "            let Some(usages) = stack_entry.usages else {
+                wrongly::last_run_uncounted(286);
+",
+    ),
+    edit(
+        "mod.rs",
+        "wrong reading 287",
+        "            if let Ok(fixpoint) = self.reached_fixpoint(&stack_entry, usages, result) {\n",
+        "            if let Ok(fixpoint) = self.reached_fixpoint(&stack_entry, usages, result) {
+                wrongly::last_run_uncounted(287);
+",
+    ),
+    edit(
+        "mod.rs",
+        "wrong reading 288",
+        "                    RebaseReason::NoCycleUsages,
+                    result,
+                );
+",
+        "                    RebaseReason::NoCycleUsages,
+                    result,
+                );
+                wrongly::last_run_uncounted(288);
+",
+    ),
+    edit(
+        "mod.rs",
+        "wrong reading 289",
+        "                    RebaseReason::Ambiguity(kind),
+                    result,
+                );
+",
+        "                    RebaseReason::Ambiguity(kind),
+                    result,
+                );
+                wrongly::last_run_uncounted(289);
+",
+    ),
+    edit(
+        "mod.rs",
+        "wrong readings 258, 259",
+        "                debug!(\"canonical cycle overflow\");\n",
+        "                debug!(\"canonical cycle overflow\");
+                wrongly::last_run_uncounted(258);
+                wrongly::run_counted_twice(259);
 ",
     ),
 ];

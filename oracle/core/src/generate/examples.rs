@@ -68,7 +68,7 @@ pub fn one_entry_too_many() -> Case {
 /// Refusal 11: the cache says Yes, required depth 5, for an empty any, asked at depth 3.
 pub fn another_result_held() -> Case {
     let mut case = case(&Book { header: header(1, 1), parts: vec![Part::Any(vec![])] }, 0, 3);
-    case.cache[..3].copy_from_slice(&[1, 1, 5]);
+    case.cache[..4].copy_from_slice(&[1, 1, 5, 1]);
     case
 }
 

@@ -6,6 +6,7 @@ pub mod change;
 mod damage;
 pub mod examples;
 mod mixed;
+pub mod reruns;
 mod shapes;
 
 use crate::book::Book;
@@ -50,6 +51,7 @@ pub const CLASSES: &[Class] = &[
     class("damaged-book", "a book that is spoiled", damaged_book),
     class("made-cache", "a well-formed cache made by hand", made_cache),
     class("changed-cache", "a cache left behind, a few slots changed", changed_cache),
+    class("reruns", "rings of many passes, by slots made by hand", reruns::any),
     class("refusals-race", "refusals 10 and 11 within reach of each other", refusals_race),
     class("damaged-cache", "a cache with ill-formed slots", damaged_cache),
 ];

@@ -79,7 +79,8 @@ fn next(r: &mut Random, seed: u64, number: u64, near: &[Case]) -> Option<Case> {
         return (case.book.len() <= super::LONGEST_BOOK).then_some(case);
     }
     let case = &near[r.below(near.len())];
-    let book = change::book(r, &Book::read(&case.book).ok()?);
+    let old = Book::read(&case.book).ok()?;
+    let book = change::book(r, &old);
     let bytes = book.to_bytes();
     if Book::read(&bytes).is_err() || bytes.len() > super::LONGEST_BOOK {
         return None;
@@ -91,7 +92,7 @@ fn next(r: &mut Random, seed: u64, number: u64, near: &[Case]) -> Option<Case> {
     };
     let queries = vec![Query::new(goal, depth, work_len(book.header.goals))];
     let cache = if case.cache.len() == book.header.cache_len() {
-        case.cache.clone()
+        shrink::following(&old.header, &book.header, &case.cache, None)
     } else {
         vec![0; book.header.cache_len()]
     };

@@ -56,7 +56,7 @@ const LARGE: [&str; 2] = ["large", "long"];
 const EACH_LARGE: usize = 4;
 const MOST_LARGE_TEXT: usize = 50_000;
 /// Document 01's examples have their own file; the classes of document 02 are younger than this one.
-const LEFT_OUT: [&str; 4] = ["examples", "mixed", "deep", "closing"];
+const LEFT_OUT: [&str; 5] = ["examples", "mixed", "deep", "closing", "reruns"];
 
 /// The first cases of each class that are not too long.
 fn random() -> Vec<Case> {
@@ -97,15 +97,15 @@ fn book([cache, goals, top_depth, step_limit, divisor]: [usize; 5], parts: Vec<P
     Book { header: Header { provisional_cache, goals, top_depth, step_limit, divisor }, parts }
 }
 
-fn call(goal: usize, kind: u8, lower: bool) -> Part {
+pub fn call(goal: usize, kind: u8, lower: bool) -> Part {
     Part::Call { goal, kind, lower }
 }
 
-fn yes() -> Part {
+pub fn yes() -> Part {
     Part::All(vec![])
 }
 
-fn no() -> Part {
+pub fn no() -> Part {
     Part::Any(vec![])
 }
 

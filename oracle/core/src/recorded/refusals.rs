@@ -7,9 +7,9 @@ use crate::generate::examples;
 use crate::work_len;
 
 pub fn all() -> Vec<Case> {
-    let topics: [fn() -> Vec<Case>; 12] = [
-        lengths, fields, places, headers, grammar, goals, nesting, queries, caches, works, late,
-        order,
+    let topics: [fn() -> Vec<Case>; 13] = [
+        lengths, fields, places, headers, grammar, goals, nesting, queries, caches, passes, works,
+        late, order,
     ];
     topics.iter().flat_map(|topic| topic()).collect()
 }
@@ -226,50 +226,80 @@ fn queries() -> Vec<Case> {
     out
 }
 
-/// Slots of two goals and T 3: name, number and bytes. Not all are ill-formed.
-const SLOTS: [(&str, usize, [u8; 5]); 26] = [
-    ("held-2", 0, [2, 0, 0, 0, 0]),
-    ("held-255", 9, [255, 0, 3, 0, 0]),
-    ("vacant-result", 0, [0, 1, 0, 0, 0]),
-    ("vacant-depth", 2, [0, 0, 1, 0, 0]),
-    ("vacant-flags", 9, [0, 0, 0, 0, 1]),
-    ("vacant-other-flags", 5, [0, 0, 0, 2, 0]),
-    ("result-3", 0, [1, 3, 3, 0, 0]),
-    ("result-4", 0, [1, 4, 3, 0, 0]),
-    ("result-255", 5, [1, 255, 3, 0, 0]),
-    ("overflow-result-3", 4, [1, 3, 3, 0, 0]),
-    ("overflow-result-4", 4, [1, 4, 3, 0, 0]),
-    ("depth-3", 5, [1, 1, 3, 0, 0]),
-    ("depth-4", 5, [1, 1, 4, 0, 0]),
-    ("depth-255", 0, [1, 1, 255, 0, 0]),
-    ("overflow-depth-0", 1, [1, 3, 0, 0, 0]),
-    ("overflow-depth-0-is-1", 1, [1, 3, 1, 0, 0]),
-    ("overflow-depth-1-is-0", 2, [1, 3, 0, 0, 0]),
-    ("overflow-depth-3-is-4", 4, [1, 3, 4, 0, 0]),
-    ("overflow-depth-3-is-2", 9, [1, 3, 2, 0, 0]),
-    ("overflow-depth-2", 8, [1, 3, 2, 31, 0]),
-    ("flags-31", 0, [1, 0, 3, 31, 31]),
-    ("flags-32", 0, [1, 0, 3, 32, 0]),
-    ("flags-64-of-last", 5, [1, 0, 3, 0, 64]),
-    ("flags-255", 5, [1, 0, 3, 0, 255]),
-    ("flags-128-in-overflow", 9, [1, 0, 3, 128, 0]),
-    ("all-255", 0, [255; 5]),
+/// Slots of two goals, T 3 and L 1: name, number and bytes. Not all are ill-formed.
+const SLOTS: [(&str, usize, [u8; 6]); 28] = [
+    ("held-2", 0, [2, 0, 0, 1, 0, 0]),
+    ("held-255", 9, [255, 0, 3, 1, 0, 0]),
+    ("vacant-result", 0, [0, 1, 0, 0, 0, 0]),
+    ("vacant-depth", 2, [0, 0, 1, 0, 0, 0]),
+    ("vacant-passes", 0, [0, 0, 0, 1, 0, 0]),
+    ("vacant-overflow-passes", 9, [0, 0, 0, 1, 0, 0]),
+    ("vacant-flags", 9, [0, 0, 0, 0, 0, 1]),
+    ("vacant-other-flags", 5, [0, 0, 0, 0, 2, 0]),
+    ("result-3", 0, [1, 3, 3, 1, 0, 0]),
+    ("result-4", 0, [1, 4, 3, 1, 0, 0]),
+    ("result-255", 5, [1, 255, 3, 1, 0, 0]),
+    ("overflow-result-3", 4, [1, 3, 3, 1, 0, 0]),
+    ("overflow-result-4", 4, [1, 4, 3, 1, 0, 0]),
+    ("depth-3", 5, [1, 1, 3, 1, 0, 0]),
+    ("depth-4", 5, [1, 1, 4, 1, 0, 0]),
+    ("depth-255", 0, [1, 1, 255, 1, 0, 0]),
+    ("overflow-depth-0", 1, [1, 3, 0, 1, 0, 0]),
+    ("overflow-depth-0-is-1", 1, [1, 3, 1, 1, 0, 0]),
+    ("overflow-depth-1-is-0", 2, [1, 3, 0, 1, 0, 0]),
+    ("overflow-depth-3-is-4", 4, [1, 3, 4, 1, 0, 0]),
+    ("overflow-depth-3-is-2", 9, [1, 3, 2, 1, 0, 0]),
+    ("overflow-depth-2", 8, [1, 3, 2, 1, 31, 0]),
+    ("flags-31", 0, [1, 0, 3, 1, 31, 31]),
+    ("flags-32", 0, [1, 0, 3, 1, 32, 0]),
+    ("flags-64-of-last", 5, [1, 0, 3, 1, 0, 64]),
+    ("flags-255", 5, [1, 0, 3, 1, 0, 255]),
+    ("flags-128-in-overflow", 9, [1, 0, 3, 1, 128, 0]),
+    ("all-255", 0, [255; 6]),
 ];
 
 /// Refusals 7 and 8.
 fn caches() -> Vec<Case> {
     let book = super::book([1, 2, 3, 1, 1], vec![call(1, 0, true), yes()]);
     let good = on("", &book, &[(0, 3), (1, 1)]);
-    let length = good.cache.len();
+    let (length, slot) = (good.cache.len(), book.header.slot_len());
+    // Without passes, as in document 01.
+    let old = length / slot * (slot - 1);
     let mut out = Vec::new();
-    for other in [0, 1, 5, length - 5, length - 1, length + 1, length + 5, 2 * length] {
+    for other in [0, 1, slot, old, length - slot, length - 1, length + 1, length + slot, 2 * length]
+    {
         let cache = vec![0; other];
         out.push(named(format!("cache-length-{other}"), Case { cache, ..good.clone() }));
     }
     for (name, number, slot) in SLOTS {
-        let mut case = good.clone();
-        case.cache[5 * number..5 * number + 5].copy_from_slice(&slot);
-        out.push(named(format!("slot-{name}"), case));
+        out.push(with_slot(named(format!("slot-{name}"), good.clone()), number, &slot));
+    }
+    out
+}
+
+/// Writes the slot of this number, counted from the first goal's.
+fn with_slot(mut case: Case, number: usize, slot: &[u8]) -> Case {
+    let start = number * slot.len();
+    case.cache[start..start + slot.len()].copy_from_slice(slot);
+    case
+}
+
+/// Refusal 8 by passes: none, the fewest, the most that each L allows, and one more.
+fn passes() -> Vec<Case> {
+    let mut out = Vec::new();
+    for (limit, all) in [
+        (0, [0, 1, 2, 255].as_slice()),
+        (1, &[0, 1, 2, 100]),
+        (2, &[0, 1, 2, 3]),
+        (5, &[0, 5, 6, 99]),
+        (99, &[0, 1, 98, 99, 100, 255]),
+    ] {
+        let book = super::book([1, 1, 5, limit, 1], vec![yes()]);
+        for passes in all {
+            let case = |name: &str| on(format!("{name}-{limit}-{passes}"), &book, &[(0, 3)]);
+            out.push(with_slot(case("passes"), 0, &[1, 1, 3, *passes, 0]));
+            out.push(with_slot(case("passes-of-overflow"), 4, &[1, 1, 3, *passes, 0]));
+        }
     }
     out
 }
@@ -302,31 +332,31 @@ fn late() -> Vec<Case> {
             .collect();
         out.push(named(format!("entries-{calls}"), case));
     }
-    let held: [(&str, usize, [u8; 4]); 5] = [
-        ("success-differs", 0, [1, 1, 5, 0]),
-        ("success-undecided", 0, [1, 2, 4, 0]),
-        ("success-equal", 0, [1, 0, 5, 31]),
-        ("overflow-differs", 1, [1, 1, 0, 1]),
-        ("overflow-equal", 1, [1, 3, 0, 31]),
+    let held: [(&str, usize, [u8; 5]); 5] = [
+        ("success-differs", 0, [1, 1, 5, 1, 0]),
+        ("success-undecided", 0, [1, 2, 4, 1, 0]),
+        ("success-equal", 0, [1, 0, 5, 1, 31]),
+        ("overflow-differs", 1, [1, 1, 0, 1, 1]),
+        ("overflow-equal", 1, [1, 3, 0, 1, 31]),
     ];
     for (name, number, slot) in held {
         let part = if number == 0 { no() } else { call(0, 0, true) };
-        let mut case = on(format!("held-{name}"), &one_goal(part), &[(0, 3), (0, 0), (0, 3)]);
-        case.cache[4 * number..4 * number + 4].copy_from_slice(&slot);
-        out.push(case);
+        let case = on(format!("held-{name}"), &one_goal(part), &[(0, 3), (0, 0), (0, 3)]);
+        out.push(with_slot(case, number, &slot));
     }
     // Goal 1's slot names goal 0, which is on the stack, so that it does not apply.
     let parts = vec![call(1, 0, true), call(2, 0, true), yes()];
     let book = super::book([1, 3, 2, 1, 1], parts);
     for result in [1, 3] {
-        let mut case = on(format!("held-overflow-nested-{result}"), &book, &[(0, 1), (1, 0)]);
-        let start = (4 + 1) * book.header.slot_len();
-        case.cache[start..start + 4].copy_from_slice(&[1, result, 0, 2]);
-        out.push(case);
+        let case = on(format!("held-overflow-nested-{result}"), &book, &[(0, 1), (1, 0)]);
+        out.push(with_slot(case, 4 + 1, &[1, result, 0, 1, 2, 0, 0]));
     }
     out.extend(of_class("refusals-race", 1, 0..12));
     out
 }
+
+/// Of one goal and T 5.
+const CACHE_LEN: usize = 7 * 5;
 
 /// Everything is wrong at once; then one thing after the other is put right.
 fn order() -> Vec<Case> {
@@ -336,7 +366,7 @@ fn order() -> Vec<Case> {
     bytes[47] = b' ';
     bytes.push(0);
     let mut case = raw(String::new(), bytes);
-    case.cache = vec![9; 29];
+    case.cache = vec![9; CACHE_LEN + 1];
     case.queries = vec![Query::new(1, 6, work_len(1) + 1)];
     let put_right: [fn(&mut Case); 9] = [
         |c| c.book.truncate(48),
@@ -345,7 +375,7 @@ fn order() -> Vec<Case> {
         |c| c.book[18] = b'1',
         |c| c.queries[0].goal = 0,
         |c| c.queries[0].depth = 5,
-        |c| c.cache.truncate(28),
+        |c| c.cache.truncate(CACHE_LEN),
         |c| c.cache.fill(0),
         |c| c.queries[0].work_len = work_len(1),
     ];
