@@ -21,12 +21,12 @@ use Rattle.ask.specs.Program.{opened, Lent}
 use Rattle.ask.proofs.Opening.{IsOpen, is-open}
 
 -- ---- how long they are at most
-small-cache : (goals top : ℕ) → goals ≤ 16 → top ≤ 63 → goals * (top + 2) * (goals + 3) ≤ 65536
+small-cache : (goals top : ℕ) → goals ≤ 16 → top ≤ 63 → goals * (top + 2) * (goals + 4) ≤ 65536
 small-cache goals top a b =
     let t : top + 2 ≤ 65 = omega arith in
     let n : goals * (top + 2) ≤ 1040 = mul-le-mul {n₁ = goals} {m₁ = top + 2} {n₂ = 16} {m₂ = 65} a t in
-    let s : goals + 3 ≤ 19 = omega arith in
-    let m : goals * (top + 2) * (goals + 3) ≤ 19760 = mul-le-mul {n₁ = goals * (top + 2)} {m₁ = goals + 3} {n₂ = 1040} {m₂ = 19} n s in
+    let s : goals + 4 ≤ 20 = omega arith in
+    let m : goals * (top + 2) * (goals + 4) ≤ 20800 = mul-le-mul {n₁ = goals * (top + 2)} {m₁ = goals + 4} {n₂ = 1040} {m₂ = 20} n s in
     omega arith
 
 small-work : (goals : ℕ) → goals ≤ 16 → 4 * goals * (41 * goals + 24) ≤ 65536
@@ -54,7 +54,7 @@ module _ (bytes : List ℕ) (h : Header) (is : opened (readBook bytes) ≡ Open 
   all-fit i = goals-fit i && le-leb (h .top) 63 (in-range .top-fits) i
 
   cache-known : (r : ℕ) → r ≡ cacheLengthOr0 (h .goals) (h .top) → r ≡ cacheLength h
-  cache-known r e = e ∙ ap (λ (b : Bool). orZero b (h .goals * (h .top + 2) * (h .goals + 3))) all-fit
+  cache-known r e = e ∙ ap (λ (b : Bool). orZero b (h .goals * (h .top + 2) * (h .goals + 4))) all-fit
 
   work-known : (r : ℕ) → r ≡ workLengthOr0 (h .goals) → r ≡ workLength (h .goals)
   work-known r e = e ∙ ap (λ (b : Bool). orZero b (workLength (h .goals))) goals-fit

@@ -11,7 +11,8 @@ use Rattle.question.specs.declared.Question.the-variants.{Asked, IllFormed}
 use Rattle.question.specs.declared.Ending.the-variants.{QuestionLine}
 use Rattle.question.specs.Lines.{replyLine, endingLine}
 use Rattle.query.specs.Carried.{Carried}
-use Rattle.ask.specs.Program.{Turned, replied, turnBy, Lent, Ready}
+use Rattle.query.specs.Passes.{passesOf}
+use Rattle.ask.specs.Program.{Turned, replied, turnBy, passesAsked, Lent, Ready}
 
 abbrev turnedTo : List ℕ → Bool → List ℕ → List ℕ → Turned
 turnedTo line more cache work = record { line = line; more = more; cache = cache; work = work }
@@ -25,6 +26,15 @@ module _ (book cache work : List ℕ) (q : Question) where
 
   pub by-reply : (t : Turned) (goal depth : ℕ) (s : Question) → s ≡ q → s ≡ Asked goal depth → t ≡ replied goal depth (query book cache work goal depth) → t ≡ turnBy book cache work q
   by-reply t goal depth s k f e = e ∙ ap (turnBy book cache work) (sym f ∙ k)
+
+-- ---- `passes`
+module _ (book cache : List ℕ) (q : Question) where
+  pub no-question : (s : Question) → s ≡ q → s ≡ IllFormed → 0 ≡ passesAsked book cache q
+  no-question s k f = ap (passesAsked book cache) (sym f ∙ k)
+
+  pub by-question : (goal depth : ℕ) (s : Question) → s ≡ q → s ≡ Asked goal depth → (n : ℕ)
+      → n ≡ passesOf book cache goal depth → n ≡ passesAsked book cache q
+  by-question goal depth s k f n e = e ∙ ap (passesAsked book cache) (sym f ∙ k)
 
 -- ---- from question to question
 pub new-cache : (bytes : List ℕ) (n : ℕ) (cache : List ℕ) → cache ≡ replicate n 0 → Carried bytes cache

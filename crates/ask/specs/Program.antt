@@ -16,6 +16,7 @@ use Rattle.question.specs.declared.Question.the-variants.{Asked, IllFormed}
 use Rattle.question.specs.declared.Ending.the-variants.{Book, QuestionLine, TooManyGoals}
 use Rattle.question.specs.Lines.{readQuestion, replyLine, endingLine}
 use Rattle.query.specs.Carried.{Carried}
+use Rattle.query.specs.Passes.{passesOf}
 use Rattle.ask.specs.declared.Opened.{Opened}
 use Rattle.ask.specs.declared.Opened.the-variants.{Open, Closed}
 use Rattle.ask.specs.declared.Turn.{Turn}
@@ -50,6 +51,11 @@ turnBy book cache work IllFormed = record { line = endingLine QuestionLine; more
 
 abbrev pub turn : List ℕ → List ℕ → List ℕ → List ℕ → Turned
 turn book cache work line = turnBy book cache work (readQuestion line)
+
+-- document 02's number of passes for the answer, where it is asked for
+abbrev pub passesAsked : List ℕ → List ℕ → Question → ℕ
+passesAsked book cache (Asked goal depth) = passesOf book cache goal depth
+passesAsked book cache IllFormed = 0
 
 -- ---- cache and workspace have the right lengths for a book that was opened
 pub record Lent (bytes cache work : List ℕ) : Type 0 where

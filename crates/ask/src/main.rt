@@ -1,5 +1,6 @@
 // The question program: reads a book from the file book.txt and questions from standard
-// input, and prints a line for each.
+// input, and prints a line for each. Started with an argument (`ask passes`) it prints one
+// number more: how often the goal's part was run for the answer.
 use book::BookRead;
 use definition::format::Header;
 use libc::STDIN_FILENO;
@@ -10,8 +11,9 @@ ghost use mathlib.Core.Path.{_≡_};
 ghost use Rattle.definition.specs.Reader.{readBook};
 ghost use Rattle.definition.specs.Query.{query};
 ghost use Rattle.query.specs.Carried.{Carried};
+ghost use Rattle.question.specs.Lines.{readQuestion};
 ghost use Rattle.ask.specs.declared.Opened.the-variants.{Open};
-ghost use Rattle.ask.specs.Program.{openedWith, opened, replied, turned, turn, Lent, Ready};
+ghost use Rattle.ask.specs.Program.{openedWith, opened, replied, turned, turn, passesAsked, Lent, Ready};
 
 // What the program makes of its book: it answers questions over it, or it ends.
 enum Opened {
@@ -80,10 +82,42 @@ fn answer_line(book: &[u8], cache: &mut [u8], work: &mut [u8], line: &[u8]) -> T
     reply(book, cache, work, goal, depth)
 }
 
+// How often the part of the goal that a question line asks was run for the answer, after it.
+fn passes(book: &[u8], cache: &[u8], line: &[u8]) -> u8
+    ensures { λ r. ⌜ r ≡ passesAsked (now (book .entry)) (now (cache .entry)) (readQuestion (now (line .entry))) ⌝ }
+{
+    let read = question::read_question(line);
+    let Question::Asked(goal, depth) = read else {
+        return 0;
+    };
+    query::passes::of_answer(book, cache, goal as usize, depth as usize)
+}
+
 // ---- files
 
+// Prints a line, with the number of passes where that is asked for.
+fn print(line: [u8; 13], shows: bool, passes: u8) {
+    if shows {
+        io::write_all(STDOUT_FILENO, &line[..12]);
+        let columns = question::columns(passes as u16);
+        io::write_all(STDOUT_FILENO, &columns);
+        io::write_all(STDOUT_FILENO, b"\n");
+        return;
+    }
+    io::write_all(STDOUT_FILENO, &line);
+}
+
+// Prints the reply to a question line.
+fn print_reply(book: &[u8], cache: &[u8], line: &[u8], reply: [u8; 13], shows: bool) {
+    if shows {
+        print(reply, true, passes(book, cache, line));
+        return;
+    }
+    print(reply, false, 0);
+}
+
 // Reads a question line and prints its reply; false where no more is read.
-fn ask_once(book: &[u8], cache: &mut [u8], work: &mut [u8]) -> bool
+fn ask_once(book: &[u8], cache: &mut [u8], work: &mut [u8], shows: bool) -> bool
     requires { ⌜ Ready (now book) (now cache) (now work) ⌝ }
     ensures { λ _. ⌜ Ready (now (book .entry)) (now (cache .exit)) (now (work .exit)) ⌝ }
 {
@@ -94,19 +128,19 @@ fn ask_once(book: &[u8], cache: &mut [u8], work: &mut [u8]) -> bool
     }
     let t = answer_line(book, cache, work, &line[..n]);
     let out = t.line;
-    io::write_all(STDOUT_FILENO, &out);
+    print_reply(book, cache, &line[..n], out, shows);
     t.more
 }
 
 // Answers all questions over a book that was accepted, from a cache of zeros. A proved
 // loop has to end, so it counts its turns down, from a number that no run uses up.
-fn ask(book: &[u8], cache: &mut [u8], work: &mut [u8])
+fn ask(book: &[u8], cache: &mut [u8], work: &mut [u8], shows: bool)
     requires { ⌜ Lent (now book) (now cache) (now work) ⌝ }
 {
     buffer::fill_zero(cache);
     let mut left: u64 = 18446744073709551615;
     while 0 < left {
-        if !ask_once(book, cache, work) {
+        if !ask_once(book, cache, work, shows) {
             return;
         }
         left = left - 1;
@@ -114,7 +148,7 @@ fn ask(book: &[u8], cache: &mut [u8], work: &mut [u8])
 }
 
 // Answers all questions, with a cache and a workspace for the book.
-fn ask_book(book: &[u8], h: Header)
+fn ask_book(book: &[u8], h: Header, shows: bool)
     requires { ⌜ opened (readBook (now book)) ≡ Open h ⌝ }
 {
     let goals = h.goals;
@@ -122,7 +156,7 @@ fn ask_book(book: &[u8], h: Header)
     let mut works = io::large_buffer();
     let c = query::cache_length(goals, h.top);
     let w = query::work_length(goals);
-    ask(book, &mut caches[..c], &mut works[..w]);
+    ask(book, &mut caches[..c], &mut works[..w], shows);
 }
 
 fn main() {
@@ -130,11 +164,12 @@ fn main() {
     let n = book_file::read_book(&mut bytes);
     let book = &bytes[..n];
     let o = open(book);
+    let shows = 1 < os::arg_count();
     match o {
-        Opened::Open(h) => ask_book(book, h),
+        Opened::Open(h) => ask_book(book, h, shows),
         Opened::Closed(e) => {
             let line = question::ending_line(e);
-            io::write_all(STDOUT_FILENO, &line);
+            print(line, shows, 0);
         }
     }
 }

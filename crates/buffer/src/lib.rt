@@ -39,7 +39,7 @@ fn low(x: u64) -> u8
 }
 
 // Two bytes as a number.
-fn load_pair(b: &[u8], i: usize) -> u64
+pub fn load_pair(b: &[u8], i: usize) -> u64
     requires { ⌜ i + 1 < length (now b) ⌝ }
     ensures { λ r. ⌜ (r ≡ getD (now (b .entry)) i 0 + 256 * getD (now (b .entry)) (i + 1) 0) × (r < 65536) ⌝ }
 {

@@ -16,7 +16,7 @@ row part limit depth answer =
     record {
       bytes = book (line 1 1 5 limit 1 ∷ line 1 0 0 0 0 ∷ part);
       goals = 1;
-      cacheLength = 28;
+      cacheLength = 35;
       goal = 0;
       depth = depth;
       answer = answer;
@@ -52,8 +52,8 @@ pub examples : (k : ℕ) → k < 12 → Right (getD table k noExample)
 unfolding counterLimit combine
 examples = each-right table tt
 
--- after line four the success slot is 1, 0, 1, 3
-pub slot-after-four : take 4 (replyTo (getD table 3 noExample) .cache) ≡ 1 ∷ 0 ∷ 1 ∷ 3 ∷ []
+-- after line four the success slot is 1, 0, 1, 1, 3
+pub slot-after-four : take 5 (replyTo (getD table 3 noExample) .cache) ≡ 1 ∷ 0 ∷ 1 ∷ 1 ∷ 3 ∷ []
 unfolding counterLimit combine
 slot-after-four = refl
 
@@ -64,13 +64,13 @@ book10 =
     ∷ line 2 1 0 1 0 ∷ line 2 2 0 1 0 ∷ line 2 1 1 1 0 ∷ line 2 2 1 1 0 ∷ line 2 1 2 1 0 ∷ line 2 2 2 1 0 ∷ line 2 1 3 1 0 ∷ line 2 2 3 1 0
     ∷ line 1 1 0 0 0 ∷ line 2 0 0 1 0 ∷ line 1 2 0 0 0 ∷ line 2 0 0 1 0 ∷ [])
 
-pub refusal-10 : query book10 (replicate 72 0) (workFor 3) 0 2
-    ≡ record { response = Refused ProvisionalCacheFull; cache = replicate 72 0; work = replicate (workLength 3) 0 }
+pub refusal-10 : query book10 (replicate 84 0) (workFor 3) 0 2
+    ≡ record { response = Refused ProvisionalCacheFull; cache = replicate 84 0; work = replicate (workLength 3) 0 }
 unfolding counterLimit combine
 refusal-10 = refl
 
 -- refusal 11: a cache written by hand says Yes, required depth 5, for an empty any, asked at depth 3
-pub refusal-11 : query (getD table 0 noExample .bytes) (1 ∷ 1 ∷ 5 ∷ 0 ∷ replicate 24 0) (workFor 1) 0 3
-    ≡ record { response = Refused CacheConflict; cache = replicate 28 0; work = replicate (workLength 1) 0 }
+pub refusal-11 : query (getD table 0 noExample .bytes) (1 ∷ 1 ∷ 5 ∷ 1 ∷ 0 ∷ replicate 30 0) (workFor 1) 0 3
+    ≡ record { response = Refused CacheConflict; cache = replicate 35 0; work = replicate (workLength 1) 0 }
 unfolding counterLimit combine
 refusal-11 = refl

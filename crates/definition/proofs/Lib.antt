@@ -8,6 +8,7 @@ pub mod Extensions
 pub mod Hunted
 pub mod Lists
 pub mod Numbers
+pub mod Passes
 pub mod SampleEndings
 pub mod SampleMaybe
 pub mod SampleSteps

@@ -135,9 +135,9 @@ module _ (evaluate : Evaluator) (goals : ℕ) (keeps : KeepsCounts evaluate) whe
 abbrev NextCounted : (Bool → Graph → TaskOutcome) → Type 0
 NextCounted next = (overflow : Bool) (g : Graph) → CountsTrue (g .stack) → TaskCounted (next overflow g)
 
-module _ (next : Bool → Graph → TaskOutcome) (keeps : NextCounted next) where
+module _ (next : Bool → Graph → TaskOutcome) (keeps : NextCounted next) (pass : ℕ) where
   after-pop-counted : (overflow : Bool) (g : Graph) (f : Frame) (a : Answer) (e : Ending) → CountsTrue (f ∷ g .stack)
-      → TaskCounted (afterPop next overflow f a e (tidyUp e g f))
+      → TaskCounted (afterPop next pass overflow f a e (tidyUp e g f))
   after-pop-counted overflow g f a ending.Nothing c = pop-counted f (g .stack) c
   after-pop-counted overflow g f a (ending.Fixpoint fixpoint) c = pop-counted f (g .stack) c
   after-pop-counted overflow g f a ending.NoUsages c = pop-counted f (g .stack) c
@@ -146,23 +146,24 @@ module _ (next : Bool → Graph → TaskOutcome) (keeps : NextCounted next) wher
   after-pop-counted overflow g f a ending.Rerun c = keeps overflow _ (rerun-counted f (g .stack) a c)
 
   end-iteration-counted : (left : ℕ) (overflow : Bool) (g : Graph) (a : Answer) (s : Stack) → CountsTrue s
-      → TaskCounted (endIteration left next overflow g a s)
+      → TaskCounted (endIteration left pass next overflow g a s)
   end-iteration-counted left overflow g a [] c = tt
   end-iteration-counted left overflow g a (f ∷ fs) c =
       after-pop-counted (overflow || f .encounteredOverflow) (withStack g fs) f a (endingOf left f a) c
 
   iteration-counted : (left : ℕ) (overflow : Bool) (o : Outcome) → Counted o
-      → TaskCounted (iteration left next overflow o)
+      → TaskCounted (iteration left pass next overflow o)
   iteration-counted left overflow (Done g a) c = end-iteration-counted left overflow g a (g .stack) c
   iteration-counted left overflow (Stopped r) c = tt
 
 pub task-counted : (compute : Graph → Outcome) → ((g : Graph) → CountsTrue (g .stack) → Counted (compute g))
-    → (left : ℕ) (overflow : Bool) (g : Graph) → CountsTrue (g .stack)
-    → TaskCounted (evaluateGoalInTask compute left overflow g)
-task-counted compute keeps zero overflow g c =
-    iteration-counted _ (λ o g1 c1. tt) zero overflow (compute g) (keeps g c)
-task-counted compute keeps (suc left) overflow g c =
-    iteration-counted (evaluateGoalInTask compute left) (task-counted compute keeps left) (suc left) overflow
+    → (left pass : ℕ) (overflow : Bool) (g : Graph) → CountsTrue (g .stack)
+    → TaskCounted (evaluateGoalInTask compute left pass overflow g)
+task-counted compute keeps zero pass overflow g c =
+    iteration-counted _ (λ o g1 c1. tt) pass zero overflow (compute g) (keeps g c)
+task-counted compute keeps (suc left) pass overflow g c =
+    iteration-counted (evaluateGoalInTask compute left (suc pass)) (task-counted compute keeps left (suc pass)) pass
+    (suc left) overflow
     (compute g)
     (keeps g c)
 
@@ -232,8 +233,8 @@ module _ (h : Header) (compute : ℕ → Graph → Outcome)
       (cacheGet h (g .globalCache) input available (candidateIsApplicable g step)))
       (unless-counted (checkCycleOnStack h g input step available) _
       (cycle-counted h g input step available c (stackFind (g .stack) input))
-      (after-counted h input step available (evaluateGoalInTask (compute input) (pred (h .limit)) false pushed)
-      (task-counted (compute input) (keeps input) (pred (h .limit)) false pushed
+      (after-counted h input step available (evaluateGoalInTask (compute input) (pred (h .limit)) 1 false pushed)
+      (task-counted (compute input) (keeps input) (pred (h .limit)) 1 false pushed
       (push-counted (g .stack) (h .goals) input step available c)))))
     where
       pushed : Graph

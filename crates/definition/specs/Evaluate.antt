@@ -145,7 +145,7 @@ afterTask h input step available (Evaluated g r) =
 abbrev pub evaluateNewFrame : Header → (ℕ → Graph → Outcome) → Graph → ℕ → PathKind → ℕ → Outcome
 evaluateNewFrame h compute g input step available =
     afterTask h input step available
-    (evaluateGoalInTask (compute input) (pred (h .limit)) false
+    (evaluateGoalInTask (compute input) (pred (h .limit)) 1 false
     (withStack g (newFrame (h .goals) input step available (g .stack) ∷ g .stack)))
 
 abbrev pub evaluateAtDepth : Header → (ℕ → Graph → Outcome) → Graph → ℕ → PathKind → ℕ → Outcome

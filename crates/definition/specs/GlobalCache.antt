@@ -1,5 +1,6 @@
 -- global_cache.rs, in bytes: for each goal T + 2 slots, the success slot and then an overflow slot for each required depth 0 to T.
--- A slot: held 0 or 1, result, required depth, then the nested goals, a byte for each goal.
+-- A slot: held 0 or 1, result, required depth, how often the goal's part was run for it (document 02, item 8), then the
+-- nested goals, a byte for each goal.
 use Prim.Native.Nat.{ℕ, _+_, _*_}
 use mathlib.Core.Bool.{Bool, true, false, not, _&&_}
 use mathlib.Core.Option.{Option, none, some}
@@ -14,7 +15,7 @@ use Rattle.definition.specs.Graph.{EvaluationResult}
 
 -- ---- a slot's bytes
 abbrev pub slotSize : Header → ℕ
-slotSize h = h .goals + 3
+slotSize h = h .goals + 4
 
 abbrev pub slotHeld : List ℕ → Bool
 slotHeld s = eqb (getD s 0 0) 1
@@ -25,11 +26,14 @@ slotResult s = answerOf (getD s 1 0)
 abbrev pub slotDepth : List ℕ → ℕ
 slotDepth s = getD s 2 0
 
+abbrev pub slotPasses : List ℕ → ℕ
+slotPasses s = getD s 3 0
+
 abbrev pub slotNested : List ℕ → NestedGoals
-slotNested s = drop 3 s
+slotNested s = drop 4 s
 
 abbrev pub slotBytes : EvaluationResult → List ℕ
-slotBytes r = 1 ∷ answerNumber (r .result) ∷ r .requiredDepth ∷ r .nestedGoals
+slotBytes r = 1 ∷ answerNumber (r .result) ∷ r .requiredDepth ∷ r .passes ∷ r .nestedGoals
 
 -- ---- a goal's slots
 abbrev pub slotsPerGoal : Header → ℕ

@@ -61,19 +61,22 @@ abbrev pub unlessFound : Option Outcome → Outcome → Outcome
 unlessFound (some o) next = o
 unlessFound none next = next
 
+-- `passes` is document 02's, item 8: how often the goal's part was run
 pub record EvaluationResult : Type 0 where
   pub encounteredOverflow : Bool
   pub requiredDepth : ℕ
   pub heads : CycleHeads
   pub nestedGoals : NestedGoals
   pub result : Answer
+  pub passes : ℕ
 
-abbrev pub finalize : Frame → Bool → Answer → EvaluationResult
-finalize f overflow result =
+abbrev pub finalize : Frame → Bool → Answer → ℕ → EvaluationResult
+finalize f overflow result passes =
     record {
       encounteredOverflow = overflow;
       requiredDepth = requiredDepthOf f;
       heads = f .heads;
       nestedGoals = f .nestedGoals;
       result = result;
+      passes = passes;
     }

@@ -21,8 +21,8 @@ unfolding outcomeOf
 counts-in goals root height bs cache (Done a n) c = c
 counts-in goals root height bs cache (Stopped r) c = tt
 
-pub task-counts-in : (goals root height : ℕ) (bs cache : List ℕ) (o : TaskOutcome)
-    → TaskCounted (taskOutcomeOf goals root height bs cache o) → TaskCountsIn (stackOf goals height bs) o
+pub task-counts-in : (goals root height passes : ℕ) (bs cache : List ℕ) (o : TaskOutcome)
+    → TaskCounted (taskOutcomeOf goals root height passes bs cache o) → TaskCountsIn (stackOf goals height bs) o
 unfolding taskOutcomeOf
-task-counts-in goals root height bs cache (Evaluated a overflow n) c = c
-task-counts-in goals root height bs cache (TaskStopped r) c = tt
+task-counts-in goals root height passes bs cache (Evaluated a overflow n) c = c
+task-counts-in goals root height passes bs cache (TaskStopped r) c = tt

@@ -54,13 +54,13 @@ module _ (cache : List ℕ) where
   done-is = refl
 
   -- the frame that was popped stands above it
-  evaluated-is : taskOutcomeOf 2 9 1 bytes cache (Evaluated No true 2)
-      ≡ task.Evaluated held (finalize (frameOf 2 top) true No)
+  evaluated-is : taskOutcomeOf 2 9 1 3 bytes cache (Evaluated No true 2)
+      ≡ task.Evaluated held (finalize (frameOf 2 top) true No 3)
   unfolding taskOutcomeOf stackOf entriesFrom listUp
   evaluated-is = refl
 
   stopped-is : (r : Refusal) → (outcomeOf 2 9 1 bytes cache (Stopped r) ≡ graph.Stopped r)
-      × (taskOutcomeOf 2 9 1 bytes cache (TaskStopped r) ≡ task.TaskStopped r)
+      × (taskOutcomeOf 2 9 1 3 bytes cache (TaskStopped r) ≡ task.TaskStopped r)
   unfolding outcomeOf taskOutcomeOf
   stopped-is r = (refl, refl)
 

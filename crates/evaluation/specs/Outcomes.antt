@@ -17,11 +17,11 @@ unfoldable pub outcomeOf : ℕ → ℕ → ℕ → List ℕ → List ℕ → Out
 outcomeOf goals root height bs cache (Done a n) = graph.Done (graphOf goals root height n bs cache) a
 outcomeOf goals root height bs cache (Stopped r) = graph.Stopped r
 
--- the popped frame stood at index `height`
-unfoldable pub taskOutcomeOf : ℕ → ℕ → ℕ → List ℕ → List ℕ → TaskOutcome → task.TaskOutcome
-taskOutcomeOf goals root height bs cache (Evaluated a overflow n) =
-    task.Evaluated (graphOf goals root height n bs cache) (finalize (frameAt goals height bs) overflow a)
-taskOutcomeOf goals root height bs cache (TaskStopped r) = task.TaskStopped r
+-- the popped frame stood at index `height`, and its part was run `passes` times
+unfoldable pub taskOutcomeOf : ℕ → ℕ → ℕ → ℕ → List ℕ → List ℕ → TaskOutcome → task.TaskOutcome
+taskOutcomeOf goals root height passes bs cache (Evaluated a overflow n) =
+    task.Evaluated (graphOf goals root height n bs cache) (finalize (frameAt goals height bs) overflow a passes)
+taskOutcomeOf goals root height passes bs cache (TaskStopped r) = task.TaskStopped r
 
 -- where there is an answer, the counts of steps on the stack s are true
 abbrev pub CountsIn : Stack → Outcome → Type 0

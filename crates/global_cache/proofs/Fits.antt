@@ -1,83 +1,154 @@
 -- The form of a slot, of a goal's slots and of the cache.
-use mathlib.Core.Path.{_≡_, refl, sym, ap, ap₂, _∙_}
+use mathlib.Core.Path.{_≡_, refl, sym, ap, ap₂, _∙_, subst}
 use mathlib.Core.Bool.{Bool, true, false, _&&_, _||_, and-assoc, and-false}
 use mathlib.Core.List.{List, [], _∷_}
-use Prim.Native.Nat.{ℕ, zero, suc, _+_, _-_, _^_, _≤_, _<_}
-use native.Mathlib.Decide.{ℕ-discrete}
+use Prim.Native.Nat.{ℕ, zero, suc, _+_, _*_, _-_, _^_, _≤_, _<_}
+use native.Mathlib.Decide.{ℕ-discrete, decLe}
 use native.Mathlib.Numerals.{add-one}
 use native.Mathlib.Omega.{arith}
 use borrow.Author.Tests.{le-leb, lt-leb, eq-eqb, ne-eqb}
-use lib.Bits.{bitOr}
-use lib.Dec.{leb, eqb, eqb·suc-suc}
+use lib.Dec.{T, leb, leb→le, eqb, eqb·suc-suc}
 use lib.ListN.{length, getD, take, drop}
 use Rattle.definition.specs.declared.format.Header.{Header}
-use Rattle.definition.specs.CacheForm.{allAtMost, depthFits, slotFits, slotsFit, goalsFit}
+use Rattle.definition.specs.CacheForm.{allAtMost, depthFits, mostPasses, passesFit, slotFits, slotsFit, goalsFit}
 use Rattle.definition.specs.GlobalCache.{slotAt, slotsPerGoal}
-use Rattle.global_cache.specs.Cache.{headerWith}
-use Rattle.layout.proofs.NestedPaths.{or-low}
+use Rattle.definition.proofs.Tests.{and-left, and-right}
 use Rattle.definition.proofs.Lists.{part-from}
 
 -- the depth of an overflow slot
-pub own-depth : (goals top slot depth : ℕ) → (slot ≡ 0 → ⊥) → eqb (depth + 1) slot ≡ depthFits (headerWith goals top) slot depth
-own-depth goals top zero depth h = absurd (h refl)
-own-depth goals top (suc k) depth h = ap (λ (n : ℕ). eqb n (suc k)) (add-one depth) ∙ eqb·suc-suc depth k
+pub own-depth : (h : Header) (slot depth : ℕ) → (slot ≡ 0 → ⊥) → eqb (depth + 1) slot ≡ depthFits h slot depth
+own-depth h zero depth e = absurd (e refl)
+own-depth h (suc k) depth e = ap (λ (n : ℕ). eqb n (suc k)) (add-one depth) ∙ eqb·suc-suc depth k
 
-pub any-depth : (goals top slot depth : ℕ) → slot ≡ 0 → leb depth top ≡ depthFits (headerWith goals top) slot depth
-any-depth goals top slot depth e = ap (λ (k : ℕ). depthFits (headerWith goals top) k depth) (sym e)
+pub any-depth : (h : Header) (slot depth : ℕ) → slot ≡ 0 → leb depth (h .top) ≡ depthFits h slot depth
+any-depth h slot depth e = ap (λ (k : ℕ). depthFits h k depth) (sym e)
 
--- the bytes of a slot with the flags n of its nested goals
-abbrev pub joined : List ℕ → ℕ → ℕ
-joined s n = bitOr (bitOr (bitOr (getD s 0 0) (getD s 1 0)) (getD s 2 0)) n
+-- ---- `passes_fit`
+pub no-pass : (h : Header) (n : ℕ) → n ≡ 0 → false ≡ passesFit h n
+no-pass h n e = sym (ap (λ (t : Bool). t && leb n (mostPasses h)) (lt-leb 1 n (omega arith)))
 
-zeros : (s : List ℕ) (n : ℕ) → 3 ≤ length s → leb n 0 ≡ allAtMost 0 (drop 3 s) → leb (joined s n) 0 ≡ allAtMost 0 s
-zeros [] n h e = absurd (omega arith)
-zeros (a ∷ []) n h e = absurd (omega arith)
-zeros (a ∷ b ∷ []) n h e = absurd (omega arith)
-zeros (a ∷ b ∷ c ∷ s) n h e =
-    or-low 0 (bitOr (bitOr a b) c) n
-    ∙ ap (λ (t : Bool). t && leb n 0) (or-low 0 (bitOr a b) c ∙ ap (λ (t : Bool). t && leb c 0) (or-low 0 a b))
-    ∙ and-assoc (leb a 0 && leb b 0) (leb c 0) (leb n 0)
-    ∙ and-assoc (leb a 0) (leb b 0) (leb c 0 && leb n 0)
-    ∙ ap (λ (t : Bool). leb a 0 && (leb b 0 && (leb c 0 && t))) e
+some-passes : (h : Header) (n : ℕ) → 1 ≤ n → leb n (mostPasses h) ≡ passesFit h n
+some-passes h n e = sym (ap (λ (t : Bool). t && leb n (mostPasses h)) (le-leb 1 n e))
+
+pub one-pass : (h : Header) (n : ℕ) → n ≡ 1 → true ≡ passesFit h n
+one-pass h n e = sym (le-leb n (mostPasses h) (omega arith)) ∙ some-passes h n (omega arith)
+
+-- more than one: the limit decides
+pub more-passes : (h : Header) (n : ℕ) → (n ≡ 0 → ⊥) → (n ≡ 1 → ⊥) → leb n (h .limit) ≡ passesFit h n
+more-passes h n e f = by (decLe n (h .limit)) ∙ some-passes h n (omega arith)
+  where
+    by : Dec (n ≤ h .limit) → leb n (h .limit) ≡ leb n (mostPasses h)
+    by (yes l) = le-leb n (h .limit) l ∙ sym (le-leb n (mostPasses h) (omega arith))
+    by (no l) = lt-leb n (h .limit) (omega arith) ∙ sym (lt-leb n (mostPasses h) (omega arith))
+
+-- ---- `is_vacant`
+
+-- the first four bytes as one number, in two pairs
+module _ (s : List ℕ) (room : 4 ≤ length s) (low high : ℕ) (is-low : low ≡ getD s 0 0 + 256 * getD s 1 0)
+    (is-high : high ≡ getD s 2 0 + 256 * getD s 3 0) where
+  zero-four : (s : List ℕ) → 4 ≤ length s → T (allAtMost 0 (take 4 s))
+      → getD s 0 0 + 256 * getD s 1 0 + 65536 * (getD s 2 0 + 256 * getD s 3 0) ≡ 0
+  zero-four [] h t = absurd (omega arith)
+  zero-four (a ∷ []) h t = absurd (omega arith)
+  zero-four (a ∷ b ∷ []) h t = absurd (omega arith)
+  zero-four (a ∷ b ∷ c ∷ []) h t = absurd (omega arith)
+  zero-four (a ∷ b ∷ c ∷ d ∷ s) h t =
+      omega (
+        arith,
+        leb→le a 0 (search (and-left, and-right)),
+        leb→le b 0 (search (and-left, and-right)),
+        leb→le c 0 (search (and-left, and-right)),
+        leb→le d 0 (search (and-left, and-right)),
+      )
+
+  pub some-field : (low + 65536 * high ≡ 0 → ⊥) → (n : ℕ) → false ≡ (allAtMost 0 (take 4 s) && eqb n 0)
+  some-field ne n = sym (ap (λ (t : Bool). t && eqb n 0) (go (allAtMost 0 (take 4 s)) refl))
+    where
+      go : (t : Bool) → allAtMost 0 (take 4 s) ≡ t → allAtMost 0 (take 4 s) ≡ false
+      go false e = e
+      go true e = absurd (ne (omega (arith, zero-four s room (subst T (sym e) tt))))
+
+  pub no-field : low + 65536 * high ≡ 0 → (n : ℕ) → eqb n 0 ≡ (allAtMost 0 (take 4 s) && eqb n 0)
+  no-field e n = sym (ap (λ (t : Bool). t && eqb n 0) (all-four s room (omega arith)))
+    where
+      all-four : (s : List ℕ) → 4 ≤ length s
+          → getD s 0 0 + 256 * getD s 1 0 + 65536 * (getD s 2 0 + 256 * getD s 3 0) ≡ 0
+          → allAtMost 0 (take 4 s) ≡ true
+      all-four [] h z = absurd (omega arith)
+      all-four (a ∷ []) h z = absurd (omega arith)
+      all-four (a ∷ b ∷ []) h z = absurd (omega arith)
+      all-four (a ∷ b ∷ c ∷ []) h z = absurd (omega arith)
+      all-four (a ∷ b ∷ c ∷ d ∷ s) h z =
+          let p = le-leb a 0 (omega arith) in
+          let q = le-leb b 0 (omega arith) in
+          let r = le-leb c 0 (omega arith) in
+          let t = le-leb d 0 (omega arith) in
+          λ i. p i && (q i && (r i && (t i && true)))
 
 -- ---- `slot_fits`
-module _ (h : Header) (k : ℕ) (s : List ℕ) (room : 3 ≤ length s) (n : ℕ) (tells : (j : ℕ) → leb n (2 ^ j - 1) ≡ allAtMost (2 ^ j - 1) (drop 3 s)) where
-  pub vacant : joined s n ≡ 0 → true ≡ slotFits h k s
-  vacant e =
-      sym (ap (λ (t : Bool). t || (eqb (getD s 0 0) 1 && leb (getD s 1 0) 3 && depthFits h k (getD s 2 0) && allAtMost 31 (drop 3 s))) (sym (zeros s n room (tells 0)) ∙ le-leb (joined s n) 0 (omega arith)))
+split : (m k : ℕ) (s : List ℕ) → (allAtMost m (take k s) && allAtMost m (drop k s)) ≡ allAtMost m s
+split m zero s = refl
+split m (suc k) [] = refl
+split m (suc k) (x ∷ xs) =
+    and-assoc (leb x m) (allAtMost m (take k xs)) (allAtMost m (drop k xs)) ∙ ap (λ (t : Bool). leb x m && t) (split m k xs)
 
-  module _ (some : joined s n ≡ 0 → ⊥) where
-    held : (eqb (getD s 0 0) 1 && leb (getD s 1 0) 3 && depthFits h k (getD s 2 0) && leb n 31) ≡ slotFits h k s
+none-below : (n : ℕ) → eqb n 0 ≡ leb n 0
+none-below zero = refl
+none-below (suc n) = ne-eqb (suc n) 0 (λ e. omega arith) ∙ sym (lt-leb (suc n) 0 (omega arith))
+
+-- the tests one after the other; n tells the bounds of the nested goals, and t whether all bytes are zeros
+module _ (h : Header) (k : ℕ) (s : List ℕ) (n : ℕ) (tells : (j : ℕ) → leb n (2 ^ j - 1) ≡ allAtMost (2 ^ j - 1) (drop 4 s))
+    (zeros : Bool) (is-zeros : zeros ≡ (allAtMost 0 (take 4 s) && eqb n 0)) where
+  abbrev depth : Bool
+  depth = depthFits h k (getD s 2 0)
+
+  abbrev passes : Bool
+  passes = passesFit h (getD s 3 0)
+
+  abbrev orHeld : Bool → Bool
+  orHeld t = t || (eqb (getD s 0 0) 1 && leb (getD s 1 0) 3 && depth && passes && allAtMost 31 (drop 4 s))
+
+  all-zeros : allAtMost 0 s ≡ zeros
+  all-zeros =
+      sym (is-zeros ∙ ap (λ (t : Bool). allAtMost 0 (take 4 s) && t) (none-below n ∙ tells 0) ∙ split 0 4 s)
+
+  pub vacant : zeros ≡ true → true ≡ slotFits h k s
+  vacant e = sym (ap orHeld (all-zeros ∙ e))
+
+  module _ (some : zeros ≡ false) where
+    held : (eqb (getD s 0 0) 1 && leb (getD s 1 0) 3 && depth && passes && leb n 31) ≡ slotFits h k s
     held =
-        ap (λ (t : Bool). eqb (getD s 0 0) 1 && leb (getD s 1 0) 3 && depthFits h k (getD s 2 0) && t) (tells 5)
-        ∙ sym (ap (λ (t : Bool). t || (eqb (getD s 0 0) 1 && leb (getD s 1 0) 3 && depthFits h k (getD s 2 0) && allAtMost 31 (drop 3 s))) (sym (zeros s n room (tells 0)) ∙ lt-leb (joined s n) 0 (omega arith)))
+        ap (λ (t : Bool). eqb (getD s 0 0) 1 && leb (getD s 1 0) 3 && depth && passes && t) (tells 5)
+        ∙ sym (ap orHeld (all-zeros ∙ some))
 
     pub not-held : (getD s 0 0 ≡ 1 → ⊥) → false ≡ slotFits h k s
-    not-held e = sym (ap (λ (t : Bool). t && leb (getD s 1 0) 3 && depthFits h k (getD s 2 0) && leb n 31) (ne-eqb (getD s 0 0) 1 e)) ∙ held
+    not-held e = sym (ap (λ (t : Bool). t && leb (getD s 1 0) 3 && depth && passes && leb n 31) (ne-eqb (getD s 0 0) 1 e)) ∙ held
 
     module _ (one : getD s 0 0 ≡ 1) where
-      is-held : (leb (getD s 1 0) 3 && depthFits h k (getD s 2 0) && leb n 31) ≡ slotFits h k s
-      is-held = sym (ap (λ (t : Bool). t && leb (getD s 1 0) 3 && depthFits h k (getD s 2 0) && leb n 31) (eq-eqb (getD s 0 0) 1 one)) ∙ held
+      is-held : (leb (getD s 1 0) 3 && depth && passes && leb n 31) ≡ slotFits h k s
+      is-held = sym (ap (λ (t : Bool). t && leb (getD s 1 0) 3 && depth && passes && leb n 31) (eq-eqb (getD s 0 0) 1 one)) ∙ held
 
       pub no-result : 3 < getD s 1 0 → false ≡ slotFits h k s
-      no-result e = sym (ap (λ (t : Bool). t && depthFits h k (getD s 2 0) && leb n 31) (lt-leb (getD s 1 0) 3 e)) ∙ is-held
+      no-result e = sym (ap (λ (t : Bool). t && depth && passes && leb n 31) (lt-leb (getD s 1 0) 3 e)) ∙ is-held
 
-      with-depth : getD s 1 0 ≤ 3 → (depth : Bool) → depth ≡ depthFits h k (getD s 2 0) → (depth && leb n 31) ≡ slotFits h k s
-      with-depth e depth d =
-          ap (λ (t : Bool). t && leb n 31) d
-          ∙ sym (ap (λ (t : Bool). t && depthFits h k (getD s 2 0) && leb n 31) (le-leb (getD s 1 0) 3 e))
-          ∙ is-held
+      pub has-answer : getD s 1 0 ≤ 3 → (depth && passes && leb n 31) ≡ slotFits h k s
+      has-answer e = sym (ap (λ (t : Bool). t && depth && passes && leb n 31) (le-leb (getD s 1 0) 3 e)) ∙ is-held
 
-      pub no-depth : getD s 1 0 ≤ 3 → (depth : Bool) → depth ≡ depthFits h k (getD s 2 0) → depth ≡ false → false ≡ slotFits h k s
-      no-depth e depth d t = sym (ap (λ (b : Bool). b && leb n 31) t) ∙ with-depth e depth d
+-- the three tests that are left
+module _ (p q r x : Bool) (all : (p && q && r) ≡ x) where
+  pub first-fails : p ≡ false → false ≡ x
+  first-fails e = sym (ap (λ (t : Bool). t && q && r) e) ∙ all
 
-      pub by-nested : getD s 1 0 ≤ 3 → (depth : Bool) → depth ≡ depthFits h k (getD s 2 0) → depth ≡ true → leb n 31 ≡ slotFits h k s
-      by-nested e depth d t = sym (ap (λ (b : Bool). b && leb n 31) t) ∙ with-depth e depth d
+  pub second-fails : p ≡ true → q ≡ false → false ≡ x
+  second-fails e f = sym (λ i. e i && f i && r) ∙ all
 
--- the flags of the part `[3..]`
-pub part-tells : (s : List ℕ) (n : ℕ) → ((j : ℕ) → leb n (2 ^ j - 1) ≡ allAtMost (2 ^ j - 1) (take (length s - 3) (drop 3 s)))
-    → (j : ℕ) → leb n (2 ^ j - 1) ≡ allAtMost (2 ^ j - 1) (drop 3 s)
-part-tells s n e j = e j ∙ ap (allAtMost (2 ^ j - 1)) (part-from 3 s)
+  pub third-decides : p ≡ true → q ≡ true → r ≡ x
+  third-decides e f = sym (λ i. e i && f i && r) ∙ all
+
+-- the flags of the part `[4..]`
+pub part-tells : (s : List ℕ) (n : ℕ) → ((j : ℕ) → leb n (2 ^ j - 1) ≡ allAtMost (2 ^ j - 1) (take (length s - 4) (drop 4 s)))
+    → (j : ℕ) → leb n (2 ^ j - 1) ≡ allAtMost (2 ^ j - 1) (drop 4 s)
+part-tells s n e j = e j ∙ ap (allAtMost (2 ^ j - 1)) (part-from 4 s)
 
 -- ---- a test of all numbers below one
 module _ (f all : ℕ → Bool) (step : (k : ℕ) → all (suc k) ≡ (f k && all k)) where

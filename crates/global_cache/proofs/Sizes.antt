@@ -9,15 +9,15 @@ pub slots-few : (n top : ℕ) → n ≤ 64 → top ≤ 63 → n * (top + 2) ≤ 
 slots-few n top a b = mul-le-mul {n₁ = n} {m₁ = top + 2} {n₂ = 64} {m₂ = 65} a (omega arith)
 
 -- slots' bytes
-pub bytes-few : (n goals : ℕ) → n ≤ 4160 → goals ≤ 64 → n * (goals + 3) ≤ 278720
-bytes-few n goals a b = mul-le-mul {n₁ = n} {m₁ = goals + 3} {n₂ = 4160} {m₂ = 67} a (omega arith)
+pub bytes-few : (n goals : ℕ) → n ≤ 4160 → goals ≤ 64 → n * (goals + 4) ≤ 282880
+bytes-few n goals a b = mul-le-mul {n₁ = n} {m₁ = goals + 4} {n₂ = 4160} {m₂ = 68} a (omega arith)
 
-pub length-few : (goals top : ℕ) → goals ≤ 64 → top ≤ 63 → goals * (top + 2) * (goals + 3) ≤ 278720
+pub length-few : (goals top : ℕ) → goals ≤ 64 → top ≤ 63 → goals * (top + 2) * (goals + 4) ≤ 282880
 length-few goals top a b = bytes-few (goals * (top + 2)) goals (slots-few goals top a b) a
 
 -- a slot lies in the cache
-pub place-in : (goals top place : ℕ) → place < goals * (top + 2) → place * (goals + 3) + (goals + 3) ≤ goals * (top + 2) * (goals + 3)
-place-in goals top place h = apart place (goals * (top + 2)) (goals + 3) h
+pub place-in : (goals top place : ℕ) → place < goals * (top + 2) → place * (goals + 4) + (goals + 4) ≤ goals * (top + 2) * (goals + 4)
+place-in goals top place h = apart place (goals * (top + 2)) (goals + 4) h
 
 -- a goal's slots are among all
 pub goal-in : (goals top goal : ℕ) → goal < goals → goal * (top + 2) + (top + 2) ≤ goals * (top + 2)

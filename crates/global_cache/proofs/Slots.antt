@@ -31,26 +31,28 @@ part-slot cache a b size e =
 
 -- a slot of a known goal is as long as a slot is
 pub slot-length : (goals top goal slot : ℕ) (cache : List ℕ) → CacheBytes goals top cache → goal < goals → slot < top + 2
-    → length (slotAt (headerWith goals top) cache goal slot) ≡ goals + 3
+    → length (slotAt (headerWith goals top) cache goal slot) ≡ goals + 4
 slot-length goals top goal slot cache g k h =
     let inside = goal-in goals top goal k in
     let room = place-in goals top (goal * (top + 2) + slot) (omega arith) in
     let whole = g .whole in
-    length-region ((goal * (top + 2) + slot) * (goals + 3)) (goals + 3) cache (omega arith)
+    length-region ((goal * (top + 2) + slot) * (goals + 4)) (goals + 4) cache (omega arith)
 
 pub slot-room : (goals top goal slot : ℕ) (cache s : List ℕ) → CacheBytes goals top cache → goal < goals → slot < top + 2
-    → s ≡ slotAt (headerWith goals top) cache goal slot → 3 ≤ length s
+    → s ≡ slotAt (headerWith goals top) cache goal slot → 4 ≤ length s
 slot-room goals top goal slot cache s g k h e =
-    let n : length s ≡ goals + 3 = ap length e ∙ slot-length goals top goal slot cache g k h in
+    let n : length s ≡ goals + 4 = ap length e ∙ slot-length goals top goal slot cache g k h in
     omega arith
 
 -- ---- a slot written
--- the three first bytes, then the nested goals
-pub held-bytes : (s ns : List ℕ) (x y z : ℕ) → length s ≡ 3 + length ns → take 3 (set (set (set s 0 x) 1 y) 2 z) ++ ns ≡ x ∷ y ∷ z ∷ ns
-held-bytes [] ns x y z h = absurd (omega arith)
-held-bytes (a ∷ []) ns x y z h = absurd (omega arith)
-held-bytes (a ∷ b ∷ []) ns x y z h = absurd (omega arith)
-held-bytes (a ∷ b ∷ c ∷ s) ns x y z h = refl
+-- the four first bytes, then the nested goals
+pub held-bytes : (s ns : List ℕ) (w x y z : ℕ) → length s ≡ 4 + length ns
+    → take 4 (set (set (set (set s 0 w) 1 x) 2 y) 3 z) ++ ns ≡ w ∷ x ∷ y ∷ z ∷ ns
+held-bytes [] ns w x y z h = absurd (omega arith)
+held-bytes (a ∷ []) ns w x y z h = absurd (omega arith)
+held-bytes (a ∷ b ∷ []) ns w x y z h = absurd (omega arith)
+held-bytes (a ∷ b ∷ c ∷ []) ns w x y z h = absurd (omega arith)
+held-bytes (a ∷ b ∷ c ∷ d ∷ s) ns w x y z h = refl
 
 -- ---- `conflicts`
 pub held-other : (s : List ℕ) (held : Bool) (n r : ℕ) → held ≡ slotHeld s → held ≡ true → n ≡ getD s 1 0 → not (eqb n r) ≡ (slotHeld s && not (eqb (getD s 1 0) r))
@@ -64,45 +66,47 @@ held-none s held r e t = sym (ap (λ (b : Bool). b && not (eqb (getD s 1 0) r)) 
 pub kept-differs : Kept ≡ Conflict → ⊥
 kept-differs e = let z : _≡_ {A = ℕ} 0 1 = cc in omega arith
 
-pub for-overflow : (overflow : Bool) (required : ℕ) (nested : List ℕ) (result : Answer) → overflow ≡ true → required + 1 ≡ slotFor (evaluated overflow required nested result)
-for-overflow overflow required nested result e = sym (ap (λ (t : Bool). slotFor (evaluated t required nested result)) e)
+pub for-overflow : (overflow : Bool) (required : ℕ) (nested : List ℕ) (result : Answer) (passes : ℕ) → overflow ≡ true
+    → required + 1 ≡ slotFor (evaluated overflow required nested result passes)
+for-overflow overflow required nested result passes e = sym (ap (λ (t : Bool). slotFor (evaluated t required nested result passes)) e)
 
-pub for-success : (overflow : Bool) (required : ℕ) (nested : List ℕ) (result : Answer) → overflow ≡ false → 0 ≡ slotFor (evaluated overflow required nested result)
-for-success overflow required nested result e = sym (ap (λ (t : Bool). slotFor (evaluated t required nested result)) e)
+pub for-success : (overflow : Bool) (required : ℕ) (nested : List ℕ) (result : Answer) (passes : ℕ) → overflow ≡ false
+    → 0 ≡ slotFor (evaluated overflow required nested result passes)
+for-success overflow required nested result passes e = sym (ap (λ (t : Bool). slotFor (evaluated t required nested result passes)) e)
 
-module _ (goals top goal : ℕ) (cache : List ℕ) (overflow : Bool) (required : ℕ) (nested : List ℕ) (result : Answer)
-    (slot a n : ℕ) (is-slot : slot ≡ slotFor (evaluated overflow required nested result)) (is-start : a ≡ (goal * (top + 2) + slot) * (goals + 3))
+module _ (goals top goal : ℕ) (cache : List ℕ) (overflow : Bool) (required : ℕ) (nested : List ℕ) (result : Answer) (passes : ℕ)
+    (slot a n : ℕ) (is-slot : slot ≡ slotFor (evaluated overflow required nested result passes)) (is-start : a ≡ (goal * (top + 2) + slot) * (goals + 4))
     (is-number : n ≡ answerNumber result) (t : Bool)
-    (told : t ≡ (slotHeld (take (a + (goals + 3) - a) (drop a cache)) && not (eqb (getD (take (a + (goals + 3) - a) (drop a cache)) 1 0) n))) where
+    (told : t ≡ (slotHeld (take (a + (goals + 4) - a) (drop a cache)) && not (eqb (getD (take (a + (goals + 4) - a) (drop a cache)) 1 0) n))) where
   abbrev place : ℕ
-  place = slotStart (headerWith goals top) goal (slotFor (evaluated overflow required nested result))
+  place = slotStart (headerWith goals top) goal (slotFor (evaluated overflow required nested result passes))
 
   is-place : a ≡ place
-  is-place = is-start ∙ ap (λ (k : ℕ). (goal * (top + 2) + k) * (goals + 3)) is-slot
+  is-place = is-start ∙ ap (λ (k : ℕ). (goal * (top + 2) + k) * (goals + 4)) is-slot
 
   abbrev found : Bool → Option (List ℕ)
   found b =
       elim b [
         | true ↦ none
-        | false ↦ some (take place cache ++ ((1 ∷ answerNumber result ∷ required ∷ nested) ++ drop (place + (goals + 3)) cache))
+        | false ↦ some (take place cache ++ ((1 ∷ answerNumber result ∷ required ∷ passes ∷ nested) ++ drop (place + (goals + 4)) cache))
       ]
 
-  found-told : cacheInsert (headerWith goals top) cache goal (evaluated overflow required nested result) ≡ found t
+  found-told : cacheInsert (headerWith goals top) cache goal (evaluated overflow required nested result passes) ≡ found t
   found-told =
       ap found
-      (sym (told ∙ ap₂ (λ (l : List ℕ) (m : ℕ). slotHeld l && not (eqb (getD l 1 0) m)) (part-slot cache a place (goals + 3) is-place) is-number))
+      (sym (told ∙ ap₂ (λ (l : List ℕ) (m : ℕ). slotHeld l && not (eqb (getD l 1 0) m)) (part-slot cache a place (goals + 4) is-place) is-number))
 
-  pub insert-conflict : t ≡ true → cacheInsert (headerWith goals top) cache goal (evaluated overflow required nested result) ≡ none
+  pub insert-conflict : t ≡ true → cacheInsert (headerWith goals top) cache goal (evaluated overflow required nested result passes) ≡ none
   insert-conflict e = found-told ∙ ap found e
 
-  pub insert-kept : t ≡ false → (ys : List ℕ) → ys ≡ 1 ∷ n ∷ required ∷ nested
-      → cacheInsert (headerWith goals top) cache goal (evaluated overflow required nested result)
-      ≡ some (take a cache ++ (ys ++ drop (a + (goals + 3) - a) (drop a cache)))
+  pub insert-kept : t ≡ false → (ys : List ℕ) → ys ≡ 1 ∷ n ∷ required ∷ passes ∷ nested
+      → cacheInsert (headerWith goals top) cache goal (evaluated overflow required nested result passes)
+      ≡ some (take a cache ++ (ys ++ drop (a + (goals + 4) - a) (drop a cache)))
   insert-kept e ys f =
-      let size : a + (goals + 3) - a ≡ goals + 3 = omega arith in
+      let size : a + (goals + 4) - a ≡ goals + 4 = omega arith in
       found-told
       ∙ ap found e
       ∙ sym (ap some
-      (ap₂ (λ (l m : List ℕ). take a cache ++ (l ++ m)) (f ∙ ap (λ (k : ℕ). 1 ∷ k ∷ required ∷ nested) is-number)
-      (ap (λ (k : ℕ). drop k (drop a cache)) size ∙ drop-drop (goals + 3) a cache)
-      ∙ ap (λ (k : ℕ). take k cache ++ ((1 ∷ answerNumber result ∷ required ∷ nested) ++ drop (k + (goals + 3)) cache)) is-place))
+      (ap₂ (λ (l m : List ℕ). take a cache ++ (l ++ m)) (f ∙ ap (λ (k : ℕ). 1 ∷ k ∷ required ∷ passes ∷ nested) is-number)
+      (ap (λ (k : ℕ). drop k (drop a cache)) size ∙ drop-drop (goals + 4) a cache)
+      ∙ ap (λ (k : ℕ). take k cache ++ ((1 ∷ answerNumber result ∷ required ∷ passes ∷ nested) ++ drop (k + (goals + 4)) cache)) is-place))

@@ -29,9 +29,16 @@ pub record CacheBytes (goals top : ℕ) (cache : List ℕ) : Type 0 where
   pub whole : length cache ≡ cacheLength (headerWith goals top)
 
 -- a result to insert; its heads are not looked at
-abbrev pub evaluated : Bool → ℕ → NestedGoals → Answer → EvaluationResult
-evaluated overflow required nested result =
-    record { encounteredOverflow = overflow; requiredDepth = required; heads = []; nestedGoals = nested; result = result }
+abbrev pub evaluated : Bool → ℕ → NestedGoals → Answer → ℕ → EvaluationResult
+evaluated overflow required nested result passes =
+    record {
+      encounteredOverflow = overflow;
+      requiredDepth = required;
+      heads = [];
+      nestedGoals = nested;
+      result = result;
+      passes = passes;
+    }
 
 -- what `insert` leaves: the cache, or nothing after a conflict
 abbrev pub inserted : Insertion → List ℕ → Option (List ℕ)

@@ -23,15 +23,15 @@ pub fn cache_length(goals: usize, top: usize) -> usize
     requires { ⌜ Sizes goals top ⌝ }
     ensures { λ r. ⌜ r ≡ cacheLength (headerWith goals top) ⌝ }
 {
-    goals * (top + 2) * (goals + 3)
+    goals * (top + 2) * (goals + slot::FIELDS)
 }
 
 // Where the slot after `place` others starts.
 fn start_of(goals: usize, top: usize, place: usize) -> usize
     requires { ⌜ Sizes goals top × (place < goals * (top + 2)) ⌝ }
-    ensures { λ r. ⌜ (r ≡ place * (goals + 3)) × (r + (goals + 3) ≤ goals * (top + 2) * (goals + 3)) × (r < 278720) ⌝ }
+    ensures { λ r. ⌜ (r ≡ place * (goals + 4)) × (r + (goals + 4) ≤ goals * (top + 2) * (goals + 4)) × (r < 282880) ⌝ }
 {
-    place * (goals + 3)
+    place * (goals + slot::FIELDS)
 }
 
 // A goal's slot; nothing where it would lie past the end.
@@ -45,15 +45,15 @@ pub fn slot_at(cache: &[u8], goals: usize, top: usize, goal: usize, slot: usize)
         return &cache[0..0];
     }
     let a = start_of(goals, top, first + slot);
-    let e = a + (goals + 3);
+    let e = a + (goals + slot::FIELDS);
     &cache[a..e]
 }
 
 // The slot that a result belongs to.
 fn slot_for(overflow: bool, required: usize) -> usize
     requires { ⌜ required ≤ 63 ⌝ }
-    ensures { λ r. ⌜ (r ≤ required + 1) × ((nested : List ℕ) (result : Answer) → r
-        ≡ slotFor (evaluated overflow required nested result)) ⌝ }
+    ensures { λ r. ⌜ (r ≤ required + 1) × ((nested : List ℕ) (result : Answer) (passes : ℕ) → r
+        ≡ slotFor (evaluated overflow required nested result passes)) ⌝ }
 {
     if overflow {
         return required + 1;
@@ -70,22 +70,23 @@ pub fn insert(
     overflow: bool,
     required: usize,
     result: Answer,
+    passes: usize,
     nested: &[u8],
 ) -> Insertion
     requires { ⌜ CacheBytes goals top (now cache) × (goal < goals) × (required ≤ top)
-        × (length (now nested) ≡ goals) ⌝ }
+        × (passes < 256) × (length (now nested) ≡ goals) ⌝ }
     ensures { λ r. ⌜ cacheInsert (headerWith goals top) (now (cache .entry)) goal
-        (evaluated overflow required (now (nested .entry)) result) ≡ inserted r (now (cache .exit)) ⌝ }
+        (evaluated overflow required (now (nested .entry)) result passes) ≡ inserted r (now (cache .exit)) ⌝ }
     ensures unchanged { λ r. ⌜ (r ≡ Insertion.Conflict → now (cache .exit) ≡ now (cache .entry)) ⌝ }
 {
     let slot = slot_for(overflow, required);
     let place = goal * (top + 2) + slot;
     let a = start_of(goals, top, place);
-    let e = a + (goals + 3);
+    let e = a + (goals + slot::FIELDS);
     let n = result.number();
     if slot::conflicts(&cache[a..e], n) {
         return Insertion::Conflict;
     }
-    slot::write(&mut cache[a..e], n, required as u8, nested);
+    slot::write(&mut cache[a..e], n, required as u8, passes as u8, nested);
     Insertion::Kept
 }

@@ -1,5 +1,5 @@
-// A slot's bytes: held 0 or 1, result, required depth, then the nested goals, a byte
-// for each goal.
+// A slot's bytes: held 0 or 1, result, required depth, how often the goal's part was run
+// for it, then the nested goals, a byte for each goal.
 use buffer::scalars;
 use definition::answers::Answer;
 ghost use mathlib.Core.Path.{_≡_};
@@ -8,7 +8,10 @@ ghost use mathlib.Core.List.{_∷_, _++_};
 ghost use Prim.Native.Nat.{_+_};
 ghost use lib.Dec.{eqb};
 ghost use lib.ListN.{length, getD, take};
-ghost use Rattle.definition.specs.GlobalCache.{slotHeld, slotResult, slotDepth, slotNested};
+ghost use Rattle.definition.specs.GlobalCache.{slotHeld, slotResult, slotDepth, slotPasses, slotNested};
+
+// How many bytes stand before the nested goals.
+pub const FIELDS: usize = 4;
 
 pub fn is_held(slot: &[u8]) -> bool
     ensures { λ r. ⌜ r ≡ slotHeld (now (slot .entry)) ⌝ }
@@ -28,13 +31,20 @@ pub fn depth_of(slot: &[u8]) -> usize
     scalars::wide(buffer::get(slot, 2))
 }
 
+// How often the goal's part was run.
+pub fn passes_of(slot: &[u8]) -> u8
+    ensures { λ r. ⌜ r ≡ slotPasses (now (slot .entry)) ⌝ }
+{
+    buffer::get(slot, 3)
+}
+
 pub fn nested_of(slot: &[u8]) -> &[u8]
     ensures { λ r. ⌜ now r ≡ slotNested (now (slot .entry)) ⌝ }
 {
-    if slot.len() < 3 {
+    if slot.len() < FIELDS {
         return &slot[0..0];
     }
-    &slot[3..]
+    &slot[FIELDS..]
 }
 
 // Whether the slot holds another result.
@@ -47,25 +57,26 @@ pub fn conflicts(slot: &[u8], result: u8) -> bool
     false
 }
 
-// The nested goals, behind the slot's first three bytes.
+// The nested goals, behind the slot's first bytes.
 fn write_nested(slot: &mut [u8], nested: &[u8])
-    requires { ⌜ length (now slot) ≡ 3 + length (now nested) ⌝ }
-    ensures { λ _. ⌜ now (slot .exit) ≡ take 3 (now (slot .entry)) ++ now (nested .entry) ⌝ }
+    requires { ⌜ length (now slot) ≡ 4 + length (now nested) ⌝ }
+    ensures { λ _. ⌜ now (slot .exit) ≡ take 4 (now (slot .entry)) ++ now (nested .entry) ⌝ }
 {
     let mut i: usize = 0;
     while i < nested.len() {
-        slot[3 + i] = nested[i];
+        slot[FIELDS + i] = nested[i];
         i = i + 1;
     }
 }
 
 // The bytes of a held slot.
-pub fn write(slot: &mut [u8], result: u8, required: u8, nested: &[u8])
-    requires { ⌜ length (now slot) ≡ 3 + length (now nested) ⌝ }
-    ensures { λ _. ⌜ now (slot .exit) ≡ 1 ∷ result ∷ required ∷ now (nested .entry) ⌝ }
+pub fn write(slot: &mut [u8], result: u8, required: u8, passes: u8, nested: &[u8])
+    requires { ⌜ length (now slot) ≡ 4 + length (now nested) ⌝ }
+    ensures { λ _. ⌜ now (slot .exit) ≡ 1 ∷ result ∷ required ∷ passes ∷ now (nested .entry) ⌝ }
 {
     slot[0] = 1;
     slot[1] = result;
     slot[2] = required;
+    slot[3] = passes;
     write_nested(slot, nested);
 }

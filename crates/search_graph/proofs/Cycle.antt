@@ -26,6 +26,7 @@ use Rattle.global_cache.specs.Cache.{CacheBytes}
 use Rattle.evaluation.specs.declared.Outcome.{Outcome}
 use Rattle.evaluation.specs.declared.Outcome.the-variants.{Done, Stopped}
 use Rattle.evaluation.specs.declared.TaskOutcome.{TaskOutcome}
+use Rattle.evaluation.specs.declared.Ran.{Ran}
 use Rattle.evaluation.specs.Workspace.{WorkBytes, graphIn, stackIn}
 use Rattle.evaluation.specs.Outcomes.{outcomeOf, taskOutcomeOf, CountsIn, TaskCountsIn}
 use Rattle.delegate.specs.Picks.{graphAt}
@@ -87,15 +88,15 @@ module _ (book : List ℕ) (h : Header) (root height n : ℕ) (work cache : List
       (counts-kept (bookIn book) (h .goals - height)) (partIn (h .goals) inPick p)
       (graphAt (h .goals) root height n work cache) c))
 
-  pub task-counts : (p : List ℕ) (left : ℕ) {low : ℕ} {new cache1 : List ℕ} {o : TaskOutcome}
-      → TaskComes (h .goals) root low (taskFrom book p h root height n left work cache) work new cache1 o
-      → TaskCountsIn (stackIn (h .goals) low new) o
-  task-counts p left {low} {new} {cache1} {o} came =
-      task-counts-in (h .goals) root low (graphIn (h .goals) new) cache1 o
+  pub task-counts : (p : List ℕ) (left : ℕ) {low : ℕ} {new cache1 : List ℕ} {ran : Ran}
+      → TaskComes (h .goals) root low (taskFrom book p h root height n left work cache) work new cache1 ran
+      → TaskCountsIn (stackIn (h .goals) low new) (ran .outcome)
+  task-counts p left {low} {new} {cache1} {ran} came =
+      task-counts-in (h .goals) root low (ran .passes) (graphIn (h .goals) new) cache1 (ran .outcome)
       (subst TaskCounted (sym (came .is)) (task-counted (computed book p false h height)
       (part-counted (evaluator book h height) (h .goals) (counts-kept (bookIn book) (h .goals - height))
       (partIn (h .goals) false p))
-      left false (graphAt (h .goals) root height n work cache) c))
+      left 1 false (graphAt (h .goals) root height n work cache) c))
 
 -- ---- evaluate: the lookups, then a new frame
 abbrev computeBy : Book → ℕ → ℕ → Graph → graph.Outcome
@@ -167,7 +168,7 @@ module _ {book starts cache work : List ℕ} {h : Header} {root height n goal : 
       where
         stops : (left : ℕ) (g : Graph)
             → afterTask h goal step d
-            (evaluateGoalInTask (λ g1. graph.Stopped Unreachable) left false g) ≡ graph.Stopped Unreachable
+            (evaluateGoalInTask (λ g1. graph.Stopped Unreachable) left 1 false g) ≡ graph.Stopped Unreachable
         stops zero g = refl
         stops (suc left) g = refl
 
@@ -175,7 +176,7 @@ module _ {book starts cache work : List ℕ} {h : Header} {root height n goal : 
     module _ (lt : height < h .goals) (known-goal : goal < h .goals) {work2 : List ℕ}
         (push : Pushed (h .goals) height goal step d work1 work2)
         {p : List ℕ} (starts-at : p ≡ drop (getD starts goal 0) book) {left : ℕ} (less : left ≡ pred (h .limit))
-        {work3 cache3 : List ℕ} {o : TaskOutcome}
+        {work3 cache3 : List ℕ} {o : Ran}
         (ran : TaskComes (h .goals) root (height + 1 - 1) (taskFrom book p h root (height + 1) n left work2 cache)
         work2 work3 cache3 o)
         {work4 cache4 : List ℕ} {x : Outcome} (end : Finished h height goal step d o work3 work4 cache3 cache4 x)
@@ -203,14 +204,14 @@ module _ {book starts cache work : List ℕ} {h : Header} {root height n goal : 
             ∙ ap (λ (x : Header). evalPart (evaluator book h (height + 1)) (x .goals) (partIn (h .goals) false p))
             (run .read .header)
 
-        tasks : taskOutcomeOf (h .goals) root height (graphIn (h .goals) work3) cache3 o
-            ≡ evaluateGoalInTask (computer book h height goal) (pred (h .limit)) false
+        tasks : taskOutcomeOf (h .goals) root height (o .passes) (graphIn (h .goals) work3) cache3 (o .outcome)
+            ≡ evaluateGoalInTask (computer book h height goal) (pred (h .limit)) 1 false
             (withStack (graphAt (h .goals) root height n work1 cache)
             (newFrame (h .goals) goal step d (stackIn (h .goals) height work1) ∷ stackIn (h .goals) height work1))
         tasks =
-            ap (λ (m : ℕ). taskOutcomeOf (h .goals) root m (graphIn (h .goals) work3) cache3 o) (sym popped)
+            ap (λ (m : ℕ). taskOutcomeOf (h .goals) root m (o .passes) (graphIn (h .goals) work3) cache3 (o .outcome)) (sym popped)
             ∙ ran .is
-            ∙ (λ i. evaluateGoalInTask (sym computes i) (less i) false (push .is root n cache i))
+            ∙ (λ i. evaluateGoalInTask (sym computes i) (less i) 1 false (push .is root n cache i))
 
         pub framed : Comes (h .goals) root height height (goalFrom book h root height n work cache goal step lower) work
             work4 cache4 x
@@ -237,22 +238,30 @@ ran-counts goals height new o c =
     let e : height + 1 - 1 ≡ height = omega arith in
     subst (λ (k : ℕ). TaskCountsIn (stackIn goals k new) o) e c
 
--- ---- rerun: a turn of its loop. The iterations from here on make the whole; `first` is the workspace before the loop
+-- ---- rerun: a turn of its loop. The iterations from here on make the whole; `first` is the workspace before the loop,
+-- and of `most` reruns `left` are left
 pub record Turn (f : Graph → graph.Outcome) (goals root height most : ℕ) (whole : task.TaskOutcome)
     (first work cache : List ℕ)
     (left : ℕ) (overflow : Bool) (n : ℕ) : Type 0 where
   pub low : left ≤ most
   pub few : n ≤ 2 * goals
-  pub value : evaluateGoalInTask f left overflow (graphAt goals root height n work cache) ≡ whole
+  pub value : evaluateGoalInTask f left (most - left + 1) overflow (graphAt goals root height n work cache) ≡ whole
   pub merged : (i : ℕ) → i < height - 1 → mergedOf goals i work ≡ mergedOf goals i first
   pub counts : CountsTrue (stackIn goals height work)
 
 pub turn-starts : {f : Graph → graph.Outcome} {goals root height : ℕ} {work cache : List ℕ} {left : ℕ}
     {overflow : Bool} {n : ℕ} → n ≤ 2 * goals → CountsTrue (stackIn goals height work)
-    → Turn f goals root height left (evaluateGoalInTask f left overflow (graphAt goals root height n work cache))
+    → Turn f goals root height left (evaluateGoalInTask f left 1 overflow (graphAt goals root height n work cache))
     work work cache left overflow n
-turn-starts few counts =
-    record { low = omega arith; few = few; value = refl; merged = λ i lt. refl; counts = counts }
+turn-starts {f} {goals} {root} {height} {work} {cache} {left} {overflow} {n} few counts =
+    let first : left - left + 1 ≡ 1 = omega arith in
+    record {
+      low = omega arith;
+      few = few;
+      value = ap (λ (pass : ℕ). evaluateGoalInTask f left pass overflow (graphAt goals root height n work cache)) first;
+      merged = λ i lt. refl;
+      counts = counts;
+    }
 
 module _ {f : Graph → graph.Outcome} {goals root height most : ℕ} {whole : task.TaskOutcome}
     {first work cache : List ℕ}
@@ -260,22 +269,28 @@ module _ {f : Graph → graph.Outcome} {goals root height most : ℕ} {whole : t
     {work1 cache1 : List ℕ} {o : Outcome}
     (read : Comes goals root height (height - 1) (f (graphAt goals root height n work cache)) work work1 cache1 o)
     {work2 : List ℕ} {r : Iteration} (ended : IterationEnded goals height left overflow o work1 work2 r) where
-  goes-on : turned goals root height (nextTurn f left) (graphIn goals work2) cache1 r ≡ whole
+  -- the number of this turn
+  abbrev pass : ℕ
+  pass = most - left + 1
+
+  goes-on : turned goals root height pass (nextTurn f left pass) (graphIn goals work2) cache1 r ≡ whole
   goes-on =
-      sym (ended .is root cache1 (nextTurn f left))
-      ∙ ap (iteration left (nextTurn f left) overflow) (read .is)
-      ∙ sym (turn-is f left overflow (graphAt goals root height n work cache))
+      sym (ended .is root cache1 pass (nextTurn f left pass))
+      ∙ ap (iteration left pass (nextTurn f left pass) overflow) (read .is)
+      ∙ sym (turn-is f left pass overflow (graphAt goals root height n work cache))
       ∙ here .value
 
   merged-on : (i : ℕ) → i < height - 1 → mergedOf goals i work2 ≡ mergedOf goals i first
   merged-on i lt = ended .merged i ∙ read .merged i lt ∙ here .merged i lt
 
-  pub turn-ends : (t : TaskOutcome) → r ≡ End t → TaskComes goals root (height - 1) whole first work2 cache1 t
+  pub turn-ends : most < 99 → (t : TaskOutcome) → r ≡ End t
+      → TaskComes goals root (height - 1) whole first work2 cache1 (record { outcome = t; passes = pass })
   unfolding turned
-  turn-ends t e =
+  turn-ends few t e =
       record {
-        is = sym (ap (turned goals root height (nextTurn f left) (graphIn goals work2) cache1) e) ∙ goes-on;
+        is = sym (ap (turned goals root height pass (nextTurn f left pass) (graphIn goals work2) cache1) e) ∙ goes-on;
         few = subst (FewTurned goals left) e (ended .few);
+        passes = omega arith;
         merged = merged-on;
       }
 
@@ -289,12 +304,14 @@ module _ {f : Graph → graph.Outcome} {goals root height most : ℕ} {whole : t
   turn-again met m e =
       let some = turn-left met m e in
       let before = here .low in
+      let next-pass : suc pass ≡ most - (left - 1) + 1 = omega arith in
       record {
         low = omega arith;
         few = subst (FewTurned goals left) e (ended .few) .0;
         value =
-            sym (ap (λ (next : Bool → Graph → task.TaskOutcome). next met (graphAt goals root height m work2 cache1)) (next-is f left some))
-            ∙ sym (ap (turned goals root height (nextTurn f left) (graphIn goals work2) cache1) e) ∙ goes-on;
+            sym (ap (λ (k : ℕ). evaluateGoalInTask f (left - 1) k met (graphAt goals root height m work2 cache1)) next-pass)
+            ∙ sym (ap (λ (next : Bool → Graph → task.TaskOutcome). next met (graphAt goals root height m work2 cache1)) (next-is f left pass some))
+            ∙ sym (ap (turned goals root height pass (nextTurn f left pass) (graphIn goals work2) cache1) e) ∙ goes-on;
         merged = merged-on;
         counts = subst (CountsTurned (stackIn goals height work2)) e (ended .counts);
       }

@@ -13,7 +13,7 @@ use Rattle.stack.specs.Bytes.{StackBytes}
 use Rattle.definition.specs.Task.{iteration}
 use Rattle.stack.proofs.Parts.{part, returned}
 use Rattle.evaluation.specs.declared.Outcome.{Outcome}
-use Rattle.evaluation.specs.declared.TaskOutcome.{TaskOutcome}
+use Rattle.evaluation.specs.declared.Ran.{Ran}
 use Rattle.evaluation.specs.Workspace.{WorkBytes, graphIn, stackIn}
 use Rattle.evaluation.specs.Outcomes.{outcomeOf, taskOutcomeOf}
 use Rattle.evaluation.proofs.Lent.{lent-bytes, lent-graph, graph-back, merged-back}
@@ -63,15 +63,16 @@ module _
           merged = merged-back (h .goals) work w n is ys kept;
         }
 
-    pub finished : (height goal : ℕ) (step : PathKind) (available : ℕ) (o : TaskOutcome) (cache cacheAfter : List ℕ) (r : Outcome)
-        → results.Finished h height goal step available o cache cacheAfter (part work 0 n) ys r
-        → Finished h height goal step available o work (returned work 0 n ys) cache cacheAfter r
-    finished height goal step available o cache cacheAfter r made =
+    pub finished : (height goal : ℕ) (step : PathKind) (available : ℕ) (ran : Ran) (cache cacheAfter : List ℕ) (r : Outcome)
+        → results.Finished h height goal step available ran cache cacheAfter (part work 0 n) ys r
+        → Finished h height goal step available ran work (returned work 0 n ys) cache cacheAfter r
+    finished height goal step available ran cache cacheAfter r made =
         record {
           is = λ root.
               ap (λ (bs : List ℕ). outcomeOf (h .goals) root height bs cacheAfter r) (graph-back (h .goals) work w n is ys kept)
               ∙ made .is root
-              ∙ ap (λ (bs : List ℕ). afterTask h goal step available (taskOutcomeOf (h .goals) root height bs cache o))
+              ∙ ap (λ (bs : List ℕ). afterTask h goal step available
+              (taskOutcomeOf (h .goals) root height (ran .passes) bs cache (ran .outcome)))
               (lent-graph (h .goals) work w n is);
           few = made .few;
           merged = merged-back (h .goals) work w n is ys kept;
@@ -108,10 +109,10 @@ module _
         → IterationEnded goals height left overflow o work (returned work 0 n ys) r
     iteration-ended height left overflow o r taken =
         record {
-          is = λ root cache next.
-              ap (λ (bs : List ℕ). iteration left next overflow (outcomeOf goals root height bs cache o)) (sym (lent-graph goals work w n is))
-              ∙ taken .is root cache next
-              ∙ ap (λ (bs : List ℕ). turned goals root height next bs cache r) (sym (graph-back goals work w n is ys kept));
+          is = λ root cache pass next.
+              ap (λ (bs : List ℕ). iteration left pass next overflow (outcomeOf goals root height bs cache o)) (sym (lent-graph goals work w n is))
+              ∙ taken .is root cache pass next
+              ∙ ap (λ (bs : List ℕ). turned goals root height pass next bs cache r) (sym (graph-back goals work w n is ys kept));
           few = taken .few;
           counts = subst (λ (bs : List ℕ). CountsTurned (stackOf goals height bs) r)
               (sym (graph-back goals work w n is ys kept)) (taken .counts);

@@ -13,7 +13,7 @@ use Rattle.definition.specs.Evaluate.{evaluateGoalWith, newFrame, afterTask}
 use Rattle.layout.specs.Work.{graphOf, mergedOf}
 use Rattle.global_cache.specs.Cache.{CacheBytes}
 use Rattle.evaluation.specs.declared.Outcome.{Outcome}
-use Rattle.evaluation.specs.declared.TaskOutcome.{TaskOutcome}
+use Rattle.evaluation.specs.declared.Ran.{Ran}
 use Rattle.evaluation.specs.Workspace.{WorkBytes, graphIn, stackIn}
 use Rattle.evaluation.specs.Outcomes.{outcomeOf, taskOutcomeOf, TaskCountsIn, FewEntries, FewTaskEntries}
 use Rattle.lookup.specs.declared.Found.{Found}
@@ -53,25 +53,27 @@ pub record Pushed (goals height goal : ℕ) (step : PathKind) (available : ℕ) 
   pub merged : MergedKept goals old new
 
 pub record IterationEnded (goals height left : ℕ) (overflow : Bool) (o : Outcome) (old new : List ℕ) (r : Iteration) : Type 0 where
-  pub is : (root : ℕ) (cache : List ℕ) (next : Bool → Graph → task.TaskOutcome)
-      → task.iteration left next overflow (outcomeOf goals root height (graphIn goals old) cache o)
-      ≡ turned goals root height next (graphIn goals new) cache r
+  pub is : (root : ℕ) (cache : List ℕ) (pass : ℕ) (next : Bool → Graph → task.TaskOutcome)
+      → task.iteration left pass next overflow (outcomeOf goals root height (graphIn goals old) cache o)
+      ≡ turned goals root height pass next (graphIn goals new) cache r
   pub few : FewTurned goals left r
   pub counts : CountsTurned (stackIn goals height new) r
   pub merged : MergedKept goals old new
 
-pub record Finishing (h : Header) (height goal : ℕ) (o : TaskOutcome) (work cache : List ℕ) : Type 0 where
+pub record Finishing (h : Header) (height goal : ℕ) (ran : Ran) (work cache : List ℕ) : Type 0 where
   pub bytes : WorkBytes (h .goals) work
   pub slots : CacheBytes (h .goals) (h .top) cache
   pub stack : height < h .goals
   pub known : goal < h .goals
-  pub few : FewTaskEntries (h .goals) o
-  pub counts : TaskCountsIn (stackIn (h .goals) height work) o
+  pub few : FewTaskEntries (h .goals) (ran .outcome)
+  pub counts : TaskCountsIn (stackIn (h .goals) height work) (ran .outcome)
+  pub passes : ran .passes < 256
 
-pub record Finished (h : Header) (height goal : ℕ) (step : PathKind) (available : ℕ) (o : TaskOutcome)
+pub record Finished (h : Header) (height goal : ℕ) (step : PathKind) (available : ℕ) (ran : Ran)
     (old new cache cacheAfter : List ℕ) (r : Outcome) : Type 0 where
   pub is : (root : ℕ)
       → outcomeOf (h .goals) root height (graphIn (h .goals) new) cacheAfter r
-      ≡ afterTask h goal step available (taskOutcomeOf (h .goals) root height (graphIn (h .goals) old) cache o)
+      ≡ afterTask h goal step available
+      (taskOutcomeOf (h .goals) root height (ran .passes) (graphIn (h .goals) old) cache (ran .outcome))
   pub few : FewEntries (h .goals) r
   pub merged : MergedKept (h .goals) old new

@@ -16,7 +16,7 @@ use Rattle.book.specs.Parts.{partIn}
 use Rattle.book.specs.Read.{IsBook, bookIn}
 use Rattle.global_cache.specs.Cache.{CacheBytes}
 use Rattle.evaluation.specs.declared.Outcome.{Outcome}
-use Rattle.evaluation.specs.declared.TaskOutcome.{TaskOutcome}
+use Rattle.evaluation.specs.declared.Ran.{Ran}
 use Rattle.evaluation.specs.Workspace.{WorkBytes, graphIn, stackIn}
 use Rattle.evaluation.specs.Outcomes.{outcomeOf, taskOutcomeOf, FewEntries, FewTaskEntries}
 use Rattle.delegate.specs.Picks.{graphAt}
@@ -53,7 +53,7 @@ partFrom book p inPick h root height n work cache =
 -- its evaluate_goal_in_task of the goal whose part that is, with `left` iterations after the first
 abbrev pub taskFrom : List ℕ → List ℕ → Header → ℕ → ℕ → ℕ → ℕ → List ℕ → List ℕ → task.TaskOutcome
 taskFrom book p h root height n left work cache =
-    task.evaluateGoalInTask (computed book p false h height) left false
+    task.evaluateGoalInTask (computed book p false h height) left 1 false
     (graphAt (h .goals) root height n work cache)
 
 -- an outcome is the definition's, and the merged usages below an index are as they were
@@ -64,10 +64,11 @@ pub record Comes (goals root height low : ℕ) (whole : graph.Outcome) (old new 
   pub merged : (i : ℕ) → i < low → mergedOf goals i new ≡ mergedOf goals i old
 
 -- likewise of a task, whose frame was popped
-pub record TaskComes (goals root height : ℕ) (whole : task.TaskOutcome) (old new cache : List ℕ) (r : TaskOutcome)
+pub record TaskComes (goals root height : ℕ) (whole : task.TaskOutcome) (old new cache : List ℕ) (r : Ran)
     : Type 0 where
-  pub is : taskOutcomeOf goals root height (graphIn goals new) cache r ≡ whole
-  pub few : FewTaskEntries goals r
+  pub is : taskOutcomeOf goals root height (r .passes) (graphIn goals new) cache (r .outcome) ≡ whole
+  pub few : FewTaskEntries goals (r .outcome)
+  pub passes : r .passes < 256
   pub merged : (i : ℕ) → i < height → mergedOf goals i new ≡ mergedOf goals i old
 
 -- inside a pick the top frame's own merged usages are kept

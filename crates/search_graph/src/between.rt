@@ -3,7 +3,7 @@
 use definition::format::Header;
 use definition::paths::PathKind;
 use evaluation::Outcome;
-use evaluation::TaskOutcome;
+use evaluation::Ran;
 use layout::offsets;
 use lookup::Found;
 use task::Iteration;
@@ -86,7 +86,7 @@ pub fn end_iteration(
 }
 
 pub fn finish(
-    o: TaskOutcome,
+    ran: Ran,
     cache: &mut [u8],
     work: &mut [u8],
     h: Header,
@@ -95,10 +95,19 @@ pub fn finish(
     step: PathKind,
     available: usize,
 ) -> Outcome
-    requires { ⌜ Finishing h height goal o (now work) (now cache) ⌝ }
-    ensures { λ r. ⌜ Finished h height goal step available o (now (work .entry)) (now (work .exit))
+    requires { ⌜ Finishing h height goal ran (now work) (now cache) ⌝ }
+    ensures { λ r. ⌜ Finished h height goal step available ran (now (work .entry)) (now (work .exit))
         (now (cache .entry)) (now (cache .exit)) r ⌝ }
 {
     let n = offsets::graph_length(h.goals);
-    task::finish(o, cache, &mut work[0..n], h, height, goal, step, available)
+    task::finish(
+        ran,
+        cache,
+        &mut work[0..n],
+        h,
+        height,
+        goal,
+        step,
+        available,
+    )
 }

@@ -14,7 +14,7 @@ use delegate::group::Weighed;
 use delegate::pick;
 use delegate::pick::Tried;
 use evaluation::Outcome;
-use evaluation::TaskOutcome;
+use evaluation::Ran;
 use lookup::Found;
 use task::Iteration;
 ghost use mathlib.Core.Bool.{false};
@@ -53,7 +53,7 @@ pub fn evaluate(
             between::push(work, goals, height, goal, step, available);
             let p = part::of_goal(book, starts, goal);
             let left = between::one_less(h.limit);
-            let o = rerun(
+            let ran = rerun(
                 book,
                 starts,
                 p,
@@ -65,13 +65,14 @@ pub fn evaluate(
                 entries,
                 left,
             );
-            between::finish(o, cache, work, h, height, goal, step, available)
+            between::finish(ran, cache, work, h, height, goal, step, available)
         }
     }
 }
 
 // evaluate_goal_in_task: the iterations of the goal on top of the stack, of which `left`
-// more than the first are allowed. A loop, so that iterations take no stack.
+// more than the first are allowed, and how many there were. A loop, so that iterations take
+// no stack.
 fn rerun(
     book: &[u8],
     starts: &[u16],
@@ -83,7 +84,7 @@ fn rerun(
     height: usize,
     entries: usize,
     left: usize,
-) -> TaskOutcome
+) -> Ran
     requires { ⌜ Running (now book) (now starts) (now cache) (now work) h root height entries ⌝ }
     requires { ⌜ (1 ≤ height) × ((left < 99) × Reads (h .goals) false (now p)) ⌝ }
     ensures { λ r. ⌜ TaskComes (h .goals) root (height - 1)
@@ -98,7 +99,8 @@ fn rerun(
         let next = between::end_iteration(o, work, h.goals, height, more, overflow);
         match next {
             Iteration::End(t) => {
-                return t;
+                let passes = left - more + 1;
+                return Ran { outcome: t, passes };
             }
             Iteration::Again(met, n) => {
                 overflow = met;

@@ -8,6 +8,7 @@ use Prim.Native.Nat.{_*_, _+_, _-_, _<_, _≤_, pred, suc, zero, ℕ}
 use native.Mathlib.Omega.{arith}
 use lib.Dec.{T, leb, nleb→lt}
 use lib.ListN.{length, length-append, length-replicate}
+use Rattle.definition.specs.CacheForm.{mostPasses}
 use Rattle.definition.specs.Evaluate.{Evaluator, afterTask, computeGoal, evalPart, evaluateAtDepth, evaluateGoal, evaluateGoalWith, evaluateNewFrame, insertGlobalCache, insertInSlot, insertProvisionalCache, newEntry, newFrame}
 use Rattle.definition.specs.GlobalCache.{cacheInsert}
 use Rattle.definition.specs.Graph.{Done, Entry, EvaluationResult, Graph, Outcome, Stopped, unlessFound, withGlobalCache, withProvisionalCache, withStack}
@@ -22,8 +23,9 @@ use Rattle.definition.specs.declared.answers.Answer.the-variants.{No, Overflow,
 use Rattle.definition.specs.declared.format.Header.{Header}
 use Rattle.definition.specs.declared.paths.PathKind.{PathKind}
 use Rattle.definition.specs.declared.replies.Refusal.the-variants.{CacheConflict, ProvisionalCacheFull, Unreachable}
-use Rattle.soundness.specs.Always.{Apart, Distinct, Every, FrameInOrder, FramesInOrder, HasHead, Known, goalsOf}
+use Rattle.soundness.specs.Always.{Apart, Counted, Distinct, Every, FrameInOrder, FramesInOrder, HasHead, Known, goalsOf}
 use Rattle.soundness.specs.Sets.{holds}
+use Rattle.definition.proofs.Passes.{RanWithin, task-within}
 use Rattle.soundness.proofs.Logic.{clash, inside, nobody, of-false, outside}
 use Rattle.soundness.proofs.Support.{step}
 use Rattle.soundness.proofs.Calls.{Calls, steps-of}
@@ -40,6 +42,11 @@ use Rattle.soundness.proofs.Runs.{ComputesGoal, Finished, TaskAfter, ta
 use Rattle.soundness.proofs.Lookups.{Found, cycle-or, depth-ok, find-at, global-found, provisional-found}
 use Rattle.soundness.proofs.Slots.{Kept, insert-ok}
 use Rattle.soundness.proofs.Pigeons.{full-stack}
+
+-- a goal's part is run L times at most, and once at least
+pub runs-counted : (h : Header) (compute : Graph → Outcome) (g : Graph)
+    → RanWithin 1 (mostPasses h) (evaluateGoalInTask compute (pred (h .limit)) 1 false g)
+runs-counted h compute g = task-within 1 (mostPasses h) compute (pred (h .limit)) 1 false g (omega arith) (omega arith)
 
 every-append : (P : Entry → Type 0) (es : List Entry) (e : Entry) → Every P es → P e → Every P (es ++ (e ∷ []))
 every-append P [] e v p = (p, tt)
@@ -156,25 +163,27 @@ module _ (W : World) (xs : List Base) (bases : BasesOk W xs) (g₀ : Graph) (v :
     )
 
     -- there is a slot for the required depth
-    slotted : (t : Bool) → leb (r .requiredDepth) (h .top) ≡ t → headsEmpty (r .heads) ≡ true
+    slotted : Counted h (r .passes) → (t : Bool) → leb (r .requiredDepth) (h .top) ≡ t → headsEmpty (r .heads) ≡ true
         → Settled (elim t [ true ↦ insertInSlot h g′ goal r | false ↦ Stopped Unreachable ])
-    slotted true f e =
+    slotted c true f e =
         cached (cacheInsert h (g .globalCache) goal r)
-        (insert-ok W (g .globalCache) (w .inv .cache) goal inside r (w .nested) (omega (arith, w .required)) (outright e))
-    slotted false f e = absurd (omega (arith, w .required, nleb→lt (r .requiredDepth) (h .top) (of-false _ f)))
+        (insert-ok W (g .globalCache) (w .inv .cache) goal inside r (w .nested) (omega (arith, w .required)) c (outright e))
+    slotted c false f e = absurd (omega (arith, w .required, nleb→lt (r .requiredDepth) (h .top) (of-false _ f)))
 
-    kept : (on empty : Bool) → headsEmpty (r .heads) ≡ empty
+    kept : Counted h (r .passes) → (on empty : Bool) → headsEmpty (r .heads) ≡ empty
         → Settled (elim empty [
           | true ↦ insertGlobalCache h g′ goal r
           | false ↦ elim on [ true ↦ insertProvisionalCache h g′ goal step r | false ↦ Done g′ (r .result) ]
         ])
-    kept on true e = slotted (leb (r .requiredDepth) (h .top)) refl e
-    kept true false e = entered (leb (2 * h .goals) (length (g .provisionalCache))) refl e
-    kept false false e = (childReads (r .heads), record { gain = gain; inv = updated }, claimed)
+    kept c on true e = slotted c (leb (r .requiredDepth) (h .top)) refl e
+    kept c true false e = entered (leb (2 * h .goals) (length (g .provisionalCache))) refl e
+    kept c false false e = (childReads (r .heads), record { gain = gain; inv = updated }, claimed)
 
-  after-task : (t : TaskOutcome) → TaskAfter W xs (g₀ .stack) goal available t → Settled (afterTask h goal step available t)
-  after-task (Evaluated g r) w = kept g r w (h .provisional) (headsEmpty (r .heads)) refl
-  after-task (TaskStopped r) w = w
+  after-task : (t : TaskOutcome) → TaskAfter W xs (g₀ .stack) goal available t → RanWithin 1 (mostPasses h) t
+      → Settled (afterTask h goal step available t)
+  after-task (Evaluated g r) w c =
+      kept g r w (record { once = c .0; most = c .1 }) (h .provisional) (headsEmpty (r .heads)) refl
+  after-task (TaskStopped r) w c = w
 
   -- ---- the frame is pushed
   abbrev new : Frame
@@ -225,14 +234,15 @@ module _ (W : World) (xs : List Base) (bases : BasesOk W xs) (g₀ : Graph) (v :
 
   module _ (compute : ℕ → Graph → Outcome) (ok : ComputesGoal W xs compute) where
     pub frame-ok : Apart goal (goalsOf (g₀ .stack)) → (left : ℕ)
-        → TaskAfter W xs (g₀ .stack) goal available (evaluateGoalInTask (compute goal) left false (withStack g₀ (new ∷ g₀ .stack)))
+        → TaskAfter W xs (g₀ .stack) goal available (evaluateGoalInTask (compute goal) left 1 false (withStack g₀ (new ∷ g₀ .stack)))
     frame-ok apart left =
-        task-ok W xs (g₀ .stack) goal available (v .here) room (v .frames) compute ok left false (baseOf new) new (withStack g₀ (new ∷ g₀ .stack))
+        task-ok W xs (g₀ .stack) goal available (v .here) room (v .frames) compute ok left 1 false (baseOf new) new (withStack g₀ (new ∷ g₀ .stack))
         refl refl (new-bases apart) refl pushed
 
     new-ok : Apart goal (goalsOf (g₀ .stack)) → Settled (evaluateNewFrame h compute g₀ goal step available)
     new-ok apart =
-        after-task (evaluateGoalInTask (compute goal) (pred (h .limit)) false (withStack g₀ (new ∷ g₀ .stack))) (frame-ok apart (pred (h .limit)))
+        after-task (evaluateGoalInTask (compute goal) (pred (h .limit)) 1 false (withStack g₀ (new ∷ g₀ .stack)))
+        (frame-ok apart (pred (h .limit))) (runs-counted h (compute goal) (withStack g₀ (new ∷ g₀ .stack)))
 
     or-ok : (o : Option Outcome) (next : Outcome) → Found W xs g₀ v small goal o → Settled next → Settled (unlessFound o next)
     or-ok none next f k = k

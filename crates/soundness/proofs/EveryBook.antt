@@ -133,11 +133,11 @@ module _ (b : Book) (ok : BookOk b) where
       → length (g .stack) + suc off ≡ b .header .goals
       → goal < b .header .goals → available ≤ b .header .top → stackFind (g .stack) goal ≡ none
       → FinishesFrame (g .stack) available
-      (evaluateGoalInTask (computeGoal (evaluateGoal b off) b goal) left false (withStack g (newFrame (b .header .goals) goal step available (g .stack) ∷ g .stack)))
+      (evaluateGoalInTask (computeGoal (evaluateGoal b off) b goal) left 1 false (withStack g (newFrame (b .header .goals) goal step available (g .stack) ∷ g .stack)))
   unfolding any-book
   finishes-frame off left g goal step available v e l deep z =
       finished-frame (basesOf (g .stack)) (g .stack) goal available
-      (evaluateGoalInTask (computeGoal (evaluateGoal b off) b goal) left false
+      (evaluateGoalInTask (computeGoal (evaluateGoal b off) b goal) left 1 false
       (withStack g (newFrame (b .header .goals) goal step available (g .stack) ∷ g .stack)))
       (frame-ok W (basesOf (g .stack)) (bases-ok (g .stack) (v .distinct)) g (inv-of g v) (omega arith) goal l step available deep (anyone (basesOf (g .stack)) goal step)
       (computeGoal (evaluateGoal b off) b)

@@ -1,3 +1,4 @@
+pub mod Alike
 pub mod Answers
 pub mod Assumed
 pub mod Books
@@ -21,6 +22,7 @@ pub mod Meets
 pub mod Mixed
 pub mod Orders
 pub mod Parts
+pub mod Passes
 pub mod Pigeons
 pub mod Pop
 pub mod Queries
@@ -33,6 +35,7 @@ pub mod Sample
 pub mod SampleAlways
 pub mod SampleBooks
 pub mod SampleGroups
+pub mod SamplePasses
 pub mod SamplePop
 pub mod SampleSets
 pub mod SampleStatement
@@ -43,5 +46,6 @@ pub mod StepLines
 pub mod Support
 pub mod Theorems
 pub mod Traces
+pub mod Unread
 pub mod Update
 pub mod World

@@ -7,6 +7,7 @@ use Prim.Native.Nat.{_+_, _<_, _≤_, pred, suc, zero, ℕ}
 use native.Mathlib.Omega.{arith}
 use lib.ListN.{length}
 use Rattle.definition.specs.Answers.{sameAnswer}
+use Rattle.definition.specs.CacheForm.{mostPasses}
 use Rattle.definition.specs.Candidates.{enterSingleCandidate, finishSingleCandidate}
 use Rattle.definition.specs.Evaluate.{Evaluator, computeGoal, evalPart, evaluateGoal, evaluateGoalWith, newFrame}
 use Rattle.definition.specs.Graph.{Done, EvaluationResult, Graph, Outcome, Stopped, withStack}
@@ -20,8 +21,9 @@ use Rattle.definition.specs.declared.answers.Answer.the-variants.{No, Yes}
 use Rattle.definition.specs.declared.format.Header.{Header}
 use Rattle.definition.specs.declared.paths.PathKind.{PathKind}
 use Rattle.definition.specs.declared.replies.Refusal.the-variants.{Unreachable}
-use Rattle.soundness.specs.Always.{Apart, EventInOrder, InOrder, goalsOf}
+use Rattle.soundness.specs.Always.{Apart, Counted, EventInOrder, InOrder, goalsOf}
 use Rattle.soundness.specs.Trace.{Answers, InsertsEntry, InsertsInSlot, Trace, Tracer, after, met, traceAfterTask, traceAtDepth, traceCompute, traceGoal, traceGoalWith, traceNewFrame, tracePart, tracePick, traceTask, traceUntil, unlessMet}
+use Rattle.definition.proofs.Passes.{RanWithin}
 use Rattle.soundness.proofs.Traces.{only-append}
 use Rattle.soundness.proofs.Calls.{AllCalls, Calls}
 use Rattle.soundness.proofs.World.{World}
@@ -32,7 +34,7 @@ use Rattle.soundness.proofs.Candidates.{enter-change, finish-change}
 use Rattle.soundness.proofs.Parts.{Callable, Claims, EvalOk, RightAt, part-ok}
 use Rattle.soundness.proofs.Runs.{ComputesGoal, Ordered, TaskAfter, TracesGoal, task-meets}
 use Rattle.soundness.proofs.Lookups.{FindPost, depth-ok, find-at}
-use Rattle.soundness.proofs.Evaluate.{callable, compute-ok, evaluate-ok, frame-ok, new-bases, none-left, pushed, top-goal, updated, with-ok}
+use Rattle.soundness.proofs.Evaluate.{callable, compute-ok, evaluate-ok, frame-ok, new-bases, none-left, pushed, runs-counted, top-goal, updated, with-ok}
 
 -- what `traceGoal` promises
 abbrev pub TraceOk : World → List Base → Tracer → Type 0
@@ -102,7 +104,7 @@ compute-meets : (W : World) (xs : List Base) (evaluate : Evaluator)
     → (trace : Tracer) → ((x : Base) → BasesOk W (x ∷ xs) → TraceOk W (x ∷ xs) trace)
     → TracesGoal W xs (traceCompute evaluate trace (W .book))
 compute-meets W xs evaluate ok trace meets x s g v = (
-  (in-order W (x ∷ xs) s g v, top-goal (W .book .header) (g .stack) x xs (v .here) (v .frames)),
+  (in-order W (x ∷ xs) s g v, top-goal (W .book .header) (g .stack) x xs (v .here) (v .frames), tt),
   own-meets W (x ∷ xs) evaluate (ok x s) trace (meets x s) g v (partAt (W .book .parts) (x .goal)) (callable W x xs),
 )
 
@@ -115,22 +117,22 @@ module _ (W : World) (xs : List Base) (bases : BasesOk W xs) (g₀ : Graph) (v :
   abbrev h : Header
   h = W .book .header
 
-  inserts-meets : (g : Graph) (r : EvaluationResult) → InOrder h g → (on empty : Bool)
+  inserts-meets : (g : Graph) (r : EvaluationResult) → InOrder h g → Counted h (r .passes) → (on empty : Bool)
       → Ordered W (elim empty [
         | true ↦ met g (InsertsInSlot goal r)
         | false ↦ elim on [ true ↦ met g (InsertsEntry goal r) | false ↦ [] ]
       ])
-  inserts-meets g r w on true = ((w, inside), tt)
-  inserts-meets g r w true false = ((w, inside), tt)
-  inserts-meets g r w false false = tt
+  inserts-meets g r w c on true = ((w, inside, c), tt)
+  inserts-meets g r w c true false = ((w, inside, c), tt)
+  inserts-meets g r w c false false = tt
 
-  after-task-meets : (t : TaskOutcome) → TaskAfter W xs (g₀ .stack) goal available t
+  after-task-meets : (t : TaskOutcome) → TaskAfter W xs (g₀ .stack) goal available t → RanWithin 1 (mostPasses h) t
       → Ordered W (traceAfterTask h goal step available t)
-  after-task-meets (Evaluated g r) w =
+  after-task-meets (Evaluated g r) w c =
       inserts-meets _ r (in-order W xs bases _
       (updated W xs bases g₀ v small goal inside step available deep call g r w))
-      (h .provisional) (headsEmpty (r .heads))
-  after-task-meets (TaskStopped r) w = tt
+      (record { once = c .0; most = c .1 }) (h .provisional) (headsEmpty (r .heads))
+  after-task-meets (TaskStopped r) w c = tt
 
   module _ (compute : ℕ → Graph → Outcome) (ok : ComputesGoal W xs compute) (trace : ℕ → Graph → Trace)
       (meets : TracesGoal W xs trace) where
@@ -145,8 +147,9 @@ module _ (W : World) (xs : List Base) (bases : BasesOk W xs) (g₀ : Graph) (v :
         compute ok trace meets (pred (h .limit)) (baseOf new) new (withStack g₀ (new ∷ g₀ .stack))
         refl refl (new-bases W xs bases g₀ v small goal inside step available deep call apart) refl
         (pushed W xs bases g₀ v small goal inside step available deep call))
-        (after-task-meets (evaluateGoalInTask (compute goal) (pred (h .limit)) false (withStack g₀ (new ∷ g₀ .stack)))
-        (frame-ok W xs bases g₀ v small goal inside step available deep call compute ok apart (pred (h .limit))))
+        (after-task-meets (evaluateGoalInTask (compute goal) (pred (h .limit)) 1 false (withStack g₀ (new ∷ g₀ .stack)))
+        (frame-ok W xs bases g₀ v small goal inside step available deep call compute ok apart (pred (h .limit)))
+        (runs-counted h (compute goal) (withStack g₀ (new ∷ g₀ .stack))))
 
     cycle-meets : (o : Option OnStack) → FindPost goal (g₀ .stack) o
         → Ordered W (unlessMet (elim o [ none ↦ none | some head ↦ some (closeCycle h g₀ goal step available head) ])
@@ -181,12 +184,12 @@ module _ (W : World) (xs : List Base) (bases : BasesOk W xs) (small : length xs 
 
   with-meets : TraceOk W xs (traceGoalWith (W .book .header) compute trace)
   with-meets g goal step lower v l call = (
-    (in-order W xs bases g v, l),
+    (in-order W xs bases g v, l, tt),
     from-depth-meets g v goal l step lower call
         (after (evaluateGoalWith (W .book .header) compute g goal step lower) λ g1 a. met g1 (Answers goal))
         (after-meets W xs (Claims W xs goal) g (evaluateGoalWith (W .book .header) compute g goal step lower)
         (λ g1 a. met g1 (Answers goal))
-        (with-ok W xs bases small compute ok g goal step lower v l call) λ g1 a w. ((in-order W xs bases g1 w, l), tt))
+        (with-ok W xs bases small compute ok g goal step lower v l call) λ g1 a w. ((in-order W xs bases g1 w, l, tt), tt))
         (allowedDepthForNested (W .book .header) (g .rootDepth) (g .stack) lower) refl,
   )
 

@@ -9,8 +9,8 @@ use native.Mathlib.Numerals.{add-one}
 use native.Mathlib.Omega.{arith}
 use lib.Dec.{T, eqb, eqb→eq, leb, leb→le, ltb→lt}
 use lib.ListN.{getD, length, replicate, set}
-use Rattle.definition.specs.CacheForm.{allAtMost, cacheFits, cacheLength, depthFits, goalsFit, slotFits, slotsFit}
-use Rattle.definition.specs.GlobalCache.{slotAt, slotDepth, slotHeld, slotNested, slotResult, slotsPerGoal}
+use Rattle.definition.specs.CacheForm.{allAtMost, cacheFits, cacheLength, depthFits, goalsFit, mostPasses, passesFit, slotFits, slotsFit}
+use Rattle.definition.specs.GlobalCache.{slotAt, slotDepth, slotHeld, slotNested, slotPasses, slotResult, slotsPerGoal}
 use Rattle.definition.specs.Graph.{Done, Graph, Outcome, Stopped}
 use Rattle.definition.specs.Part.{Book}
 use Rattle.definition.specs.Query.{Check, Reply, checks, evaluateRoot, firstFailed, newGraph, query, queryBook, replyOf, untouched, zeros}
@@ -20,7 +20,7 @@ use Rattle.definition.specs.declared.format.Header.{Header}
 use Rattle.definition.specs.declared.paths.PathKind.the-variants.{Inductive}
 use Rattle.definition.specs.declared.replies.Refusal.{Refusal}
 use Rattle.definition.specs.declared.replies.Response.the-variants.{Refused}
-use Rattle.soundness.specs.Always.{CacheInOrder}
+use Rattle.soundness.specs.Always.{CacheInOrder, Counted}
 use Rattle.soundness.specs.Sets.{Goals}
 use Rattle.soundness.specs.Statement.{AllRight, Query, RightReply, replyTo}
 use Rattle.definition.proofs.Tests.{and-left, and-right}
@@ -41,34 +41,46 @@ zero-byte zero q = refl
 zero-byte (suc n) zero = refl
 zero-byte (suc n) (suc q) = zero-byte n q
 
+pub vacant-slot : (h : Header) (n goal slot : ℕ) → T (slotHeld (slotAt h (replicate n 0) goal slot)) → ⊥
+vacant-slot h n goal slot t =
+    subst (λ (x : ℕ). T (eqb x 1)) (slot-byte h (replicate n 0) goal slot 0 (omega arith) ∙ zero-byte n _) t
+
 pub zeros-sound : (W : World) (n : ℕ) → Sound W (replicate n 0)
-zeros-sound W n = record { fits = λ e goal slot l m t. absurd (vacant goal slot t) }
-  where
-    vacant : (goal slot : ℕ) → T (slotHeld (slotAt (W .book .header) (replicate n 0) goal slot)) → ⊥
-    vacant goal slot t = subst (λ (x : ℕ). T (eqb x 1)) (slot-byte (W .book .header) (replicate n 0) goal slot 0 (omega arith) ∙ zero-byte n _) t
+zeros-sound W n = record { fits = λ e goal slot l m t. absurd (vacant-slot (W .book .header) n goal slot t) }
 
 -- ---- a query that is not refused
 pub record Passed (h : Header) (cache : List ℕ) (goal depth : ℕ) : Type 0 where
   pub inside : goal < h .goals
   pub shallow : depth ≤ h .top
+  pub form : T (cacheFits h cache)
   pub order : CacheInOrder h cache
 
 vacant : (s : List ℕ) → T (allAtMost 0 s) → T (slotHeld s) → ⊥
 vacant [] v u = u
 vacant (x ∷ xs) v u = omega (arith, leb→le x 0 (and-left (leb x 0) (allAtMost 0 xs) v), eqb→eq x 1 u)
 
--- the form of a slot says that its result is an answer
-answer-fits : (h : Header) (k : ℕ) (s : List ℕ) → T (slotFits h k s) → T (slotHeld s) → getD s 1 0 ≤ 3
-answer-fits h k s t u =
-    or-cases (allAtMost 0 s)
-    (eqb (getD s 0 0) 1 && leb (getD s 1 0) 3 && depthFits h k (slotDepth s) && allAtMost 31 (slotNested s))
-    (λ v. absurd (vacant s v u)) (λ v. leb→le (getD s 1 0) 3 (search (and-left, and-right))) t
+-- what the form says of a held slot
+held-fits : (h : Header) (k : ℕ) (s : List ℕ) → T (slotFits h k s) → T (slotHeld s)
+    → T (eqb (getD s 0 0) 1 && leb (getD s 1 0) 3 && depthFits h k (slotDepth s) && passesFit h (slotPasses s)
+    && allAtMost 31 (slotNested s))
+held-fits h k s t u = or-cases (allAtMost 0 s) _ (λ v. absurd (vacant s v u)) (λ v. v) t
 
--- and its depth
+-- its result is an answer
+answer-fits : (h : Header) (k : ℕ) (s : List ℕ) → T (slotFits h k s) → T (slotHeld s) → getD s 1 0 ≤ 3
+answer-fits h k s t u = let v = held-fits h k s t u in leb→le (getD s 1 0) 3 (search (and-left, and-right))
+
+-- its depth fits
 pub depth-fits : (h : Header) (k : ℕ) (s : List ℕ) → T (slotFits h (suc k) s) → T (slotHeld s) → slotDepth s ≡ k
-depth-fits h k s t u =
-    or-cases (allAtMost 0 s) (eqb (getD s 0 0) 1 && leb (getD s 1 0) 3 && depthFits h (suc k) (slotDepth s) && allAtMost 31 (slotNested s))
-    (λ v. absurd (vacant s v u)) (λ v. eqb→eq (slotDepth s) k (search (and-left, and-right))) t
+depth-fits h k s t u = let v = held-fits h (suc k) s t u in eqb→eq (slotDepth s) k (search (and-left, and-right))
+
+-- and so does how often its part was run
+passes-fit : (h : Header) (k : ℕ) (s : List ℕ) → T (slotFits h k s) → T (slotHeld s) → Counted h (slotPasses s)
+passes-fit h k s t u =
+    let v = held-fits h k s t u in
+    record {
+      once = leb→le 1 (slotPasses s) (search (and-left, and-right));
+      most = leb→le (slotPasses s) (mostPasses h) (search (and-left, and-right));
+    }
 
 slots-fit : (h : Header) (cache : List ℕ) (goal m k : ℕ) → T (slotsFit h cache goal m) → k < m → T (slotFits h k (slotAt h cache goal k))
 slots-fit h cache goal zero k t l = absurd (omega arith)
@@ -89,17 +101,23 @@ goals-slots h cache (suc n) goal t l =
     go (yes e) ih = rw e (and-left (slotsFit h cache n (slotsPerGoal h)) (goalsFit h cache n) t)
     go (no d) ih = ih (omega arith)
 
+-- every slot of a cache in form is
+pub fits-at : (h : Header) (cache : List ℕ) → T (cacheFits h cache) → (goal slot : ℕ) → goal < h .goals
+    → slot < slotsPerGoal h → T (slotFits h slot (slotAt h cache goal slot))
+fits-at h cache t goal slot l m =
+    slots-fit h cache goal (slotsPerGoal h) slot (goals-slots h cache (h .goals) goal t l) m
+
 cache-order : (h : Header) (cache : List ℕ) → length cache ≡ cacheLength h → T (cacheFits h cache) → CacheInOrder h cache
 cache-order h cache e t =
     record {
       size = e;
       answers = λ goal slot l m u.
-          answer-fits h slot (slotAt h cache goal slot)
-          (slots-fit h cache goal (slotsPerGoal h) slot (goals-slots h cache (h .goals) goal t l) m) u;
+          answer-fits h slot (slotAt h cache goal slot) (fits-at h cache t goal slot l m) u;
       depths = λ goal k l m u.
           subst (λ (s : ℕ). T (slotHeld (slotAt h cache goal s)) → slotDepth (slotAt h cache goal s) ≡ k) (sym (add-one k))
-          (depth-fits h k (slotAt h cache goal (suc k))
-          (slots-fit h cache goal (slotsPerGoal h) (suc k) (goals-slots h cache (h .goals) goal t l) (omega arith))) u;
+          (depth-fits h k (slotAt h cache goal (suc k)) (fits-at h cache t goal (suc k) l (omega arith))) u;
+      passes = λ goal slot l m u.
+          passes-fit h slot (slotAt h cache goal slot) (fits-at h cache t goal slot l m) u;
     }
 
 abbrev AllPassed : List Check → Type 0
@@ -121,6 +139,7 @@ passed b cache work goal depth e =
     record {
       inside = ltb→lt goal (b .header .goals) (v .0);
       shallow = leb→le depth (b .header .top) (v .1 .0);
+      form = v .1 .1 .1 .0;
       order = cache-order (b .header) cache (eqb→eq (length cache) (cacheLength (b .header)) (v .1 .1 .0)) (v .1 .1 .1 .0);
     }
 

@@ -90,7 +90,7 @@ module _ (W : World) (xs : List Base) (fs : Stack) (goal available : ℕ) (here 
     right : RightGoal W (x ∷ xs) (x .goal) reads a
 
   -- f ends for the reason w with the answer r, of which c is the claim
-  module _ (x : Base) (f : Frame) (g : Graph) (a : Answer) (v : Ran x f g a) (o : Bool) (end : Ending) (r : Answer)
+  module _ (x : Base) (f : Frame) (g : Graph) (a : Answer) (v : Ran x f g a) (o : Bool) (pass : ℕ) (end : Ending) (r : Answer)
       (w : Why (x .provisional) (f .usages) r end) (c : T (W .claim r (A W xs (readsOf (f .heads))) (x .goal))) where
     abbrev remains : Graph
     remains = tidyUp end (withStack g fs) f
@@ -108,7 +108,7 @@ module _ (W : World) (xs : List Base) (fs : Stack) (goal available : ℕ) (here 
         tidied-ok W x xs f fs len end (λ z. not-known W x xs f fs len (why-not w .1 z)) small keeps-right _ (λ i k. k)
         (λ z. absurd (why-not w .0 z)) g (v .entries)
 
-    finish : Finished W xs fs goal available remains (finalize f o r)
+    finish : Finished W xs fs goal available remains (finalize f o r pass)
     finish =
         rw (tidies-entries end (withStack g fs) f)
         (record {
@@ -173,9 +173,9 @@ module _ (W : World) (xs : List Base) (fs : Stack) (goal available : ℕ) (here 
       (o : Bool) (x : Base) (f : Frame) (g : Graph) (a : Answer) → Ran x f g a → endingOf left f a ≡ ending.Rerun
       → Task (next o (rerunFrom g f a))
 
-  module _ (left : ℕ) (next : Bool → Graph → TaskOutcome) (ok : NextOk left next) where
+  module _ (left pass : ℕ) (next : Bool → Graph → TaskOutcome) (ok : NextOk left next) where
     ended : {p : Option Answer} {u : Option HeadUsages} {a : Answer} {end : Ending} → Why p u a end
-        → (o : Bool) (f : Frame) (g : Graph) → afterPop next o f a end g ≡ Evaluated g (finalize f o a)
+        → (o : Bool) (f : Frame) (g : Graph) → afterPop next pass o f a end g ≡ Evaluated g (finalize f o a pass)
     ended (no-head e) o f g = refl
     ended (later e) o f g = refl
     ended (first e s) o f g = refl
@@ -184,20 +184,20 @@ module _ (W : World) (xs : List Base) (fs : Stack) (goal available : ℕ) (here 
 
     turn-ok : (x : Base) (f : Frame) (g : Graph) (a : Answer) (o : Bool) → Ran x f g a → {end : Ending}
         → endingOf left f a ≡ end → Turn (x .provisional) (f .usages) a end
-        → Task (afterPop next o f a end (tidyUp end (withStack g fs) f))
+        → Task (afterPop next pass o f a end (tidyUp end (withStack g fs) f))
     turn-ok x f g a o v {end} e (ends w) =
         rw (ended w o f (tidyUp end (withStack g fs) f))
-        (finish x f g a v o end a w
+        (finish x f g a v o pass end a w
         (settled W x xs (v .reads) (readsOf (f .heads)) (f .usages) a (v .under) (v .top)
         (under-above W x xs (v .bases) (readsOf (f .heads))) (v .right) w))
     turn-ok x f g a o v e limit =
-        finish x f g a v o (ending.Ambiguity Overflow) Overflow (mixed tt)
+        finish x f g a v o pass (ending.Ambiguity Overflow) Overflow (mixed tt)
         (W .ambiguous Overflow tt (A W xs (readsOf (f .heads))) (x .goal))
     turn-ok x f g a o v e again = ok o x f g a v e
 
     run-ok : (x : Base) (f₀ : Frame) (g₀ : Graph) (o : Bool) → x .goal ≡ goal → x .depth ≡ available
         → BasesOk W (x ∷ xs) → g₀ .stack ≡ f₀ ∷ fs
-        → (out : Outcome) → After W (x ∷ xs) g₀ (RightGoal W (x ∷ xs) (x .goal)) out → Task (iteration left next o out)
+        → (out : Outcome) → After W (x ∷ xs) g₀ (RightGoal W (x ∷ xs) (x .goal)) out → Task (iteration left pass next o out)
     run-ok x f₀ g₀ o i j v st (Done g a) (d, s, r) =
         let (f, e, w) = ran x f₀ g₀ g a d i j v st s r in
         let z : f .provisionalResult ≡ x .provisional = ap (λ (y : Base). y .provisional) (w .same) in
@@ -250,15 +250,15 @@ module _ (W : World) (xs : List Base) (fs : Stack) (goal available : ℕ) (here 
       }
 
   pub task-ok : (compute : ℕ → Graph → Outcome) → ComputesGoal W xs compute
-      → (left : ℕ) (o : Bool) (x : Base) (f : Frame) (g : Graph)
+      → (left pass : ℕ) (o : Bool) (x : Base) (f : Frame) (g : Graph)
       → x .goal ≡ goal → x .depth ≡ available → BasesOk W (x ∷ xs) → g .stack ≡ f ∷ fs
-      → State W (x ∷ xs) g → Task (evaluateGoalInTask (compute goal) left o g)
-  task-ok compute ok zero o x f g i j v st inv =
-      run-ok zero _ (λ o′ x′ f′ g′ a w z. absurd (omega (arith, rerun-left zero f′ a z)))
+      → State W (x ∷ xs) g → Task (evaluateGoalInTask (compute goal) left pass o g)
+  task-ok compute ok zero pass o x f g i j v st inv =
+      run-ok zero pass _ (λ o′ x′ f′ g′ a w z. absurd (omega (arith, rerun-left zero f′ a z)))
       x f g o i j v st (compute goal g) (rw (← i) (ok x v g inv))
-  task-ok compute ok (suc left) o x f g i j v st inv =
-      run-ok (suc left) (evaluateGoalInTask (compute goal) left)
-      (λ o′ x′ f′ g′ a w z. task-ok compute ok left o′ (rerun-base x′ a) (rerunFrame f′ a) (rerunFrom g′ f′ a)
+  task-ok compute ok (suc left) pass o x f g i j v st inv =
+      run-ok (suc left) pass (evaluateGoalInTask (compute goal) left (suc pass))
+      (λ o′ x′ f′ g′ a w z. task-ok compute ok left (suc pass) o′ (rerun-base x′ a) (rerunFrame f′ a) (rerunFrom g′ f′ a)
       (w .isGoal) (w .isDepth) (rerun-bases x′ f′ g′ a w) refl (rerun-inv x′ f′ g′ a w))
       x f g o i j v st (compute goal g) (rw (← i) (ok x v g inv))
 

@@ -19,15 +19,15 @@ use Rattle.soundness.proofs.Reading.{any-read}
 use Rattle.soundness.proofs.Choices.{test-mixed}
 use Rattle.soundness.proofs.Theorems.{demand-3, mixed-books, mixed-groups}
 
-inductive-right : AllRight (least (book Inductive)) (bytes 0) (replicate 28 0) queries
+inductive-right : AllRight (least (book Inductive)) (bytes 0) (replicate 35 0) queries
 inductive-right =
     demand-3 .no-coinductive-step (bytes 0) (book Inductive) (lines 0) refl refl
-    (λ e h. omega arith, (λ e h. omega arith, (λ e h. omega arith, tt))) 28 queries
+    (λ e h. omega arith, (λ e h. omega arith, (λ e h. omega arith, tt))) 35 queries
 
-coinductive-right : AllRight (greatest (book Coinductive)) (bytes 2) (replicate 28 0) queries
+coinductive-right : AllRight (greatest (book Coinductive)) (bytes 2) (replicate 35 0) queries
 coinductive-right =
     demand-3 .no-inductive-step (bytes 2) (book Coinductive) (lines 2) refl refl
-    (λ e h. omega arith, (λ e h. omega arith, (λ e h. omega arith, tt))) 28 queries
+    (λ e h. omega arith, (λ e h. omega arith, (λ e h. omega arith, tt))) 35 queries
 
 -- the first is answered No, so the goal is outside the least set; the second Yes, so it is in the greatest
 pub outside-least : (reading : Bool) → T (not (least (book Inductive) reading 0))
@@ -53,11 +53,11 @@ condition = test-mixed mixedBook (any-read mixedBytes mixedBook mixed-read) tt
 pub fit : GroupsFit mixedBook
 fit = mixed-groups mixedBytes mixedBook mixed-read
 
-mixed-right : AllRight (grouped mixedBook (fit .choice condition .0) (fit .order .0)) mixedBytes (replicate 70 0)
+mixed-right : AllRight (grouped mixedBook (fit .choice condition .0) (fit .order .0)) mixedBytes (replicate 84 0)
     mixedQueries
 mixed-right =
     mixed-books mixedBytes mixedBook mixed-read (fit .choice condition .0) (fit .choice condition .1) (fit .order .0)
-    (fit .order .1) 70 mixedQueries
+    (fit .order .1) 84 mixedQueries
 
 -- the first is answered Yes and the second No, so goal 1 is in the set and goal 0 is not
 pub mixed-in : (reading : Bool) → T (grouped mixedBook (fit .choice condition .0) (fit .order .0) reading 1)
@@ -71,7 +71,7 @@ mixed-out = mixed-right .1 .0 .whenNo refl
 -- ---- the condition is needed: a goal that calls itself by a step of either kind is answered Yes, and the least set
 -- does not have it
 pub not-torn : (readBook tornBytes ≡ Accepted tornBook)
-    × (query tornBytes (replicate 28 0) workspace 0 1 .response ≡ Answered Yes)
+    × (query tornBytes (replicate 35 0) workspace 0 1 .response ≡ Answered Yes)
     × T (not (least tornBook true 0))
 unfolding counterLimit
 not-torn = (refl, refl, tt)

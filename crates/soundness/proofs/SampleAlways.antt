@@ -7,7 +7,7 @@ use mathlib.Core.Path.{_≡_, ap, refl, subst, sym}
 use Prim.Native.Nat.{_+_, _<_, _≤_, suc, zero, ℕ}
 use native.Mathlib.Omega.{arith}
 use lib.Dec.{T}
-use lib.ListN.{getD, length, replicate}
+use lib.ListN.{length, replicate}
 use Rattle.definition.specs.Answers.{refusalNumber}
 use Rattle.definition.specs.CacheForm.{cacheLength}
 use Rattle.definition.specs.Evaluate.{computeGoal, evaluateGoal, newFrame}
@@ -85,7 +85,7 @@ graph depth stack entries cache =
     record { rootDepth = depth; stack = stack; provisionalCache = entries; globalCache = cache }
 
 abbrev vacant : List ℕ
-vacant = replicate 20 0
+vacant = replicate 24 0
 
 -- an entry of goal 1 that rests on goal 0
 abbrev state : Graph
@@ -187,17 +187,27 @@ short-cache c = omega (arith, c .size)
 
 -- one goal, T 5: the overflow slot of depth 2 says depth 4
 abbrev wrongDepth : List ℕ
-wrongDepth = replicate 12 0 ++ (1 ∷ 3 ∷ 4 ∷ 0 ∷ replicate 12 0)
+wrongDepth = replicate 15 0 ++ (1 ∷ 3 ∷ 4 ∷ 1 ∷ 0 ∷ replicate 15 0)
 
 wrong-depth : CacheInOrder (header 1 5) wrongDepth → ⊥
 wrong-depth c = omega (arith, c .depths 0 2 (omega arith) (omega arith) tt)
 
 -- its success slot says 4, which is no answer
 abbrev noAnswer : List ℕ
-noAnswer = 1 ∷ 4 ∷ 0 ∷ 0 ∷ replicate 24 0
+noAnswer = 1 ∷ 4 ∷ 0 ∷ 1 ∷ 0 ∷ replicate 30 0
 
 no-answer : CacheInOrder (header 1 5) noAnswer → ⊥
 no-answer c = omega (arith, c .answers 0 0 (omega arith) (omega arith) tt)
+
+-- its part was run 0 times, or twice, where L is 1
+abbrev ran : ℕ → List ℕ
+ran passes = 1 ∷ 1 ∷ 0 ∷ passes ∷ 0 ∷ replicate 30 0
+
+never-run : CacheInOrder (header 1 5) (ran 0) → ⊥
+never-run c = omega (arith, c .passes 0 0 (omega arith) (omega arith) tt .once)
+
+run-too-often : CacheInOrder (header 1 5) (ran 2) → ⊥
+run-too-often c = omega (arith, c .passes 0 0 (omega arith) (omega arith) tt .most)
 
 vacant-slots : (goal k : ℕ) → goal < 2 → k ≤ 0
     → T (slotHeld (slotAt (header 2 0) vacant goal (overflowSlot k)))
@@ -208,19 +218,24 @@ vacant-slots (suc zero) zero l m t = absurd t
 vacant-slots (suc zero) (suc k) l m t = absurd (omega (arith, m))
 vacant-slots (suc (suc goal)) k l m t = absurd (omega (arith, l))
 
-vacant-answers : (goal slot : ℕ) → goal < 2 → slot < slotsPerGoal (header 2 0)
-    → T (slotHeld (slotAt (header 2 0) vacant goal slot))
-    → getD (slotAt (header 2 0) vacant goal slot) 1 0 ≤ 3
-vacant-answers zero zero l m t = absurd t
-vacant-answers zero (suc zero) l m t = absurd t
-vacant-answers zero (suc (suc slot)) l m t = absurd (omega (arith, m))
-vacant-answers (suc zero) zero l m t = absurd t
-vacant-answers (suc zero) (suc zero) l m t = absurd t
-vacant-answers (suc zero) (suc (suc slot)) l m t = absurd (omega (arith, m))
-vacant-answers (suc (suc goal)) slot l m t = absurd (omega (arith, l))
+none-held : (goal slot : ℕ) → goal < 2 → slot < slotsPerGoal (header 2 0)
+    → T (slotHeld (slotAt (header 2 0) vacant goal slot)) → ⊥
+none-held zero zero l m t = t
+none-held zero (suc zero) l m t = t
+none-held zero (suc (suc slot)) l m t = omega (arith, m)
+none-held (suc zero) zero l m t = t
+none-held (suc zero) (suc zero) l m t = t
+none-held (suc zero) (suc (suc slot)) l m t = omega (arith, m)
+none-held (suc (suc goal)) slot l m t = omega (arith, l)
 
 vacant-in-order : CacheInOrder (header 2 0) vacant
-vacant-in-order = record { size = refl; answers = vacant-answers; depths = vacant-slots }
+vacant-in-order =
+    record {
+      size = refl;
+      answers = λ goal slot l m t. absurd (none-held goal slot l m t);
+      depths = vacant-slots;
+      passes = λ goal slot l m t. absurd (none-held goal slot l m t);
+    }
 
 -- ---- a state in order
 root-too-deep : InOrder (header 2 0) (graph 1 [] [] vacant) → ⊥
@@ -305,7 +320,7 @@ stopped-unreachable = not-expected
 -- the frame of goal 1 is finished and popped
 abbrev finished : CycleHeads → ℕ → EvaluationResult
 finished heads required =
-    record { encounteredOverflow = false; requiredDepth = required; heads = heads; nestedGoals = 0 ∷ 0 ∷ []; result = No }
+    record { encounteredOverflow = false; requiredDepth = required; heads = heads; nestedGoals = 0 ∷ 0 ∷ []; result = No; passes = 1 }
 
 abbrev after : CycleHeads → Graph
 after heads = graph 0 (bottom ∷ []) (entry heads ∷ []) vacant
@@ -348,7 +363,7 @@ ends-unreachable : Ends (Stopped Unreachable) → ⊥
 ends-unreachable = not-expected
 
 -- ---- the claims, in plain words
-passes : Passes (book Inductive) (replicate 28 0) workspace 0 5
+passes : Passes (book Inductive) (replicate 35 0) workspace 0 5
 passes = refl
 
 module _ (b : Book) (always : Always b) where
@@ -374,7 +389,7 @@ module _ (b : Book) (always : Always b) where
     -- the outcome of the goal's own frame
     abbrev task : ℕ → ℕ → TaskOutcome
     task left available =
-        evaluateGoalInTask (computeGoal (evaluateGoal b off) b goal) left false
+        evaluateGoalInTask (computeGoal (evaluateGoal b off) b goal) left 1 false
         (withStack g (newFrame (b .header .goals) goal step available (g .stack) ∷ g .stack))
 
     popped-again : length (g .stack) + suc off ≡ b .header .goals → (left available : ℕ) → available ≤ b .header .top

@@ -227,11 +227,11 @@ module _ (right : RightByGroups) (choice : ℕ → Choice) (c : Chosen mixedBook
     (o : CallsFirst mixedBook noGoals order) where
   yes-of-the-set : (reading : Bool) → T (grouped mixedBook choice order reading 1)
   unfolding counterLimit
-  yes-of-the-set = right mixedBytes mixedBook refl choice c order o 70 mixedQueries .0 .whenYes refl
+  yes-of-the-set = right mixedBytes mixedBook refl choice c order o 84 mixedQueries .0 .whenYes refl
 
   no-of-the-set : (reading : Bool) → T (not (grouped mixedBook choice order reading 0))
   unfolding counterLimit
-  no-of-the-set = right mixedBytes mixedBook refl choice c order o 70 mixedQueries .1 .0 .whenNo refl
+  no-of-the-set = right mixedBytes mixedBook refl choice c order o 84 mixedQueries .1 .0 .whenNo refl
 
 module _ (b : Book) (fit : GroupsFit b) where
   reaching-is : (from goal : ℕ) → (T (reaches b from goal) → Way b goal from)

@@ -65,7 +65,7 @@ nothing-said set goal r = (unclaimed set goal _ tt tt, unclaimed set goal _ tt t
 -- the success slot of goal 0 says No at depth 5, where an empty all is Yes: at depth 1 the two conflict, and the cache is
 -- cleared
 abbrev conflicting : List ℕ
-conflicting = 1 ∷ 0 ∷ 5 ∷ replicate 25 0
+conflicting = 1 ∷ 0 ∷ 5 ∷ 1 ∷ replicate 31 0
 
 abbrev afterConflict : List Query
 afterConflict = atDepth 1 ∷ atDepth 5 ∷ []
@@ -108,7 +108,7 @@ called-by-inductive : (set : Book → Bool → Goals) → RightWithout Coinducti
     → (reading : Bool) → T (not (set (book Inductive) reading 0))
 unfolding counterLimit
 called-by-inductive set right =
-    right (bytes 0) (book Inductive) (lines 0) refl refl no-step 28 queries .1 .1 .0 .whenNo refl
+    right (bytes 0) (book Inductive) (lines 0) refl refl no-step 35 queries .1 .1 .0 .whenNo refl
   where
     no-step : NoStep Coinductive (lines 0)
     no-step = (λ e h. omega arith, (λ e h. omega arith, (λ e h. omega arith, tt)))
@@ -117,7 +117,7 @@ called-by-coinductive : (set : Book → Bool → Goals) → RightWithout Inducti
     → (reading : Bool) → T (set (book Coinductive) reading 0)
 unfolding counterLimit
 called-by-coinductive set right =
-    right (bytes 2) (book Coinductive) (lines 2) refl refl no-step 28 queries .1 .1 .0 .whenYes refl
+    right (bytes 2) (book Coinductive) (lines 2) refl refl no-step 35 queries .1 .1 .0 .whenYes refl
   where
     no-step : NoStep Inductive (lines 2)
     no-step = (λ e h. omega arith, (λ e h. omega arith, (λ e h. omega arith, tt)))

@@ -96,7 +96,7 @@ eightCalls =
           ∷ [];
     }
 
-full-met : EndsWith (Full (header 3 2 1)) (traceRoot eightCalls (replicate 72 0) 0 2)
+full-met : EndsWith (Full (header 3 2 1)) (traceRoot eightCalls (replicate 84 0) 0 2)
 unfolding counterLimit
 full-met = (1, _, refl, refl)
 
@@ -104,36 +104,47 @@ full-met = (1, _, refl, refl)
 abbrev emptyAny : Book
 emptyAny = record { header = header 1 5 1; parts = Node Any End ∷ [] }
 
-conflict-met : EndsWith (Conflict (header 1 5 1)) (traceRoot emptyAny (1 ∷ 1 ∷ 5 ∷ 0 ∷ replicate 24 0) 0 3)
+conflict-met : EndsWith (Conflict (header 1 5 1)) (traceRoot emptyAny (1 ∷ 1 ∷ 5 ∷ 1 ∷ 0 ∷ replicate 30 0) 0 3)
 unfolding counterLimit
 conflict-met = (0, _, refl, (tt, λ e. omega (arith, ap answerNumber e)))
 
 -- ---- what is no condition
+abbrev ran : ℕ → EvaluationResult
+ran passes =
+    record { encounteredOverflow = false; requiredDepth = 0; heads = []; nestedGoals = 0 ∷ []; result = Yes; passes = passes }
+
 abbrev result : EvaluationResult
-result = record { encounteredOverflow = false; requiredDepth = 0; heads = []; nestedGoals = 0 ∷ []; result = Yes }
+result = ran 1
 
 abbrev event : List ℕ → Act → Event
 event cache act =
     record { state = record { rootDepth = 0; stack = []; provisionalCache = []; globalCache = cache }; act = act }
 
 -- no entry is live
-not-full : Full (header 1 0 1) (event (replicate 8 0) (InsertsEntry 0 result)) → ⊥
+not-full : Full (header 1 0 1) (event (replicate 10 0) (InsertsEntry 0 result)) → ⊥
 not-full (goal, r, z, l) = omega arith
 
 -- the slot holds the same result; it holds none
-same-result : HoldsOther (1 ∷ 1 ∷ 0 ∷ 0 ∷ []) Yes → ⊥
+same-result : HoldsOther (1 ∷ 1 ∷ 0 ∷ 1 ∷ 0 ∷ []) Yes → ⊥
 same-result h = h .1 refl
 
-no-result : HoldsOther (0 ∷ 0 ∷ 0 ∷ 0 ∷ []) Yes → ⊥
+no-result : HoldsOther (0 ∷ 0 ∷ 0 ∷ 0 ∷ 0 ∷ []) Yes → ⊥
 no-result h = h .0
 
 -- only an insertion is refused so
-not-inserted : (act : Act) → (goal : ℕ) → act ≡ Evaluates goal → Conflict (header 1 0 1) (event (1 ∷ 0 ∷ 0 ∷ 0 ∷ []) act) → ⊥
+not-inserted : (act : Act) → (goal : ℕ) → act ≡ Evaluates goal → Conflict (header 1 0 1) (event (1 ∷ 0 ∷ 0 ∷ 1 ∷ 0 ∷ []) act) → ⊥
 not-inserted act goal e (g, r, z, h) = let x : _≡_ {A = ℕ} 0 1 = cc in omega arith
 
 -- ---- every event, and the last
-goal-beyond : EventInOrder (header 1 0 1) (event (replicate 8 0) (Computes 1)) → ⊥
+goal-beyond : EventInOrder (header 1 0 1) (event (replicate 10 0) (Computes 1)) → ⊥
 goal-beyond o = omega (arith, o .1)
+
+-- L is 1: an insertion says one pass, and neither none nor two
+slot-never-run : EventInOrder (header 1 0 1) (event (replicate 10 0) (InsertsInSlot 0 (ran 0))) → ⊥
+slot-never-run o = omega (arith, o .2 .once)
+
+entry-run-twice : EventInOrder (header 1 0 1) (event (replicate 10 0) (InsertsEntry 0 (ran 2))) → ⊥
+entry-run-twice o = omega (arith, o .2 .most)
 
 every-event : MeetsOnly (λ e. goalOf (e .act) ≡ 0) (event [] (Computes 0) ∷ event [] (Computes 1) ∷ []) → ⊥
 every-event m = omega (arith, m .1 .0)
@@ -153,9 +164,9 @@ conflict-without-events r = r .conflict refl
 
 -- the state that was met last has another cache than the one that is left
 abbrev left : Graph
-left = event (1 ∷ replicate 7 0) (Answers 0) .state
+left = event (1 ∷ replicate 9 0) (Answers 0) .state
 
-leaves-another : Run (header 1 0 1) (event (replicate 8 0) (Answers 0) ∷ []) (Done left Yes) → ⊥
+leaves-another : Run (header 1 0 1) (event (replicate 10 0) (Answers 0) ∷ []) (Done left Yes) → ⊥
 leaves-another r = omega (arith, ap (λ g. getD (g .globalCache) 0 0) (r .leaves left Yes refl))
 
 out-of-order : Run (header 1 0 1) (event [] (Answers 0) ∷ []) (Done (event [] (Answers 0) .state) Yes) → ⊥

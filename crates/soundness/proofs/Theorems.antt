@@ -1,4 +1,4 @@
--- The theorems. What they say stands in specs/: Sets, Statement, Groups, Trace, Always and Pop.
+-- The theorems. What they say stands in specs/: Sets, Statement, Groups, Trace, Always, Pop and Passes.
 use mathlib.Core.Bool.{Bool}
 use mathlib.Core.List.{List}
 use mathlib.Core.Option.{some}
@@ -12,13 +12,16 @@ use Rattle.definition.specs.declared.format.Line.{Line}
 use Rattle.definition.specs.declared.replies.Refusal.the-variants.{CacheConflict, ProvisionalCacheFull}
 use Rattle.soundness.specs.Always.{Always, Conflict, Follows, Full, InOrder, NeverUnreachable, OnlyUnder}
 use Rattle.soundness.specs.Groups.{GroupsFit, RightByGroups, StepsAreLines}
+use Rattle.soundness.specs.Passes.{PassesCounted, PassesUnread}
 use Rattle.soundness.specs.Pop.{PopKeepsHeads}
 use Rattle.soundness.specs.Sets.{GreatestSelfSupporting, LeastClosed, greatest, least}
 use Rattle.soundness.specs.Statement.{Demand3}
 use Rattle.soundness.proofs.Fixpoints.{greatest-is, least-is}
+use Rattle.soundness.proofs.Passes.{counted-from-zeros}
 use Rattle.soundness.proofs.Pop.{keeps-heads}
 use Rattle.soundness.proofs.Reading.{any-read}
 use Rattle.soundness.proofs.StepLines.{steps-are-lines}
+use Rattle.soundness.proofs.Unread.{unread}
 use Rattle.soundness.proofs.Demand3.{demand-3-of-groups, groups-fit, right-by-groups}
 use Rattle.soundness.proofs.EveryBook.{always-in-order, in-order-follows, only-on-conflict, only-when-full, query-never-unreachable}
 
@@ -70,3 +73,11 @@ refused-on-conflict = only-on-conflict
 -- ---- after document 02's pop no entry has a head off the stack
 pub pop-keeps-heads : PopKeepsHeads
 pop-keeps-heads = keeps-heads
+
+-- ---- in every cache that queries leave from zeros, each held slot says how often the goal's part was run
+pub passes-counted : PassesCounted
+passes-counted = counted-from-zeros
+
+-- ---- and nothing else depends on it
+pub passes-unread : PassesUnread
+passes-unread = unread

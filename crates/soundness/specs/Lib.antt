@@ -4,3 +4,4 @@ pub mod Groups
 pub mod Trace
 pub mod Always
 pub mod Pop
+pub mod Passes

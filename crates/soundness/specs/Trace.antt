@@ -136,7 +136,7 @@ abbrev pub traceNewFrame : Header → (ℕ → Graph → Outcome) → (ℕ → G
 traceNewFrame h compute trace g input step available =
     traceTask (compute input) (trace input) (pred (h .limit)) (pushNew h g input step available) ++
     traceAfterTask h input step available
-    (evaluateGoalInTask (compute input) (pred (h .limit)) false (pushNew h g input step available))
+    (evaluateGoalInTask (compute input) (pred (h .limit)) 1 false (pushNew h g input step available))
 
 abbrev pub traceAtDepth : Header → (ℕ → Graph → Outcome) → (ℕ → Graph → Trace) → Graph → ℕ → PathKind → ℕ → Trace
 traceAtDepth h compute trace g input step available =

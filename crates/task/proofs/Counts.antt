@@ -15,7 +15,7 @@ use Rattle.layout.specs.Work.{stackOf}
 use Rattle.stack.specs.Bytes.{StackBytes, frameAt}
 use Rattle.evaluation.specs.declared.Outcome.{Outcome}
 use Rattle.evaluation.specs.declared.Outcome.the-variants.{Done}
-use Rattle.evaluation.specs.declared.TaskOutcome.{TaskOutcome}
+use Rattle.evaluation.specs.declared.Ran.{Ran}
 use Rattle.evaluation.specs.declared.TaskOutcome.the-variants.{Evaluated}
 use Rattle.evaluation.specs.Outcomes.{CountsIn, TaskCountsIn}
 use Rattle.provisional_cache.proofs.Loops.{graph-bytes}
@@ -28,10 +28,10 @@ pub answered-stack : (goals height : ℕ) (bs : List ℕ) (o : Outcome) → Iter
 answered-stack goals height bs o e answer n is =
     record { bytes = e .bytes; high = e .high; counts = subst (CountsIn (stackOf goals height bs)) is (e .counts) }
 
-pub ended-stack : (h : Header) (height goal : ℕ) (bs cache : List ℕ) (o : TaskOutcome)
-    → TaskEnded h height goal bs cache o
-    → (answer : Answer) (overflow : Bool) (n : ℕ) → o ≡ Evaluated answer overflow n → StackBytes (h .goals) height bs
-ended-stack h height goal bs cache o e answer overflow n is =
+pub ended-stack : (h : Header) (height goal : ℕ) (bs cache : List ℕ) (ran : Ran)
+    → TaskEnded h height goal bs cache ran
+    → (answer : Answer) (overflow : Bool) (n : ℕ) → ran .outcome ≡ Evaluated answer overflow n → StackBytes (h .goals) height bs
+ended-stack h height goal bs cache ran e answer overflow n is =
     record {
       bytes = e .bytes;
       high = omega (arith, e .under);

@@ -35,13 +35,13 @@ use Rattle.evaluation.specs.declared.TaskOutcome.the-variants.{Evaluated, TaskS
 use Rattle.evaluation.specs.Outcomes.{outcomeOf, taskOutcomeOf, FewTaskEntries}
 use Rattle.task.specs.Results.{ParentUpdated}
 
-module _ (h : Header) (root height n goal : ℕ) (overflow : Bool) (answer : Answer) (bs cache : List ℕ) where
+module _ (h : Header) (root height n goal : ℕ) (overflow : Bool) (answer : Answer) (passes : ℕ) (bs cache : List ℕ) where
   -- the popped frame, the result and the graph
   abbrev f : Frame
   f = frameAt (h .goals) height bs
 
   abbrev result : EvaluationResult
-  result = finalize f overflow answer
+  result = finalize f overflow answer passes
 
   abbrev g : Graph
   g = graphOf (h .goals) root height n bs cache
@@ -59,10 +59,10 @@ module _ (h : Header) (root height n goal : ℕ) (overflow : Bool) (answer : Ans
     global-past lt = sym (ap atDepth (lt-leb (requiredDepthOf f) (h .top) (subst (λ (x : ℕ). h .top < x) is-d lt)))
 
     module _ (few : d ≤ h .top) (nested : List ℕ) (is-nested : nested ≡ f .nestedGoals) (i : Insertion) (new : List ℕ)
-        (e : cacheInsert (headerWith (h .goals) (h .top)) cache goal (evaluated overflow d nested answer) ≡ inserted i new) where
+        (e : cacheInsert (headerWith (h .goals) (h .top)) cache goal (evaluated overflow d nested answer passes) ≡ inserted i new) where
       slotted : made (inserted i new) ≡ insertGlobalCache h g goal result
       slotted =
-          ap made (sym e ∙ (λ t. cacheInsert (headerWith (h .goals) (h .top)) cache goal (evaluated overflow (is-d t) (is-nested t) answer)) ∙ insert-with h cache goal result)
+          ap made (sym e ∙ (λ t. cacheInsert (headerWith (h .goals) (h .top)) cache goal (evaluated overflow (is-d t) (is-nested t) answer passes)) ∙ insert-with h cache goal result)
           ∙ sym (ap atDepth (le-leb (requiredDepthOf f) (h .top) (subst (λ (x : ℕ). x ≤ h .top) is-d few)))
 
       pub global-kept : i ≡ Kept → outcomeOf (h .goals) root height bs new (Done answer n) ≡ insertGlobalCache h g goal result
@@ -109,23 +109,23 @@ pub provisional-few : (goals height n goal : ℕ) (step : PathKind) (overflow : 
 provisional-few goals height n goal step overflow answer bs new i w is = let under = kept-under goals height n goal step overflow answer bs new i w is in omega arith
 
 -- ---- `finish`
-module _ (h : Header) (root height goal available : ℕ) (step : PathKind) (bs cache : List ℕ) (o : TaskOutcome) where
-  pub finish-stopped : (r : Refusal) → o ≡ TaskStopped r → outcomeOf (h .goals) root height bs cache (Stopped r) ≡ afterTask h goal step available (taskOutcomeOf (h .goals) root height bs cache o)
+module _ (h : Header) (root height goal available : ℕ) (step : PathKind) (passes : ℕ) (bs cache : List ℕ) (o : TaskOutcome) where
+  pub finish-stopped : (r : Refusal) → o ≡ TaskStopped r → outcomeOf (h .goals) root height bs cache (Stopped r) ≡ afterTask h goal step available (taskOutcomeOf (h .goals) root height passes bs cache o)
   unfolding outcomeOf taskOutcomeOf
-  finish-stopped r is = sym (ap (λ (x : TaskOutcome). afterTask h goal step available (taskOutcomeOf (h .goals) root height bs cache x)) is)
+  finish-stopped r is = sym (ap (λ (x : TaskOutcome). afterTask h goal step available (taskOutcomeOf (h .goals) root height passes bs cache x)) is)
 
   pub finish-evaluated : (answer : Answer) (overflow : Bool) (n : ℕ) → o ≡ Evaluated answer overflow n → (d reached : ℕ) → d ≡ requiredDepthOf (frameAt (h .goals) height bs) → reached ≡ available - d
       → (mid : List ℕ) → ParentUpdated (h .goals) height step overflow reached bs mid
-      → insertResult h (graphOf (h .goals) root height n mid cache) goal step (finalize (frameAt (h .goals) height mid) overflow answer)
-      ≡ afterTask h goal step available (taskOutcomeOf (h .goals) root height bs cache o)
+      → insertResult h (graphOf (h .goals) root height n mid cache) goal step (finalize (frameAt (h .goals) height mid) overflow answer passes)
+      ≡ afterTask h goal step available (taskOutcomeOf (h .goals) root height passes bs cache o)
   unfolding taskOutcomeOf
   finish-evaluated answer overflow n is d reached is-d is-reached mid updated =
       let e : reached ≡ available - requiredDepthOf (frameAt (h .goals) height bs) = is-reached ∙ ap (λ (x : ℕ). available - x) is-d in
       let s = updated .stack ∙ ap (updateParentGoal (stackOf (h .goals) height bs) step ((frameAt (h .goals) height bs) .heads) overflow (Ordinary ((frameAt (h .goals) height bs) .nestedGoals))) e in
       let es = updated .entries n in
       let fs : frameAt (h .goals) height mid ≡ frameAt (h .goals) height bs = ap (frameOf (h .goals)) (updated .frame) in
-      (λ t. insertResult h (record { rootDepth = root; stack = s t; provisionalCache = es t; globalCache = cache }) goal step (finalize (fs t) overflow answer))
-      ∙ sym (ap (λ (x : TaskOutcome). afterTask h goal step available (taskOutcomeOf (h .goals) root height bs cache x)) is)
+      (λ t. insertResult h (record { rootDepth = root; stack = s t; provisionalCache = es t; globalCache = cache }) goal step (finalize (fs t) overflow answer passes))
+      ∙ sym (ap (λ (x : TaskOutcome). afterTask h goal step available (taskOutcomeOf (h .goals) root height passes bs cache x)) is)
 
 pub few-evaluated : (goals : ℕ) (o : TaskOutcome) (answer : Answer) (overflow : Bool) (n : ℕ) → o ≡ Evaluated answer overflow n → FewTaskEntries goals o → n ≤ 2 * goals
 few-evaluated goals o answer overflow n is few = subst (FewTaskEntries goals) is few

@@ -40,15 +40,15 @@ Next = Bool → Graph → task.TaskOutcome
 
 -- ---- `popped`, by the numbers of the endings' variants
 ends-so : (e : Ending) → OneOf (0 ∷ 1 ∷ 2 ∷ 3 ∷ 4 ∷ []) (tagOf the-type e) → (answer : Answer)
-    → (e ≡ ending.Overflow → answer ≡ Overflow) → (next : Next) (overflow : Bool) (f : Frame) (g : Graph)
-    → task.afterPop next overflow f answer e g ≡ task.Evaluated g (finalize f overflow answer)
-ends-so ending.Nothing k answer h next overflow f g = refl
-ends-so (ending.Fixpoint fixpoint) k answer h next overflow f g = refl
-ends-so ending.NoUsages k answer h next overflow f g = refl
-ends-so (ending.Ambiguity kind) k answer h next overflow f g = refl
-ends-so ending.Overflow k answer h next overflow f g =
-    ap (λ (a : Answer). task.Evaluated g (finalize f overflow a)) (sym (h refl))
-ends-so ending.Rerun k answer h next overflow f g = absurd (miss (0 ∷ 1 ∷ 2 ∷ 3 ∷ 4 ∷ []) 5 tt k)
+    → (e ≡ ending.Overflow → answer ≡ Overflow) → (next : Next) (pass : ℕ) (overflow : Bool) (f : Frame) (g : Graph)
+    → task.afterPop next pass overflow f answer e g ≡ task.Evaluated g (finalize f overflow answer pass)
+ends-so ending.Nothing k answer h next pass overflow f g = refl
+ends-so (ending.Fixpoint fixpoint) k answer h next pass overflow f g = refl
+ends-so ending.NoUsages k answer h next pass overflow f g = refl
+ends-so (ending.Ambiguity kind) k answer h next pass overflow f g = refl
+ends-so ending.Overflow k answer h next pass overflow f g =
+    ap (λ (a : Answer). task.Evaluated g (finalize f overflow a pass)) (sym (h refl))
+ends-so ending.Rerun k answer h next pass overflow f g = absurd (miss (0 ∷ 1 ∷ 2 ∷ 3 ∷ 4 ∷ []) 5 tt k)
 
 module _ (goals height n : ℕ) (e : Ending) (overflow : Bool) (answer : Answer) (old : List ℕ)
     (st : StackBytes goals height old)
@@ -71,9 +71,9 @@ module _ (goals height n : ℕ) (e : Ending) (overflow : Bool) (answer : Answer)
       let h = st .high in
       let same = sym (frame-kept goals old mid own (popped .frames) (omega arith)) in
       record {
-        is = λ root cache next.
-            ends-so e k answer limit next overflow f (pop e (graphOf goals root height n old cache))
-            ∙ ap₂ (λ (x : Frame) (g : Graph). task.Evaluated g (finalize x overflow answer)) same
+        is = λ root cache pass next.
+            ends-so e k answer limit next pass overflow f (pop e (graphOf goals root height n old cache))
+            ∙ ap₂ (λ (x : Frame) (g : Graph). task.Evaluated g (finalize x overflow answer pass)) same
             (sym (popped .is root cache));
         few = left-few;
         counts = tt;
@@ -90,8 +90,8 @@ module _ (goals height n : ℕ) (e : Ending) (overflow : Bool) (answer : Answer)
       let s = sym (ap (λ (k : ℕ). stackOf goals k new) (sym whole) ∙ w .stack) in
       let es = sym (w .entries kept) in
       record {
-        is = λ root cache next.
-            ap₂ (λ (x : Ending) (g : Graph). task.afterPop next overflow f answer x g) is (sym (popped .is root cache))
+        is = λ root cache pass next.
+            ap₂ (λ (x : Ending) (g : Graph). task.afterPop next pass overflow f answer x g) is (sym (popped .is root cache))
             ∙ ap (λ (x : Frame). next overflow (task.pushRerun (graphOf goals root own kept mid cache) x answer)) same
             ∙ ap (next overflow)
             (λ t. record { rootDepth = root; stack = s t; provisionalCache = es t; globalCache = cache });
@@ -131,16 +131,16 @@ module _ (goals height n left : ℕ) (overflow : Bool) (answer : Answer) (old : 
   abbrev frame : Frame
   frame = frameAt goals (height - 1) old
 
-  opened : (root : ℕ) (cache : List ℕ) (next : Next)
-      → task.endIteration left next overflow (graphOf goals root height n old cache) answer (stackOf goals height old)
-      ≡ task.afterPop next met frame answer e (pop e (graphOf goals root height n old cache))
-  opened root cache next =
+  opened : (root : ℕ) (cache : List ℕ) (pass : ℕ) (next : Next)
+      → task.endIteration left pass next overflow (graphOf goals root height n old cache) answer (stackOf goals height old)
+      ≡ task.afterPop next pass met frame answer e (pop e (graphOf goals root height n old cache))
+  opened root cache pass next =
       let g : Graph = graphOf goals root height n old cache in
       let s = top goals old height some in
-      ap (task.endIteration left next overflow g answer) s
-      ∙ ap (λ (x : Stack). task.afterPop next (overflow || frame .encounteredOverflow) frame answer
+      ap (task.endIteration left pass next overflow g answer) s
+      ∙ ap (λ (x : Stack). task.afterPop next pass (overflow || frame .encounteredOverflow) frame answer
       (endingOf left frame answer) (pop (endingOf left frame answer) (withStack g x))) (sym s)
-      ∙ ap₂ (λ (m : Bool) (x : Ending). task.afterPop next m frame answer x (pop x g)) (sym is-met) (sym is-e)
+      ∙ ap₂ (λ (m : Bool) (x : Ending). task.afterPop next pass m frame answer x (pop x g)) (sym is-met) (sym is-e)
 
   few-turned : (i : Iteration) → FewLeft goals e i → FewTurned goals left i
   few-turned (End t) w = w
@@ -150,7 +150,7 @@ module _ (goals height n left : ℕ) (overflow : Bool) (answer : Answer) (old : 
       → Followed goals height n left overflow answer old new r
   follows made =
       record {
-        is = λ root cache next. opened root cache next ∙ made .is root cache next;
+        is = λ root cache pass next. opened root cache pass next ∙ made .is root cache pass next;
         few = few-turned r (made .few);
         counts = made .counts;
       }
@@ -160,9 +160,9 @@ module _ (goals height n left : ℕ) (overflow : Bool) (answer : Answer) (old : 
       → Followed goals height n left overflow answer old new r
   follows-limit is made =
       follows (record {
-        is = λ root cache next.
-            ap (λ (x : Ending). task.afterPop next met frame answer x
-            (pop x (graphOf goals root height n old cache))) is ∙ made .is root cache next;
+        is = λ root cache pass next.
+            ap (λ (x : Ending). task.afterPop next pass met frame answer x
+            (pop x (graphOf goals root height n old cache))) is ∙ made .is root cache pass next;
         few = subst (λ (x : Ending). FewLeft goals x r) (sym is) (made .few);
         counts = made .counts;
       })
@@ -173,7 +173,7 @@ module _ (goals height left : ℕ) (overflow : Bool) (bs : List ℕ) (o : Outcom
   unfolding outcomeOf taskOutcomeOf turned
   turn-stopped r is =
       record {
-        is = λ root cache next. ap (λ (x : Outcome). task.iteration left next overflow
+        is = λ root cache pass next. ap (λ (x : Outcome). task.iteration left pass next overflow
             (outcomeOf goals root height bs cache x)) is;
         few = tt;
         counts = tt;
@@ -184,19 +184,20 @@ module _ (goals height left : ℕ) (overflow : Bool) (bs : List ℕ) (o : Outcom
   unfolding outcomeOf
   turn-done answer n is new r w =
       record {
-        is = λ root cache next.
-            ap (λ (x : Outcome). task.iteration left next overflow (outcomeOf goals root height bs cache x)) is
-            ∙ w .is root cache next;
+        is = λ root cache pass next.
+            ap (λ (x : Outcome). task.iteration left pass next overflow (outcomeOf goals root height bs cache x)) is
+            ∙ w .is root cache pass next;
         few = w .few;
         counts = w .counts;
       }
 
 -- a turn is one of the definition's, with those after it
-pub turn-is : (compute : Graph → graph.Outcome) (left : ℕ) (overflow : Bool) (g : Graph)
-    → task.evaluateGoalInTask compute left overflow g ≡ task.iteration left (nextTurn compute left) overflow (compute g)
-turn-is compute zero overflow g = refl
-turn-is compute (suc left) overflow g = refl
+pub turn-is : (compute : Graph → graph.Outcome) (left pass : ℕ) (overflow : Bool) (g : Graph)
+    → task.evaluateGoalInTask compute left pass overflow g
+    ≡ task.iteration left pass (nextTurn compute left pass) overflow (compute g)
+turn-is compute zero pass overflow g = refl
+turn-is compute (suc left) pass overflow g = refl
 
-pub next-is : (compute : Graph → graph.Outcome) (left : ℕ) → 0 < left
-    → nextTurn compute left ≡ task.evaluateGoalInTask compute (left - 1)
-next-is compute left some = let e : left ≡ suc (left - 1) = omega arith in ap (nextTurn compute) e
+pub next-is : (compute : Graph → graph.Outcome) (left pass : ℕ) → 0 < left
+    → nextTurn compute left pass ≡ task.evaluateGoalInTask compute (left - 1) (suc pass)
+next-is compute left pass some = let e : left ≡ suc (left - 1) = omega arith in ap (λ (n : ℕ). nextTurn compute n pass) e

@@ -6,7 +6,7 @@ use Rattle.layout.specs.Work.{stackOf}
 use Rattle.stack.specs.Bytes.{GraphBytes, StackBytes}
 use Rattle.global_cache.specs.Cache.{CacheBytes}
 use Rattle.evaluation.specs.declared.Outcome.{Outcome}
-use Rattle.evaluation.specs.declared.TaskOutcome.{TaskOutcome}
+use Rattle.evaluation.specs.declared.Ran.{Ran}
 use Rattle.evaluation.specs.Outcomes.{CountsIn, TaskCountsIn, FewEntries, FewTaskEntries}
 
 -- after an iteration of the frame on top
@@ -18,13 +18,14 @@ pub record IterationEnded (goals height : ℕ) (graph : List ℕ) (o : Outcome) 
   pub few : FewEntries goals o
 
 -- after the last iteration of the frame that stood at index `height`
-pub record TaskEnded (h : Header) (height goal : ℕ) (graph cache : List ℕ) (o : TaskOutcome) : Type 0 where
+pub record TaskEnded (h : Header) (height goal : ℕ) (graph cache : List ℕ) (ran : Ran) : Type 0 where
   pub bytes : GraphBytes (h .goals) graph
-  pub counts : TaskCountsIn (stackOf (h .goals) height graph) o
+  pub counts : TaskCountsIn (stackOf (h .goals) height graph) (ran .outcome)
   pub cache-bytes : CacheBytes (h .goals) (h .top) cache
   pub under : height < h .goals
   pub known : goal < h .goals
-  pub few : FewTaskEntries (h .goals) o
+  pub few : FewTaskEntries (h .goals) (ran .outcome)
+  pub passes : ran .passes < 256
 
 -- the goal's result goes to the provisional cache
 pub record Room (h : Header) (height entries goal : ℕ) (graph : List ℕ) : Type 0 where

@@ -13,7 +13,7 @@ use Rattle.definition.specs.Evaluate.{insertGlobalCache, insertProvisionalCache
 use Rattle.layout.specs.Work.{stackOf, entriesOf, graphOf}
 use Rattle.stack.specs.Bytes.{frameBytes, frameAt}
 use Rattle.evaluation.specs.declared.Outcome.{Outcome}
-use Rattle.evaluation.specs.declared.TaskOutcome.{TaskOutcome}
+use Rattle.evaluation.specs.declared.Ran.{Ran}
 use Rattle.evaluation.specs.Outcomes.{outcomeOf, taskOutcomeOf, FewEntries}
 
 -- the parent learns what the goal came to; the goal's frame is as before
@@ -26,34 +26,36 @@ pub record ParentUpdated (goals height : ℕ) (step : PathKind) (overflow : Bool
   pub frame : frameBytes goals height new ≡ frameBytes goals height old
 
 -- the result goes to the global cache, which becomes `cacheAfter`
-pub record InGlobalCache (h : Header) (height n goal : ℕ) (overflow : Bool) (answer : Answer)
+pub record InGlobalCache (h : Header) (height n goal : ℕ) (overflow : Bool) (answer : Answer) (passes : ℕ)
     (graph cache cacheAfter : List ℕ) (r : Outcome) : Type 0 where
   pub is : (root : ℕ)
       → outcomeOf (h .goals) root height graph cacheAfter r
-      ≡ insertGlobalCache h (graphOf (h .goals) root height n graph cache) goal (finalize (frameAt (h .goals) height graph) overflow answer)
+      ≡ insertGlobalCache h (graphOf (h .goals) root height n graph cache) goal
+      (finalize (frameAt (h .goals) height graph) overflow answer passes)
   pub few : FewEntries (h .goals) r
 
--- to the provisional cache
+-- to the provisional cache, which does not hold how often the part was run
 pub record InProvisionalCache (h : Header) (height n goal : ℕ) (step : PathKind) (overflow : Bool) (answer : Answer)
     (old new : List ℕ) (r : Outcome) : Type 0 where
-  pub is : (root : ℕ) (cache : List ℕ)
+  pub is : (root : ℕ) (cache : List ℕ) (passes : ℕ)
       → outcomeOf (h .goals) root height new cache r
       ≡ insertProvisionalCache h (graphOf (h .goals) root height n old cache) goal step
-      (finalize (frameAt (h .goals) height old) overflow answer)
+      (finalize (frameAt (h .goals) height old) overflow answer passes)
   pub few : FewEntries (h .goals) r
 
 -- to one of them, or to none
-pub record InCache (h : Header) (height n goal : ℕ) (step : PathKind) (overflow : Bool) (answer : Answer)
+pub record InCache (h : Header) (height n goal : ℕ) (step : PathKind) (overflow : Bool) (answer : Answer) (passes : ℕ)
     (cache cacheAfter old new : List ℕ) (r : Outcome) : Type 0 where
   pub is : (root : ℕ)
       → outcomeOf (h .goals) root height new cacheAfter r
-      ≡ insertResult h (graphOf (h .goals) root height n old cache) goal step (finalize (frameAt (h .goals) height old) overflow answer)
+      ≡ insertResult h (graphOf (h .goals) root height n old cache) goal step
+      (finalize (frameAt (h .goals) height old) overflow answer passes)
   pub few : FewEntries (h .goals) r
 
 -- the goal's outcome
-pub record Finished (h : Header) (height goal : ℕ) (step : PathKind) (available : ℕ) (o : TaskOutcome)
+pub record Finished (h : Header) (height goal : ℕ) (step : PathKind) (available : ℕ) (ran : Ran)
     (cache cacheAfter old new : List ℕ) (r : Outcome) : Type 0 where
   pub is : (root : ℕ)
       → outcomeOf (h .goals) root height new cacheAfter r
-      ≡ afterTask h goal step available (taskOutcomeOf (h .goals) root height old cache o)
+      ≡ afterTask h goal step available (taskOutcomeOf (h .goals) root height (ran .passes) old cache (ran .outcome))
   pub few : FewEntries (h .goals) r

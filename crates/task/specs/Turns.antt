@@ -21,15 +21,16 @@ abbrev pub searchedOf : Searched → Option Fixpoint
 searchedOf (Reached fixpoint) = some fixpoint
 searchedOf Missed = none
 
--- the turn of `evaluateGoalInTask` after one with which `left` more are allowed
-abbrev pub nextTurn : (Graph → Outcome) → ℕ → Bool → Graph → task.TaskOutcome
-nextTurn compute zero = task.noTurn
-nextTurn compute (suc left) = task.evaluateGoalInTask compute left
+-- the turn of `evaluateGoalInTask` after the one with the number `pass`, with which `left` more are allowed
+abbrev pub nextTurn : (Graph → Outcome) → ℕ → ℕ → Bool → Graph → task.TaskOutcome
+nextTurn compute zero pass = task.noTurn
+nextTurn compute (suc left) pass = task.evaluateGoalInTask compute left (suc pass)
 
--- `height` frames were on the stack, and are again in the next turn
-unfoldable pub turned : ℕ → ℕ → ℕ → (Bool → Graph → task.TaskOutcome) → List ℕ → List ℕ → Iteration → task.TaskOutcome
-turned goals root height next bs cache (End t) = taskOutcomeOf goals root (height - 1) bs cache t
-turned goals root height next bs cache (Again met n) = next met (graphOf goals root height n bs cache)
+-- `height` frames were on the stack, and are again in the next turn; `pass` turns were taken
+unfoldable pub turned : ℕ → ℕ → ℕ → ℕ → (Bool → Graph → task.TaskOutcome) → List ℕ → List ℕ → Iteration
+    → task.TaskOutcome
+turned goals root height pass next bs cache (End t) = taskOutcomeOf goals root (height - 1) pass bs cache t
+turned goals root height pass next bs cache (Again met n) = next met (graphOf goals root height n bs cache)
 
 -- where there is a next turn, the counts of steps on the stack s are true
 abbrev pub CountsTurned : Stack → Iteration → Type 0

@@ -41,9 +41,10 @@ fn in_global_cache(
     goal: usize,
     overflow: bool,
     answer: Answer,
+    passes: usize,
 ) -> Outcome
-    requires { ⌜ Popped h height entries goal (now graph) (now cache) ⌝ }
-    ensures { λ r. ⌜ InGlobalCache h height entries goal overflow answer (now (graph .entry))
+    requires { ⌜ Popped h height entries goal (now graph) (now cache) × (passes < 256) ⌝ }
+    ensures { λ r. ⌜ InGlobalCache h height entries goal overflow answer passes (now (graph .entry))
         (now (cache .entry)) (now (cache .exit)) r ⌝ }
 {
     let goals = h.goals;
@@ -53,7 +54,17 @@ fn in_global_cache(
         return Outcome::Stopped(Refusal::Unreachable);
     }
     let nested = nested_at(graph, goals, height);
-    let made = global_cache::insert(cache, goals, top, goal, overflow, required, answer, nested);
+    let made = global_cache::insert(
+        cache,
+        goals,
+        top,
+        goal,
+        overflow,
+        required,
+        answer,
+        passes,
+        nested,
+    );
     match made {
         global_cache::Insertion::Kept => Outcome::Done(answer, entries),
         global_cache::Insertion::Conflict => Outcome::Stopped(Refusal::CacheConflict),
@@ -103,14 +114,25 @@ pub fn result(
     step: PathKind,
     overflow: bool,
     answer: Answer,
+    passes: usize,
 ) -> Outcome
-    requires { ⌜ Popped h height entries goal (now graph) (now cache) ⌝ }
-    ensures { λ r. ⌜ InCache h height entries goal step overflow answer
+    requires { ⌜ Popped h height entries goal (now graph) (now cache) × (passes < 256) ⌝ }
+    ensures { λ r. ⌜ InCache h height entries goal step overflow answer passes
         (now (cache .entry)) (now (cache .exit)) (now (graph .entry)) (now (graph .exit)) r ⌝ }
 {
     let goals = h.goals;
     if is_headless(graph, goals, height) {
-        return in_global_cache(cache, graph, h, height, entries, goal, overflow, answer);
+        return in_global_cache(
+            cache,
+            graph,
+            h,
+            height,
+            entries,
+            goal,
+            overflow,
+            answer,
+            passes,
+        );
     }
     if h.provisional {
         return in_provisional_cache(graph, h, height, entries, goal, step, overflow, answer);

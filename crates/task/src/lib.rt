@@ -6,6 +6,7 @@ use definition::endings::Ending;
 use definition::format::Header;
 use definition::paths::PathKind;
 use evaluation::Outcome;
+use evaluation::Ran;
 use evaluation::TaskOutcome;
 use stack::frame;
 ghost use mathlib.Core.Path.{_≡_};
@@ -148,7 +149,7 @@ fn update_parent(
 
 // The goal was evaluated: the parent is updated and the result kept.
 pub fn finish(
-    o: TaskOutcome,
+    ran: Ran,
     cache: &mut [u8],
     graph: &mut [u8],
     h: Header,
@@ -157,10 +158,11 @@ pub fn finish(
     step: PathKind,
     available: usize,
 ) -> Outcome
-    requires { ⌜ TaskEnded h height goal (now graph) (now cache) o ⌝ }
-    ensures { λ r. ⌜ Finished h height goal step available o
+    requires { ⌜ TaskEnded h height goal (now graph) (now cache) ran ⌝ }
+    ensures { λ r. ⌜ Finished h height goal step available ran
         (now (cache .entry)) (now (cache .exit)) (now (graph .entry)) (now (graph .exit)) r ⌝ }
 {
+    let o = ran.outcome;
     match o {
         TaskOutcome::TaskStopped(r) => Outcome::Stopped(r),
         TaskOutcome::Evaluated(answer, overflow, entries) => {
@@ -178,6 +180,7 @@ pub fn finish(
                 step,
                 overflow,
                 answer,
+                ran.passes,
             )
         }
     }

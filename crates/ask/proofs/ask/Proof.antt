@@ -8,10 +8,10 @@ use Rattle.ask.proofs.ask.Statement.{statement}
 use Rattle.ask.proofs.ask.Tie as tie
 
 abbrev Inv-loop : tie.InvT-loop
-Inv-loop book cache₀ work₀ left₀ cache work left = Ready book cache work × (length cache ≡ length cache₀) × (length work ≡ length work₀)
+Inv-loop book cache₀ work₀ shows left₀ cache work left = Ready book cache work × (length cache ≡ length cache₀) × (length work ≡ length work₀)
 
 abbrev μ-loop : tie.MeasureT-loop
-μ-loop book cache₀ work₀ left₀ cache work left = left
+μ-loop book cache₀ work₀ shows left₀ cache work left = left
 
 fill-zero-requires : tie.Need-fill-zero-requires Inv-loop μ-loop
 fill-zero-requires c κs = search needs

@@ -21,11 +21,14 @@ slice-aggregate-answer-line c = search needs
 answer-line-requires : tie.Need-answer-line-requires
 answer-line-requires c κs = search needs
 
-slice-aggregate-write-all : tie.Need-slice-aggregate-write-all
-slice-aggregate-write-all c = search needs
+array-share-prefix-line-2 : tie.Need-array-share-prefix-line-2
+array-share-prefix-line-2 c = search needs
 
-write-all-requires : tie.Need-write-all-requires
-write-all-requires c κs = search needs
+slice-aggregate-print-reply : tie.Need-slice-aggregate-print-reply
+slice-aggregate-print-reply c = search needs
+
+print-reply-requires : tie.Need-print-reply-requires
+print-reply-requires c κs = search needs
 
 same-length : tie.Need-same-length
 same-length c = search needs
@@ -34,8 +37,12 @@ same-length-2 : tie.Need-same-length-2
 same-length-2 c = search needs
 
 returns-2 : tie.Need-returns-2
-returns-2 c = let a = c .before .before .before .before .before .before .before .before .before .before .before .before .before .before .before .before .before .before .args in
-    ready-again (a .book .now) (a .cache .now) (a .work .now) (c .before .before .before .before .before .before .before .answer-line .last .1 .0) (c .before .before .before .before .before .before .before .answer-line .last .1 .1 .0) (c .before .before .before .before .before .before .before .before .before .before .before .before .before .before .before .before .before .before .pre) (c .before .before .before .before .before .before .before .answer-line .kept .1 .0) (c .before .before .before .before .before .before .before .answer-line .kept .1 .1 .0) (c .before .before .before .before .before .before .before .answer-line .ensures .1)
+returns-2 c =
+    let y = c .before .before .before .before .before .before .before .before in
+    let s = y .before .before .before .before .before .before .before .before .before .before .before in
+    let a = s .args in
+    ready-again (a .book .now) (a .cache .now) (a .work .now) (y .answer-line .last .1 .0) (y .answer-line .last .1 .1 .0)
+    (s .pre) (y .answer-line .kept .1 .0) (y .answer-line .kept .1 .1 .0) (y .answer-line .ensures .1)
 
 pub ask-once-spec : {M : Type 1} → statement M
 ask-once-spec =
@@ -47,8 +54,9 @@ ask-once-spec =
     array-share-prefix-line
     slice-aggregate-answer-line
     answer-line-requires
-    slice-aggregate-write-all
-    write-all-requires
+    array-share-prefix-line-2
+    slice-aggregate-print-reply
+    print-reply-requires
     same-length
     same-length-2
     returns-2)

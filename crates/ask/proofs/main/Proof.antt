@@ -21,11 +21,14 @@ slice-aggregate-book c = search needs
 open-requires : tie.Need-open-requires
 open-requires c κs = search needs
 
+arg-count-requires : tie.Need-arg-count-requires
+arg-count-requires c κs = search needs
+
 enum-known-o : tie.Need-enum-known-o
 enum-known-o c = search needs
 
 ask-book-requires : tie.Need-ask-book-requires
-ask-book-requires c κs = sym (c .before .before .before .«open» .ensures) ∙ c .before .o .given .1
+ask-book-requires c κs = sym (c .before .before .before .before .«open» .ensures) ∙ c .before .o .given .1
 
 enum-known-o-2 : tie.Need-enum-known-o-2
 enum-known-o-2 c = search needs
@@ -33,11 +36,8 @@ enum-known-o-2 c = search needs
 ending-line-requires : tie.Need-ending-line-requires
 ending-line-requires c κs = search needs
 
-slice-aggregate-write-all : tie.Need-slice-aggregate-write-all
-slice-aggregate-write-all c = search needs
-
-write-all-requires : tie.Need-write-all-requires
-write-all-requires c κs = search needs
+print-requires : tie.Need-print-requires
+print-requires c κs = search needs
 
 returns : tie.Need-returns
 returns c = search needs
@@ -55,11 +55,11 @@ main-spec =
     array-share-prefix-bytes
     slice-aggregate-book
     open-requires
+    arg-count-requires
     enum-known-o
     ask-book-requires
     enum-known-o-2
     ending-line-requires
-    slice-aggregate-write-all
-    write-all-requires
+    print-requires
     returns
     returns-2)

@@ -51,8 +51,8 @@ returns : tie.Need-returns
 returns c =
     let f = c .before .before .before .before .before .before in
     let a = f .before .before .before .args in (
-      insert-conflict (a .goals) (a .top) (a .goal) (a .cache .now) (a .overflow) (a .required) (a .nested .now) (a .result)
-          (f .slot-for .result) (c .before .before .before .before .before .start-of .result) (c .before .before .before .before .number .result) (f .slot-for .ensures .1 (a .nested .now) (a .result)) (c .before .before .before .before .before .start-of .ensures .0)
+      insert-conflict (a .goals) (a .top) (a .goal) (a .cache .now) (a .overflow) (a .required) (a .nested .now) (a .result) (a .passes)
+          (f .slot-for .result) (c .before .before .before .before .before .start-of .result) (c .before .before .before .before .number .result) (f .slot-for .ensures .1 (a .nested .now) (a .result) (a .passes)) (c .before .before .before .before .before .start-of .ensures .0)
           (c .before .before .before .before .number .ensures) (c .before .conflicts .result) (c .before .conflicts .ensures) (c .if1 .taken),
       λ e. refl,
     )
@@ -69,6 +69,9 @@ part-write-end c = search needs
 cast-write : tie.Need-cast-write
 cast-write c = search needs
 
+cast-write-2 : tie.Need-cast-write-2
+cast-write-2 c = search needs
+
 write-requires : tie.Need-write-requires
 write-requires c κs = search needs
 
@@ -80,8 +83,8 @@ returns-2 c =
     let f = c .before .before .before .before .before .before .before .before .before .before in
     let a = f .before .before .before .args in
     let t = c .before .before .before .before .before in (
-      insert-kept (a .goals) (a .top) (a .goal) (a .cache .now) (a .overflow) (a .required) (a .nested .now) (a .result)
-          (f .slot-for .result) (c .before .before .before .before .before .before .before .before .before .start-of .result) (c .before .before .before .before .before .before .before .before .number .result) (f .slot-for .ensures .1 (a .nested .now) (a .result)) (c .before .before .before .before .before .before .before .before .before .start-of .ensures .0)
+      insert-kept (a .goals) (a .top) (a .goal) (a .cache .now) (a .overflow) (a .required) (a .nested .now) (a .result) (a .passes)
+          (f .slot-for .result) (c .before .before .before .before .before .before .before .before .before .start-of .result) (c .before .before .before .before .before .before .before .before .number .result) (f .slot-for .ensures .1 (a .nested .now) (a .result) (a .passes)) (c .before .before .before .before .before .before .before .before .before .start-of .ensures .0)
           (c .before .before .before .before .before .before .before .before .number .ensures) (t .conflicts .result) (t .conflicts .ensures) (c .before .before .before .before .if1 .left) _ (c .before .before .write .ensures),
       λ e. absurd (kept-differs e),
     )
@@ -108,6 +111,7 @@ insert-spec =
     part-write-start
     part-write-end
     cast-write
+    cast-write-2
     write-requires
     same-length-2
     returns-2)

@@ -34,7 +34,7 @@ returns : tie.Need-returns
 returns c =
     let s = c .before .before .before in
     let a = s .args in
-    slot-beyond (a .cache .now) (a .goals + 3) (a .goals * (a .top + 2)) (a .goal * (a .top + 2) + a .slot) (s .pre .0 .whole) (omega arith)
+    slot-beyond (a .cache .now) (a .goals + 4) (a .goals * (a .top + 2)) (a .goal * (a .top + 2) + a .slot) (s .pre .0 .whole) (omega arith)
 
 add-start-of : tie.Need-add-start-of
 add-start-of c = search needs
@@ -60,7 +60,7 @@ part-result-end-2 c = search needs
 returns-2 : tie.Need-returns-2
 returns-2 c =
     let a = c .before .before .before .before .args in
-    part-slot (a .cache .now) (c .before .start-of .result) ((a .goal * (a .top + 2) + a .slot) * (a .goals + 3)) (a .goals + 3) (c .before .start-of .ensures .0)
+    part-slot (a .cache .now) (c .before .start-of .result) ((a .goal * (a .top + 2) + a .slot) * (a .goals + 4)) (a .goals + 4) (c .before .start-of .ensures .0)
 
 pub slot-at-spec : {M : Type 1} → statement M
 slot-at-spec =

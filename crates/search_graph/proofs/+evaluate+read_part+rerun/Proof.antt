@@ -238,8 +238,9 @@ evaluate-finish-requires t c κs =
       stack = omega arith;
       known = s .pre .1 .1;
       few = ran .rerun .ensures .few;
+      passes = ran .rerun .ensures .passes;
       counts =
-          ran-counts (a .h .goals) (a .height) _ (ran .rerun .result)
+          ran-counts (a .h .goals) (a .height) _ (ran .rerun .result .outcome)
           (task-counts (a .book .now) (a .h) (a .root) (a .height + 1) (a .entries) (pushed .push .last .0) (a .cache .now)
           (evaluate-counted t pushed) (less .before .of-goal .result .now) (less .one-less .result) (ran .rerun .ensures));
     }
@@ -969,6 +970,17 @@ rerun-enum-known-next : (t : ℕ)
     → rerun-lts.Need-enum-known-next (rerun-claims t) (rerun-at t) rerun.Post rerun-Inv-loop rerun-μ-loop
 rerun-enum-known-next t c = search needs
 
+rerun-sub-passes : (t : ℕ)
+    → rerun-lts.Need-sub-passes (rerun-claims t) (rerun-at t) rerun.Post rerun-Inv-loop rerun-μ-loop
+rerun-sub-passes t c =
+    let low = rerun-turn (rerun-read (c .before .before .before .before .before)) .loop .inv .0 .low in omega arith
+
+rerun-add-passes : (t : ℕ)
+    → rerun-lts.Need-add-passes (rerun-claims t) (rerun-at t) rerun.Post rerun-Inv-loop rerun-μ-loop
+rerun-add-passes t c =
+    let turn = rerun-turn (rerun-read (c .before .before .before .before .before)) in
+    let few = rerun-start turn .pre .1 .1 .1 .0 in omega arith
+
 rerun-same-length : (t : ℕ)
     → rerun-lts.Need-same-length (rerun-claims t) (rerun-at t) rerun.Post rerun-Inv-loop rerun-μ-loop
 rerun-same-length t c =
@@ -985,7 +997,8 @@ rerun-returns : (t : ℕ) → rerun-lts.Need-returns (rerun-claims t) (rerun-at 
 rerun-returns t c =
     let ended = c .before .before .before .before .before in let read = rerun-read ended in
     let here = rerun-turn read in
-    turn-ends (here .loop .inv .0) (read .read-part .ensures) (ended .end-iteration .ensures) _
+    turn-ends (here .loop .inv .0) (read .read-part .ensures) (ended .end-iteration .ensures)
+    (rerun-start here .pre .1 .1 .1 .0) _
     (c .before .next .given .1)
 
 rerun-enum-known-next-2 : (t : ℕ)
@@ -1117,6 +1130,8 @@ pub +evaluate+read-part+rerun-spec : {M : Type 1} → statement M
     (rerun-read-part-requires t)
     (rerun-end-iteration-requires t)
     (rerun-enum-known-next t)
+    (rerun-sub-passes t)
+    (rerun-add-passes t)
     (rerun-same-length t)
     (rerun-same-length-2 t)
     (rerun-returns t)

@@ -35,19 +35,21 @@ result-requires c κs =
     let s = c11 .before .before .before .before in
     let a = s .args in
     let o = c11 .o2 .given in
-    let y = c4 .update-parent in
-    record {
-      room =
-          record {
-            stack = parent-counts (a .h .goals) (a .height) (a .step) _ _ (a .graph .now) (y .last .0)
-                (ended-stack (a .h) (a .height) (a .goal) (a .graph .now) (a .cache .now) (a .o) (s .pre) (o .0 .0) (o .0 .1 .0) (o .0 .1 .1 .0) (o .1))
-                (y .kept .0) (y .ensures);
-            under = s .pre .under;
-            known = s .pre .known;
-            few = few-evaluated (a .h .goals) (a .o) (o .0 .0) (o .0 .1 .0) (o .0 .1 .1 .0) (o .1) (s .pre .few);
-          };
-      cache-bytes = s .pre .cache-bytes;
-    }
+    let y = c4 .update-parent in (
+      record {
+        room =
+            record {
+              stack = parent-counts (a .h .goals) (a .height) (a .step) _ _ (a .graph .now) (y .last .0)
+                  (ended-stack (a .h) (a .height) (a .goal) (a .graph .now) (a .cache .now) (a .ran) (s .pre) (o .0 .0) (o .0 .1 .0) (o .0 .1 .1 .0) (o .1))
+                  (y .kept .0) (y .ensures);
+              under = s .pre .under;
+              known = s .pre .known;
+              few = few-evaluated (a .h .goals) (a .ran .outcome) (o .0 .0) (o .0 .1 .0) (o .0 .1 .1 .0) (o .1) (s .pre .few);
+            };
+        cache-bytes = s .pre .cache-bytes;
+      },
+      s .pre .passes,
+    )
 
 returns : tie.Need-returns
 returns c =
@@ -55,7 +57,7 @@ returns c =
     let o = c .before .o in
     record {
       is =
-          λ root. finish-stopped (a .h) root (a .height) (a .goal) (a .available) (a .step) (a .graph .now) (a .cache .now) (a .o)
+          λ root. finish-stopped (a .h) root (a .height) (a .goal) (a .available) (a .step) (a .ran .passes) (a .graph .now) (a .cache .now) (a .ran .outcome)
           (o .given .0 .0) (o .given .1);
       few = tt;
     }
@@ -81,7 +83,7 @@ returns-2 c =
     record {
       is =
           λ root. z .ensures .is root
-          ∙ finish-evaluated (a .h) root (a .height) (a .goal) (a .available) (a .step) (a .graph .now) (a .cache .now) (a .o) (o .0 .0)
+          ∙ finish-evaluated (a .h) root (a .height) (a .goal) (a .available) (a .step) (a .ran .passes) (a .graph .now) (a .cache .now) (a .ran .outcome) (o .0 .0)
           (o .0 .1 .0) (o .0 .1 .1 .0) (o .1) (d .result) (minus .result)
           (required-is (a .h .goals) (a .height) (a .graph .now) (frame-at .result .now) (d .result) (frame-at .ensures) (d .ensures .0))
           (minus .ensures) (y .last .0) (y .ensures);

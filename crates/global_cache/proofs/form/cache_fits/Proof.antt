@@ -4,31 +4,30 @@ use borrow.Author.Tests.{not-true, not-false}
 use Prim.Native.Nat.{_-_, _≤_}
 use native.Mathlib.Omega.{arith}
 use Rattle.definition.specs.CacheForm.{goalsFit}
-use Rattle.global_cache.specs.Cache.{headerWith}
 use Rattle.global_cache.proofs.Fits.{goals-fail, goals-more}
 use Rattle.global_cache.proofs.form.cache_fits.Statement.{statement}
 use Rattle.global_cache.proofs.form.cache_fits.Tie as tie
 
 abbrev Inv-loop : tie.InvT-loop
-Inv-loop cache goals top goal₀ goal = (goal ≤ goals) × (true ≡ goalsFit (headerWith goals top) cache goal)
+Inv-loop cache h goal₀ goal = (goal ≤ h .goals) × (true ≡ goalsFit h cache goal)
 
 abbrev μ-loop : tie.MeasureT-loop
-μ-loop cache goals top goal₀ goal = goals - goal
+μ-loop cache h goal₀ goal = h .goals - goal
 
 loop-holds : tie.Need-loop-holds Inv-loop μ-loop
 loop-holds c = (omega arith, refl)
 
 slots-fit-requires : tie.Need-slots-fit-requires Inv-loop μ-loop
 slots-fit-requires c κs =
-    let s = c .before .before .before in
+    let s = c .before .before .before .before in
     (s .pre, omega arith)
 
 returns : tie.Need-returns Inv-loop μ-loop
 returns c =
-    let l = c .before .before .before in
+    let l = c .before .before .before .before in
     let a = l .before .before .args in
-    goals-fail (headerWith (a .goals) (a .top)) (a .cache .now) (l .loop .goal) (c .before .slots-fit .result) (c .before .slots-fit .ensures) (a .goals) (omega arith)
-    (not-true (c .before .slots-fit .result) (c .if1 .taken))
+    goals-fail (a .h) (a .cache .now) (l .loop .goal) (c .before .slots-fit .result) (c .before .slots-fit .ensures) (a .h .goals) (omega arith)
+    (not-true (c .before .slots-fit .result) (c .if2 .taken))
 
 add-goal : tie.Need-add-goal Inv-loop μ-loop
 add-goal c = omega arith
@@ -38,19 +37,19 @@ loop-less c = omega arith
 
 loop-again : tie.Need-loop-again Inv-loop μ-loop
 loop-again c =
-    let l = c .before .before .before in
+    let l = c .before .before .before .before in
     let a = l .before .before .args in (
       omega arith,
-      goals-more (headerWith (a .goals) (a .top)) (a .cache .now) (l .loop .goal) (c .before .slots-fit .result) (c .before .slots-fit .ensures) (l .loop .inv .1)
-          (not-false (c .before .slots-fit .result) (c .if1 .left)),
+      goals-more (a .h) (a .cache .now) (l .loop .goal) (c .before .slots-fit .result) (c .before .slots-fit .ensures) (l .loop .inv .1)
+          (not-false (c .before .slots-fit .result) (c .if2 .left)),
     )
 
 returns-2 : tie.Need-returns-2 Inv-loop μ-loop
 returns-2 c =
-    let l = c .before in
+    let l = c .before .before in
     let a = l .before .before .args in
-    let e : l .loop .goal ≡ a .goals = omega arith in
-    l .loop .inv .1 ∙ ap (goalsFit (headerWith (a .goals) (a .top)) (a .cache .now)) e
+    let e : l .loop .goal ≡ a .h .goals = omega arith in
+    l .loop .inv .1 ∙ ap (goalsFit (a .h) (a .cache .now)) e
 
 pub cache-fits-spec : {M : Type 1} → statement M
 cache-fits-spec =

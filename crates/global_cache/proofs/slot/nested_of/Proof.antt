@@ -16,7 +16,7 @@ part-result-end : tie.Need-part-result-end
 part-result-end c = search needs
 
 returns : tie.Need-returns
-returns c = sym (drop-of-length-le (c .before .before .args .slot .now) {i = 3} (omega arith))
+returns c = sym (drop-of-length-le (c .before .before .args .slot .now) {i = 4} (omega arith))
 
 sub-result-2 : tie.Need-sub-result-2
 sub-result-2 c = search needs
@@ -28,7 +28,7 @@ part-result-end-2 : tie.Need-part-result-end-2
 part-result-end-2 c = search needs
 
 returns-2 : tie.Need-returns-2
-returns-2 c = part-from 3 (c .before .before .args .slot .now)
+returns-2 c = part-from 4 (c .before .before .args .slot .now)
 
 pub nested-of-spec : {M : Type 1} → statement M
 nested-of-spec =

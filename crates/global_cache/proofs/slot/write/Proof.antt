@@ -15,6 +15,9 @@ slice-write-slot-2 c = simp length-set (omega arith)
 slice-write-slot-3 : tie.Need-slice-write-slot-3
 slice-write-slot-3 c = simp length-set (omega arith)
 
+slice-write-slot-4 : tie.Need-slice-write-slot-4
+slice-write-slot-4 c = simp length-set (omega arith)
+
 write-nested-requires : tie.Need-write-nested-requires
 write-nested-requires c κs = search needs
 
@@ -24,7 +27,7 @@ same-length c = c .before .before .write-nested .kept .0 ∙ simp length-set
 returns : tie.Need-returns
 returns c =
     let a = c .before .before .before .before .before .before in
-    c .before .before .write-nested .ensures ∙ held-bytes (a .args .slot .now) (a .args .nested .now) 1 (a .args .result) (a .args .required) (a .pre)
+    c .before .before .write-nested .ensures ∙ held-bytes (a .args .slot .now) (a .args .nested .now) 1 (a .args .result) (a .args .required) (a .args .passes) (a .pre)
 
 pub write-spec : {M : Type 1} → statement M
 write-spec =
@@ -33,6 +36,7 @@ write-spec =
     slice-write-slot
     slice-write-slot-2
     slice-write-slot-3
+    slice-write-slot-4
     write-nested-requires
     same-length
     returns)

@@ -8,13 +8,13 @@ use Rattle.global_cache.proofs.slot.write_nested.Statement.{statement}
 use Rattle.global_cache.proofs.slot.write_nested.Tie as tie
 
 abbrev Inv-loop : tie.InvT-loop
-Inv-loop slot₀ nested i₀ slot i = (i ≤ length nested) × (length slot ≡ length slot₀) × (slot ≡ paste slot₀ 3 nested i)
+Inv-loop slot₀ nested i₀ slot i = (i ≤ length nested) × (length slot ≡ length slot₀) × (slot ≡ paste slot₀ 4 nested i)
 
 abbrev μ-loop : tie.MeasureT-loop
 μ-loop slot₀ nested i₀ slot i = length nested - i
 
 loop-holds : tie.Need-loop-holds Inv-loop μ-loop
-loop-holds c = (omega arith, refl, paste-zero (c .args .slot .now) 3 (c .args .nested .now))
+loop-holds c = (omega arith, refl, paste-zero (c .args .slot .now) 4 (c .args .nested .now))
 
 shared-slice-read-slot : tie.Need-shared-slice-read-slot Inv-loop μ-loop
 shared-slice-read-slot c = omega arith
@@ -34,7 +34,7 @@ loop-less c = omega arith
 loop-again : tie.Need-loop-again Inv-loop μ-loop
 loop-again c =
     let l = c .before .before in
-    (omega arith, simp length-set (l .loop .inv .1), pasted-more 3 (l .before .args .slot .now) (l .before .args .nested .now) (l .loop .slot) (l .loop .i) (l .loop .inv .2) (l .before .pre) (omega arith))
+    (omega arith, simp length-set (l .loop .inv .1), pasted-more 4 (l .before .args .slot .now) (l .before .args .nested .now) (l .loop .slot) (l .loop .i) (l .loop .inv .2) (l .before .pre) (omega arith))
 
 same-length : tie.Need-same-length Inv-loop μ-loop
 same-length c = c .before .loop .inv .1
@@ -42,7 +42,7 @@ same-length c = c .before .loop .inv .1
 returns : tie.Need-returns Inv-loop μ-loop
 returns c =
     let l = c .before in
-    pasted-all 3 (l .before .args .slot .now) (l .before .args .nested .now) (l .loop .slot) (l .loop .i) (l .loop .inv .2) (l .before .pre) (omega arith)
+    pasted-all 4 (l .before .args .slot .now) (l .before .args .nested .now) (l .loop .slot) (l .loop .i) (l .loop .inv .2) (l .before .pre) (omega arith)
 
 pub write-nested-spec : {M : Type 1} → statement M
 write-nested-spec =

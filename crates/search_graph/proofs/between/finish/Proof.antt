@@ -27,9 +27,10 @@ finish-requires c κs =
       under = s .pre .stack;
       known = s .pre .known;
       few = s .pre .few;
+      passes = s .pre .passes;
       counts =
           lent-stack (s .args .h .goals) (s .args .work .now) (graph-length .result) (s .pre .bytes) (graph-length .ensures .0)
-          (λ st. TaskCountsIn st (s .args .o)) (s .args .height) (s .pre .counts);
+          (λ st. TaskCountsIn st (s .args .ran .outcome)) (s .args .height) (s .pre .counts);
     }
 
 same-length : tie.Need-same-length
@@ -44,7 +45,7 @@ returns c =
     let l = c4 .finish in
     let graph-length = c7 .graph-length in
     finished (s .args .h) (s .args .work .now) (graph-length .result) (s .pre .bytes) (graph-length .ensures .0) (l .last .1 .1 .0)
-    (l .kept .1 .1 .0) (s .args .height) (s .args .goal) (s .args .step) (s .args .available) (s .args .o) (s .args .cache .now)
+    (l .kept .1 .1 .0) (s .args .height) (s .args .goal) (s .args .step) (s .args .available) (s .args .ran) (s .args .cache .now)
     (l .last .1 .0) (l .result) (l .ensures)
 
 pub finish-spec : {M : Type 1} → statement M

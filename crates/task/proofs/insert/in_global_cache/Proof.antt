@@ -15,8 +15,8 @@ required-depth-requires : tie.Need-required-depth-requires
 required-depth-requires c κs =
     let s = c .before .before .before in
     let frame-at = c .frame-at in
-    frame-bytes (s .args .h .goals) (s .args .graph .now) (frame-at .result .now) (s .args .height) (s .pre .room .stack .bytes)
-    (s .pre .room .under) (frame-at .ensures)
+    frame-bytes (s .args .h .goals) (s .args .graph .now) (frame-at .result .now) (s .args .height) (s .pre .0 .room .stack .bytes)
+    (s .pre .0 .room .under) (frame-at .ensures)
 
 returns : tie.Need-returns
 returns c =
@@ -26,7 +26,7 @@ returns c =
     let frame-at = c .before .before .frame-at in
     record {
       is =
-          λ root. global-past (a .h) root (a .height) (a .entries) (a .goal) (a .overflow) (a .answer) (a .graph .now) (a .cache .now)
+          λ root. global-past (a .h) root (a .height) (a .entries) (a .goal) (a .overflow) (a .answer) (a .passes) (a .graph .now) (a .cache .now)
           (d .result)
           (required-is (a .h .goals) (a .height) (a .graph .now) (frame-at .result .now) (d .result) (frame-at .ensures) (d .ensures .0))
           (c .if1 .taken);
@@ -39,11 +39,12 @@ nested-at-requires c κs = search needs
 insert-requires : tie.Need-insert-requires
 insert-requires c κs =
     let s = c .before .before .before .before .before .before .before in (
-      s .pre .cache-bytes,
-      s .pre .room .known,
+      s .pre .0 .cache-bytes,
+      s .pre .0 .room .known,
       omega arith,
+      s .pre .1,
       ap length (c .before .nested-at .ensures)
-          ∙ nested-length (s .args .h .goals) (s .args .graph .now) (s .args .height) (s .pre .room .stack .bytes) (s .pre .room .under),
+          ∙ nested-length (s .args .h .goals) (s .args .graph .now) (s .args .height) (s .pre .0 .room .stack .bytes) (s .pre .0 .room .under),
     )
 
 enum-told : tie.Need-enum-told
@@ -67,11 +68,11 @@ returns-2 c =
     let nested-at = c6 .nested-at in
     record {
       is =
-          λ root. global-kept (a .h) root (a .height) (a .entries) (a .goal) (a .overflow) (a .answer) (a .graph .now) (a .cache .now)
+          λ root. global-kept (a .h) root (a .height) (a .entries) (a .goal) (a .overflow) (a .answer) (a .passes) (a .graph .now) (a .cache .now)
           (d .result)
           (required-is (a .h .goals) (a .height) (a .graph .now) (frame-at .result .now) (d .result) (frame-at .ensures) (d .ensures .0))
           (if1 .left) (nested-at .result .now) (nested-at .ensures) (y .result) (y .last .0) (y .ensures .0) (c .enum-told .given .1);
-      few = s .pre .room .few;
+      few = s .pre .0 .room .few;
     }
 
 same-length-2 : tie.Need-same-length-2
@@ -89,7 +90,7 @@ returns-3 c =
     let nested-at = c6 .nested-at in
     record {
       is =
-          λ root. global-conflict (a .h) root (a .height) (a .entries) (a .goal) (a .overflow) (a .answer) (a .graph .now) (a .cache .now)
+          λ root. global-conflict (a .h) root (a .height) (a .entries) (a .goal) (a .overflow) (a .answer) (a .passes) (a .graph .now) (a .cache .now)
           (d .result)
           (required-is (a .h .goals) (a .height) (a .graph .now) (frame-at .result .now) (d .result) (frame-at .ensures) (d .ensures .0))
           (if1 .left) (nested-at .result .now) (nested-at .ensures) (y .result) (y .last .0) (y .ensures .0) (c .enum-told2 .given .1);

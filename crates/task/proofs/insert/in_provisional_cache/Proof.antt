@@ -26,7 +26,7 @@ returns c =
     let enum-told = c .enum-told in
     record {
       is =
-          λ root cache. provisional-kept (a .h) root (a .height) (a .entries) (a .goal) (a .overflow) (a .answer) (a .graph .now) cache
+          λ root cache passes. provisional-kept (a .h) root (a .height) (a .entries) (a .goal) (a .overflow) (a .answer) passes (a .graph .now) cache
           (a .step) (y .last .0) (y .result) (y .ensures) (s .pre .under) (enum-told .given .1);
       few =
           provisional-few (a .h .goals) (a .height) (a .entries) (a .goal) (a .step) (a .overflow) (a .answer) (a .graph .now)
@@ -43,7 +43,7 @@ returns-2 c =
     let y = c .before .before .before .before .insert in
     record {
       is =
-          λ root cache. provisional-full (a .h) root (a .height) (a .entries) (a .goal) (a .overflow) (a .answer) (a .graph .now) cache
+          λ root cache passes. provisional-full (a .h) root (a .height) (a .entries) (a .goal) (a .overflow) (a .answer) passes (a .graph .now) cache
           (a .step) (y .last .0) (y .result) (y .ensures) (c .enum-told2 .given .1);
       few = tt;
     }

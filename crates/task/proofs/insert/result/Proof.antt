@@ -26,7 +26,7 @@ returns c =
     let if1 = c5 .if1 in
     record {
       is =
-          λ root. result-global (a .h) root (a .height) (a .entries) (a .goal) (a .overflow) (a .answer) (a .graph .now) (a .cache .now)
+          λ root. result-global (a .h) root (a .height) (a .entries) (a .goal) (a .overflow) (a .answer) (a .passes) (a .graph .now) (a .cache .now)
           (a .step) (is-headless .result) (is-headless .ensures) (if1 .taken)
           (outcomeOf (a .h .goals) root (a .height) (a .graph .now) (y .last .0) (y .result)) (y .ensures .is root);
       few = y .ensures .few;
@@ -49,9 +49,9 @@ returns-2 c =
     let if2 = c4 .if2 in
     record {
       is =
-          λ root. result-provisional (a .h) root (a .height) (a .entries) (a .goal) (a .overflow) (a .answer) (a .graph .now)
+          λ root. result-provisional (a .h) root (a .height) (a .entries) (a .goal) (a .overflow) (a .answer) (a .passes) (a .graph .now)
           (a .cache .now) (a .step) (is-headless .result) (is-headless .ensures) (if1 .left) (if2 .taken)
-          (outcomeOf (a .h .goals) root (a .height) (y .last .0) (a .cache .now) (y .result)) (y .ensures .is root (a .cache .now));
+          (outcomeOf (a .h .goals) root (a .height) (y .last .0) (a .cache .now) (y .result)) (y .ensures .is root (a .cache .now) (a .passes));
       few = y .ensures .few;
     }
 
@@ -65,9 +65,9 @@ returns-3 c =
     let is-headless = c .before .before .is-headless in
     record {
       is =
-          λ root. result-alone (a .h) root (a .height) (a .entries) (a .goal) (a .overflow) (a .answer) (a .graph .now) (a .cache .now)
+          λ root. result-alone (a .h) root (a .height) (a .entries) (a .goal) (a .overflow) (a .answer) (a .passes) (a .graph .now) (a .cache .now)
           (a .step) (is-headless .result) (is-headless .ensures) (c .before .if1 .left) (c .if2 .left);
-      few = s .pre .room .few;
+      few = s .pre .0 .room .few;
     }
 
 pub result-spec : {M : Type 1} → statement M
