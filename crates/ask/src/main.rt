@@ -99,7 +99,7 @@ fn passes(book: &[u8], cache: &[u8], line: &[u8]) -> u8
 fn print(line: [u8; 13], shows: bool, passes: u8) {
     if shows {
         io::write_all(STDOUT_FILENO, &line[..12]);
-        let columns = question::columns(passes as u16);
+        let columns = book::columns::of_number(passes as u16);
         io::write_all(STDOUT_FILENO, &columns);
         io::write_all(STDOUT_FILENO, b"\n");
         return;

@@ -1,12 +1,12 @@
 -- Tests in a row, and the tests on a column of a line.
 use mathlib.Core.Path.{_≡_, refl, sym, ap, _∙_}
 use mathlib.Core.Bool.{Bool, true, false, _&&_, _||_, not}
-use Prim.Native.Nat.{ℕ, _+_, _*_, _≤_, _<_}
+use Prim.Native.Nat.{ℕ, zero, suc, _+_, _*_, _≤_, _<_}
 use native.Mathlib.Omega.{arith}
 use native.Mathlib.Decide.{ℕ-discrete, decLe}
 use lib.Dec.{eqb, leb}
 use borrow.Author.Tests.{le-leb, lt-leb, eq-eqb, ne-eqb, eqb-true, not-true, not-false}
-use Rattle.definition.specs.Line.{isDigit, isSpace, isLeadingDigit, isField, digitValue, fieldValue}
+use Rattle.definition.specs.Line.{isDigit, isSpace, isLeadingDigit, isField, digitValue, fieldValue, leadingColumn, lastColumn}
 
 pub stop : (a b : Bool) → a ≡ false → false ≡ a && b
 stop a b e = rw e
@@ -130,3 +130,8 @@ module _ (x y z : ℕ) where
       where
         go : (a b : Bool) → a ≡ false → b ≡ a || b
         go a b e = rw e
+
+-- ---- a column, written
+pub not-nothing : (n r : ℕ) → (n ≡ 0 → ⊥) → r ≡ lastColumn n → r ≡ leadingColumn n
+not-nothing zero r h e = elim (h refl) [ ]
+not-nothing (suc n) r h e = e

@@ -1,6 +1,7 @@
 // A book: lines of 16 bytes, each of five fields of three columns and a newline. A
 // header, then for each goal in order a line and its part.
 pub mod code;
+pub mod columns;
 mod grammar;
 mod header;
 pub mod line;

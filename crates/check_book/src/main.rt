@@ -6,7 +6,7 @@ use libc::STDOUT_FILENO;
 // The last three digits of a number; no line has a longer one.
 fn print(n: u64) {
     let low = (n % 1000) as u16;
-    let columns = question::columns(low);
+    let columns = book::columns::of_number(low);
     io::write_all(STDOUT_FILENO, &columns);
 }
 

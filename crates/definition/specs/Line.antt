@@ -1,5 +1,5 @@
 -- A line of a book: 16 bytes, five fields of three columns and a newline.
-use Prim.Native.Nat.{ℕ, zero, suc, _+_, _-_, _*_}
+use Prim.Native.Nat.{ℕ, zero, suc, _+_, _-_, _*_, _/_, _%_}
 use mathlib.Core.Bool.{Bool, true, false, _&&_, _||_, not}
 use mathlib.Core.Option.{Option, none, some}
 use mathlib.Core.List.{List, [], _∷_}
@@ -26,6 +26,18 @@ digitValue c = c - 48
 
 abbrev pub fieldValue : ℕ → ℕ → ℕ → ℕ
 fieldValue x y z = digitValue x * 100 + digitValue y * 10 + digitValue z
+
+-- a number, written: right-justified after spaces, zero as "  0"
+abbrev pub lastColumn : ℕ → ℕ
+lastColumn n = 48 + n % 10
+
+-- a space where nothing is left of the number
+abbrev pub leadingColumn : ℕ → ℕ
+leadingColumn zero = 32
+leadingColumn (suc n) = lastColumn (suc n)
+
+abbrev pub columns : ℕ → List ℕ
+columns n = leadingColumn (n / 100) ∷ leadingColumn (n / 10) ∷ lastColumn n ∷ []
 
 -- the field whose first column is at place i
 abbrev pub fieldAt : List ℕ → ℕ → Option ℕ

@@ -13,7 +13,7 @@ use Rattle.definition.specs.declared.replies.Refusal.{Refusal}
 use Rattle.definition.specs.declared.replies.Refusal.the-variants.{BookLength, BookLine, BookHeader, BookBody, UnknownGoal, DepthAboveTop, CacheLength, CacheForm, WorkLength, ProvisionalCacheFull, CacheConflict, Unreachable}
 use Rattle.definition.proofs.Tests.{not-second}
 use Rattle.question.specs.declared.Question.the-variants.{Asked, IllFormed}
-use Rattle.question.specs.Lines.{questionOf, readQuestion, leadingColumn, lastColumn}
+use Rattle.question.specs.Lines.{questionOf, readQuestion}
 
 -- ---- reading
 no-first : (b : Bool) (y : Option ℕ) → IllFormed ≡ questionOf b none y
@@ -74,10 +74,6 @@ module _ (s : List ℕ) where
       line i = sym (eq-eqb (length s) 7 long) i && sym (eq-eqb (getD s 6 0) 10 newline) i
 
 -- ---- writing
-pub not-nothing : (n r : ℕ) → (n ≡ 0 → ⊥) → r ≡ lastColumn n → r ≡ leadingColumn n
-not-nothing zero r h e = elim (h refl) [ ]
-not-nothing (suc n) r h e = e
-
 pub refusal-small : (r : Refusal) → refusalNumber r < 256
 refusal-small BookLength = lit< tt
 refusal-small BookLine = lit< tt

@@ -1,12 +1,12 @@
 -- The lines that the question program reads and writes, as document 01 has them.
-use Prim.Native.Nat.{ℕ, zero, suc, _+_, _/_, _%_}
+use Prim.Native.Nat.{ℕ}
 use mathlib.Core.Bool.{Bool, true, false, _&&_}
 use mathlib.Core.Option.{Option, none, some}
 use mathlib.Core.List.{List, [], _∷_, _++_}
 use lib.Dec.{eqb}
 use lib.ListN.{length, getD}
 use Rattle.definition.specs.declared.replies.Response.{Response}
-use Rattle.definition.specs.Line.{fieldAt}
+use Rattle.definition.specs.Line.{columns, fieldAt}
 use Rattle.definition.specs.Answers.{refusalNumber, responseAnswer, responseRefusal}
 use Rattle.question.specs.declared.Question.{Question}
 use Rattle.question.specs.declared.Question.the-variants.{Asked, IllFormed}
@@ -22,18 +22,6 @@ questionOf false goal depth = IllFormed
 
 abbrev pub readQuestion : List ℕ → Question
 readQuestion s = questionOf (eqb (length s) 7 && eqb (getD s 6 0) 10) (fieldAt s 0) (fieldAt s 3)
-
--- ---- a number in three columns: right-justified after spaces, zero as "  0"
-abbrev pub lastColumn : ℕ → ℕ
-lastColumn n = 48 + n % 10
-
--- a space where nothing is left of the number
-abbrev pub leadingColumn : ℕ → ℕ
-leadingColumn zero = 32
-leadingColumn (suc n) = lastColumn (suc n)
-
-abbrev pub columns : ℕ → List ℕ
-columns n = leadingColumn (n / 100) ∷ leadingColumn (n / 10) ∷ lastColumn n ∷ []
 
 -- ---- an output line: goal, depth, answer and refusal, three columns each, and a newline; 13 bytes
 abbrev pub outputLine : ℕ → ℕ → ℕ → ℕ → List ℕ

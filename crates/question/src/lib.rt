@@ -1,10 +1,11 @@
 // The lines that the question program reads and writes.
+use book::columns;
 use book::line;
 use definition::replies::Refusal;
 use definition::replies::Response;
 ghost use mathlib.Core.Path.{_≡_};
 ghost use Rattle.definition.specs.Answers.{responseAnswer, responseRefusal};
-ghost use Rattle.question.specs.Lines.{readQuestion, leadingColumn, lastColumn, columns, outputLine, replyLine, endingNumber, endingLine};
+ghost use Rattle.question.specs.Lines.{readQuestion, outputLine, replyLine, endingNumber, endingLine};
 
 // A question line, read: goal and depth.
 pub enum Question {
@@ -42,52 +43,23 @@ pub fn read_question(s: &[u8]) -> Question
 
 // ---- writing
 
-// A number's last column: its last digit.
-fn last_column(n: u16) -> u8
-    ensures { λ r. ⌜ r ≡ lastColumn n ⌝ }
-{
-    48 + (n % 10) as u8
-}
-
-// A column before the last: the last digit of what is left of the number, or a space
-// where nothing is.
-fn leading_column(n: u16) -> u8
-    ensures { λ r. ⌜ r ≡ leadingColumn n ⌝ }
-{
-    if n == 0 {
-        return 32;
-    }
-    last_column(n)
-}
-
-// A number, three columns.
-pub fn columns(n: u16) -> [u8; 3]
-    ensures { λ r. ⌜ r ≡ columns n ⌝ }
-{
-    [
-        leading_column(n / 100),
-        leading_column(n / 10),
-        last_column(n),
-    ]
-}
-
 // Four numbers, three columns each, and a newline.
 fn output_line(goal: u16, depth: u16, answer: u16, refusal: u16) -> [u8; 13]
     ensures { λ r. ⌜ r ≡ outputLine goal depth answer refusal ⌝ }
 {
     [
-        leading_column(goal / 100),
-        leading_column(goal / 10),
-        last_column(goal),
-        leading_column(depth / 100),
-        leading_column(depth / 10),
-        last_column(depth),
-        leading_column(answer / 100),
-        leading_column(answer / 10),
-        last_column(answer),
-        leading_column(refusal / 100),
-        leading_column(refusal / 10),
-        last_column(refusal),
+        columns::leading(goal / 100),
+        columns::leading(goal / 10),
+        columns::last(goal),
+        columns::leading(depth / 100),
+        columns::leading(depth / 10),
+        columns::last(depth),
+        columns::leading(answer / 100),
+        columns::leading(answer / 10),
+        columns::last(answer),
+        columns::leading(refusal / 100),
+        columns::leading(refusal / 10),
+        columns::last(refusal),
         10,
     ]
 }

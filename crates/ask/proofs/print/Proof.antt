@@ -16,8 +16,8 @@ slice-aggregate-write-all c =
 write-all-requires : tie.Need-write-all-requires
 write-all-requires c κs = search needs
 
-columns-requires : tie.Need-columns-requires
-columns-requires c κs = search needs
+of-number-requires : tie.Need-of-number-requires
+of-number-requires c κs = search needs
 
 slice-aggregate-write-all-2 : tie.Need-slice-aggregate-write-all-2
 slice-aggregate-write-all-2 c = search needs
@@ -50,7 +50,7 @@ print-spec =
     array-share-prefix-line
     slice-aggregate-write-all
     write-all-requires
-    columns-requires
+    of-number-requires
     slice-aggregate-write-all-2
     write-all-requires-2
     slice-aggregate-write-all-3

@@ -1,0 +1,78 @@
+// A book in its plain form: an all directly inside an all is spliced in, likewise any
+// inside any, and an all or any of one part becomes that part, until no rule fits.
+mod line;
+mod part;
+
+use book::BookRead;
+use definition::format::Line;
+use definition::replies::Refusal;
+ghost use mathlib.Core.Path.{_≡_};
+ghost use Prim.Native.Nat.{_*_, _+_, _≤_, _<_};
+ghost use lib.ListN.{length, take};
+
+pub enum Response {
+    // The length used.
+    Written(u16),
+    // One of the refusals 1 to 4.
+    Unread(Refusal),
+    // Refusal 14: the output is not as long as the book.
+    OutputLength,
+}
+
+impl Response {
+    // Length used + 65536 * refusal.
+    pub fn code(self) -> u32 {
+        match self {
+            Response::Written(n) => n as u32,
+            Response::Unread(r) => 65536 * (r.number() as u32),
+            Response::OutputLength => 917504,
+        }
+    }
+}
+
+// Writes a goal's line, and its part in its plain form.
+fn write_goal(body: &[u8], out: &mut [u8], goal: u16) -> part::Sizes
+{
+    line::write(out, Line { code: 1, first: goal, second: 0, third: 0, fourth: 0 });
+    let s = part::write(&body[16..], &mut out[16..], 8);
+    part::Sizes { read: s.read + 16, wrote: s.wrote + 16 }
+}
+
+// Writes a book that was read; how many bytes its plain form takes.
+fn write_book(book: &[u8], out: &mut [u8], goals: usize) -> usize
+{
+    line::write(out, book::line::first(book));
+    let mut read: usize = 16;
+    let mut wrote: usize = 16;
+    let mut g: u16 = 0;
+    while (g as usize) < goals {
+        let s = write_goal(&book[read..], &mut out[wrote..], g);
+        read = read + s.read;
+        wrote = wrote + s.wrote;
+        g = g + 1;
+    }
+    buffer::fill_zero(&mut out[wrote..]);
+    wrote
+}
+
+// A book that was read, into an output of any length.
+fn write_into(book: &[u8], out: &mut [u8], goals: usize) -> Response
+{
+    if out.len() != book.len() {
+        return Response::OutputLength;
+    }
+    let n = write_book(book, out, goals);
+    Response::Written(n as u16)
+}
+
+// Writes the book's plain form to the output, and zeros behind it. A refusal leaves the
+// output as it was.
+pub fn tidy(book: &[u8], out: &mut [u8]) -> Response
+{
+    let mut starts = [0u16; 64];
+    let read = book::read(book, &mut starts);
+    match read {
+        BookRead::Rejected(r) => Response::Unread(r),
+        BookRead::Accepted(h) => write_into(book, out, h.goals),
+    }
+}

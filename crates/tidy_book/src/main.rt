@@ -1,0 +1,23 @@
+// A book's plain form, for scripts. Reads the file book.txt and prints the plain form's
+// lines; where the book is refused, one line with the refusal's number, three columns.
+use libc::STDOUT_FILENO;
+use tidy::Response;
+
+fn main() {
+    let mut bytes = io::large_buffer();
+    let mut out = io::large_buffer();
+    let n = book_file::read_book(&mut bytes);
+    let r = tidy::tidy(&bytes[..n], &mut out[..n]);
+    match r {
+        Response::Written(length) => {
+            let k = length as usize;
+            io::write_all(STDOUT_FILENO, &out[..k]);
+        }
+        _ => {
+            let number = (r.code() / 65536) as u16;
+            let columns = book::columns::of_number(number);
+            io::write_all(STDOUT_FILENO, &columns);
+            io::write_all(STDOUT_FILENO, b"\n");
+        }
+    }
+}
