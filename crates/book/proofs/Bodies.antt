@@ -75,7 +75,7 @@ abbrev ifGoal : ℕ → List ℕ → Bool → Option TakenPart
 ifGoal goals s b = elim b [ true ↦ readPart goals 8 false (linesIn (drop 16 s)) | false ↦ none ]
 
 -- its part is read after its line
-goal-part : (goals g : ℕ) (s : List ℕ) (t : TakenPart) → 16 ≤ length s → readGoal goals g (linesIn s) ≡ some t → partRead goals false (drop 16 s) ≡ some t
+pub goal-part : (goals g : ℕ) (s : List ℕ) (t : TakenPart) → 16 ≤ length s → readGoal goals g (linesIn s) ≡ some t → partRead goals false (drop 16 s) ≡ some t
 unfolding partRead
 goal-part goals g s t room e = go (isGoalLine g (lineIn s)) (sym (ap (readGoal goals g) (lines-cons s room)) ∙ e)
   where

@@ -17,10 +17,10 @@ use Rattle.definition.specs.Reader.{TakenGoals, readGoals, endOfBody, readBody,
 use Rattle.definition.specs.Reader as reader
 use Rattle.book.specs.declared.BookRead.{BookRead}
 use Rattle.book.specs.declared.BookRead.the-variants.{Accepted, Rejected}
-use Rattle.book.specs.Lines.{lineIn, linesIn, linesIf}
+use Rattle.book.specs.Lines.{lineIn, linesIn, linesIf, allFit}
 use Rattle.book.specs.Read.{headerRead, Started, StartedIf, noLine, wholeBody, StartedBy, HeaderInRange, IsBook, bookOr, bookIn}
 use Rattle.book.proofs.Tests.{refused, held}
-use Rattle.book.proofs.Lines.{lines-cons}
+use Rattle.book.proofs.Lines.{lines-cons, lines-of}
 use Rattle.book.proofs.Heads.{in-range}
 
 -- a length in range
@@ -104,7 +104,14 @@ module _ (book starts : List ℕ) where
         unfolding taken
         whole-book h k b e n s = whole taken in-body (held (e ∙ ap (λ (x : Header). wholeBody (goalsOf x)) k) n) (subst (λ (x : Header). StartedBy (goalsOf x) (x .goals) book starts) k s) h k
 
--- ---- a book that was accepted
+-- ---- a book that was accepted: its lines, its header and its body
+pub record ReadAs (bytes : List ℕ) (b : Book) : Type 0 where
+  pub long : lengthInRange (length bytes) ≡ true
+  pub lines : linesOf bytes ≡ some (linesIn bytes)
+  pub in-range : headerInRange (lineIn bytes) ≡ true
+  pub header : headerOf (lineIn bytes) ≡ b .header
+  pub body : readGoals (b .header .goals) 0 (b .header .goals) (linesIn (drop 16 bytes)) ≡ some (record { parts = b .parts; rest = [] })
+
 module _ (b : Book) where
   wrong : {A : Type 0} {r : Refusal} → reader.Rejected r ≡ reader.Accepted b → A
   wrong e = let z : _≡_ {A = ℕ} 0 1 = cc in absurd (omega arith)
@@ -112,29 +119,48 @@ module _ (b : Book) where
   same : {a : Book} → reader.Accepted a ≡ reader.Accepted b → a ≡ b
   same e = cc
 
-  by-rest : (h : Header) → HeaderInRange h → (t : TakenGoals) (ls : List Line) → endOfBody h t ls ≡ reader.Accepted b → HeaderInRange (b .header)
-  by-rest h r t [] e = subst (λ (x : Book). HeaderInRange (x .header)) (same e) r
-  by-rest h r t (l ∷ ls) e = wrong e
+  abbrev every : Option TakenGoals
+  every = some (record { parts = b .parts; rest = [] })
 
-  by-goals : (h : Header) → HeaderInRange h → (x : Option TakenGoals) → byGoals h x ≡ reader.Accepted b → HeaderInRange (b .header)
-  by-goals h r none e = wrong e
-  by-goals h r (some t) e = by-rest h r t (t .rest) e
+  by-rest : (h : Header) (t : TakenGoals) (ls : List Line) → t .rest ≡ ls → endOfBody h t ls ≡ reader.Accepted b → (h ≡ b .header) × (some t ≡ every)
+  by-rest h t [] k e =
+      (ap (λ (x : Book). x .header) (same e), λ i. some (record { parts = same e i .parts; rest = k i }))
+  by-rest h t (l ∷ ls) k e = wrong e
 
-  by-header : (l : Line) (ls : List Line) (c : Bool) → headerInRange l ≡ c → byHeader c l ls ≡ reader.Accepted b → HeaderInRange (b .header)
-  by-header l ls true k e = by-goals (headerOf l) (in-range l k) (readGoals (l .first) 0 (l .first) ls) e
-  by-header l ls false k e = wrong e
+  by-goals : (h : Header) (x : Option TakenGoals) → byGoals h x ≡ reader.Accepted b → (h ≡ b .header) × (x ≡ every)
+  by-goals h none e = wrong e
+  by-goals h (some t) e = by-rest h t (t .rest) refl e
 
-  by-lines : (x : Option (List Line)) → byLength true x ≡ reader.Accepted b → HeaderInRange (b .header)
-  by-lines none e = wrong e
-  by-lines (some []) e = wrong e
-  by-lines (some (l ∷ ls)) e = by-header l ls (headerInRange l) refl e
+  by-header : (l : Line) (ls : List Line) (c : Bool) → byHeader c l ls ≡ reader.Accepted b
+      → (c ≡ true) × ((headerOf l ≡ b .header) × (readGoals (l .first) 0 (l .first) ls ≡ every))
+  by-header l ls true e = (refl, by-goals (headerOf l) (readGoals (l .first) 0 (l .first) ls) e)
+  by-header l ls false e = wrong e
 
-  by-length : (c : Bool) (x : Option (List Line)) → byLength c x ≡ reader.Accepted b → HeaderInRange (b .header)
-  by-length true x e = by-lines x e
-  by-length false x e = wrong e
+  by-length : (c d : Bool) (ls : List Line) (x : Option (List Line)) → x ≡ elim d [ true ↦ some ls | false ↦ none ]
+      → byLength c x ≡ reader.Accepted b → (c ≡ true) × ((x ≡ some ls) × (readHeader ls ≡ reader.Accepted b))
+  by-length true true ls x k e = (refl, (k, sym (ap (byLength true) k) ∙ e))
+  by-length true false ls x k e = wrong (sym (ap (byLength true) k) ∙ e)
+  by-length false d ls x k e = wrong e
+
+  pub read-as : (bytes : List ℕ) → readBook bytes ≡ reader.Accepted b → ReadAs bytes b
+  read-as bytes e =
+      let l = by-length (lengthInRange (length bytes)) (allFit bytes) (linesIn bytes) (linesOf bytes) (lines-of bytes ∙ by (allFit bytes)) e in
+      let room : 16 ≤ length bytes = (let f = length-fits (length bytes) (l .0) in omega (arith, f .0)) in
+      let h = by-header (lineIn bytes) (linesIn (drop 16 bytes)) (headerInRange (lineIn bytes)) (sym (ap readHeader (lines-cons bytes room)) ∙ l .1 .1) in
+      record {
+        long = l .0;
+        lines = l .1 .0;
+        in-range = h .0;
+        header = h .1 .0;
+        body = ap (λ (x : Header). readGoals (x .goals) 0 (x .goals) (linesIn (drop 16 bytes))) (sym (h .1 .0)) ∙ h .1 .1;
+      }
+    where
+      by : (t : Bool) → linesIf t bytes ≡ elim t [ true ↦ some (linesIn bytes) | false ↦ none ]
+      by true = refl
+      by false = refl
 
   pub accepted-range : (bytes : List ℕ) → readBook bytes ≡ reader.Accepted b → HeaderInRange (b .header)
-  accepted-range bytes e = by-length (lengthInRange (length bytes)) (linesOf bytes) e
+  accepted-range bytes e = let r = read-as bytes e in subst HeaderInRange (r .header) (in-range (lineIn bytes) (r .in-range))
 
 -- what `read` tells where it accepts
 pub is-book : (bytes starts : List ℕ) (h : Header) → Accepted h ≡ headerRead (readBook bytes) → StartedIf (readBook bytes) bytes starts → IsBook bytes starts h

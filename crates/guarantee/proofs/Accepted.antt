@@ -11,14 +11,12 @@ use lib.ListN.{length, getD, List·getD-eq-default}
 use borrow.Author.Tests.{lt-ltb, le-ltb}
 use Rattle.definition.specs.declared.format.Line.{Line}
 use Rattle.definition.specs.declared.paths.PathKind.{PathKind}
-use Rattle.definition.specs.declared.replies.Refusal.the-variants.{BookLength, BookLine}
 use Rattle.definition.specs.Part.{Book}
-use Rattle.definition.specs.Reader.{BookRead, Accepted, Rejected, readHeader, lengthInRange, linesOf, readBook}
+use Rattle.definition.specs.Reader.{Accepted, linesOf, readBook}
 use Rattle.definition.proofs.Tests.{and-left, and-right}
-use Rattle.book.specs.Lines.{linesIn, linesIf, allFit}
-use Rattle.book.proofs.Lines.{lines-of}
+use Rattle.book.specs.Lines.{linesIn}
 use Rattle.book.specs.Read.{bookIn}
-use Rattle.book.proofs.Books.{length-fits, accepted-range}
+use Rattle.book.proofs.Books.{read-as, length-fits, accepted-range}
 use Rattle.soundness.specs.Groups.{StepLine, stepLines, StepsAreLines, callsSome, hasStep, linked}
 use Rattle.soundness.proofs.Calls.{BookOk, calls-step, exactly, step-calls}
 use Rattle.soundness.proofs.Logic.{both, same-bool}
@@ -37,34 +35,11 @@ is-false : (x : Bool) → (T x → ⊥) → x ≡ false
 is-false x h = same-bool x false h (λ t. absurd t)
 
 module _ (b : Book) where
-  abbrev byLength : Bool → Option (List Line) → BookRead
-  byLength t x =
-      elim t [ false ↦ Rejected BookLength | true ↦ elim x [ none ↦ Rejected BookLine | some ls ↦ readHeader ls ] ]
-
-  by-length : (t fit : Bool) (ls : List Line) (x : Option (List Line))
-      → x ≡ elim fit [ true ↦ some ls | false ↦ none ] → byLength t x ≡ Accepted b → (t ≡ true) × (x ≡ some ls)
-  by-length false fit ls x k e = let z : _≡_ {A = ℕ} 0 1 = cc in absurd (omega arith)
-  by-length true true ls x k e = (refl, k)
-  by-length true false ls x k e =
-      let f : byLength true none ≡ Accepted b = sym (ap (byLength true) k) ∙ e in
-      let z : _≡_ {A = ℕ} 0 1 = cc in
-      absurd (omega arith)
-
-  accepted : (bytes : List ℕ) → readBook bytes ≡ Accepted b
-      → (lengthInRange (length bytes) ≡ true) × (linesOf bytes ≡ some (linesIn bytes))
-  accepted bytes e =
-      by-length (lengthInRange (length bytes)) (allFit bytes) (linesIn bytes) (linesOf bytes)
-      (lines-of bytes ∙ by (allFit bytes)) e
-    where
-      by : (t : Bool) → linesIf t bytes ≡ elim t [ true ↦ some (linesIn bytes) | false ↦ none ]
-      by true = refl
-      by false = refl
-
   pub accepted-lines : (bytes : List ℕ) → readBook bytes ≡ Accepted b → linesOf bytes ≡ some (linesIn bytes)
-  accepted-lines bytes e = accepted bytes e .1
+  accepted-lines bytes e = read-as b bytes e .lines
 
   pub accepted-long : (bytes : List ℕ) → readBook bytes ≡ Accepted b → 16 ≤ length bytes
-  accepted-long bytes e = let f = length-fits (length bytes) (accepted bytes e .0) in omega (arith, f .0)
+  accepted-long bytes e = let f = length-fits (length bytes) (read-as b bytes e .long) in omega (arith, f .0)
 
 module _ (bytes : List ℕ) (is : IsAccepted bytes) where
   pub few-goals : bookIn bytes .header .goals ≤ 64

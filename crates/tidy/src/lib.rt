@@ -3,12 +3,17 @@
 mod line;
 mod part;
 
+use crate::part::Sizes;
 use book::BookRead;
 use definition::format::Line;
 use definition::replies::Refusal;
 ghost use mathlib.Core.Path.{_≡_};
-ghost use Prim.Native.Nat.{_*_, _+_, _≤_, _<_};
-ghost use lib.ListN.{length, take};
+ghost use mathlib.Core.List.{_++_};
+ghost use Prim.Native.Nat.{_≤_, _<_};
+ghost use lib.ListN.{length};
+ghost use Rattle.tidy.specs.Reply.{replied, responseCode, tidy};
+ghost use Rattle.tidy.specs.Promises.{Promises};
+ghost use Rattle.tidy.specs.Engine.{StartsGoal, WroteGoal, IsRead, WroteBook};
 
 pub enum Response {
     // The length used.
@@ -21,7 +26,9 @@ pub enum Response {
 
 impl Response {
     // Length used + 65536 * refusal.
-    pub fn code(self) -> u32 {
+    pub fn code(self) -> u32
+        ensures { λ r. ⌜ r ≡ responseCode self ⌝ }
+    {
         match self {
             Response::Written(n) => n as u32,
             Response::Unread(r) => 65536 * (r.number() as u32),
@@ -31,22 +38,35 @@ impl Response {
 }
 
 // Writes a goal's line, and its part in its plain form.
-fn write_goal(body: &[u8], out: &mut [u8], goal: u16) -> part::Sizes
+fn write_goal(body: &[u8], out: &mut [u8], goal: u16) -> Sizes
+    requires { ⌜ StartsGoal goal (now body) × ((length (now body) ≤ length (now out)) × (length (now body) < 16000)) ⌝ }
+    ensures { λ r. ⌜ WroteGoal goal (now (body .entry)) (now (out .entry)) (now (out .exit)) r ⌝ }
 {
-    line::write(out, Line { code: 1, first: goal, second: 0, third: 0, fourth: 0 });
+    line::write(out, Line {
+        code: 1,
+        first: goal,
+        second: 0,
+        third: 0,
+        fourth: 0,
+    });
     let s = part::write(&body[16..], &mut out[16..], 8);
-    part::Sizes { read: s.read + 16, wrote: s.wrote + 16 }
+    Sizes {
+        read: s.read + 16,
+        wrote: s.wrote + 16,
+    }
 }
 
 // Writes a book that was read; how many bytes its plain form takes.
 fn write_book(book: &[u8], out: &mut [u8], goals: usize) -> usize
+    requires { ⌜ IsRead (now book) goals × (length (now out) ≡ length (now book)) ⌝ }
+    ensures { λ r. ⌜ WroteBook (now (book .entry)) (now (out .entry)) (now (out .exit)) r ⌝ }
 {
     line::write(out, book::line::first(book));
     let mut read: usize = 16;
     let mut wrote: usize = 16;
-    let mut g: u16 = 0;
-    while (g as usize) < goals {
-        let s = write_goal(&book[read..], &mut out[wrote..], g);
+    let mut g: usize = 0;
+    while g < goals {
+        let s = write_goal(&book[read..], &mut out[wrote..], g as u16);
         read = read + s.read;
         wrote = wrote + s.wrote;
         g = g + 1;
@@ -55,8 +75,10 @@ fn write_book(book: &[u8], out: &mut [u8], goals: usize) -> usize
     wrote
 }
 
-// A book that was read, into an output of any length.
+// Writes a book that was read, where the output is as long as it.
 fn write_into(book: &[u8], out: &mut [u8], goals: usize) -> Response
+    requires { ⌜ IsRead (now book) goals ⌝ }
+    ensures { λ r. ⌜ replied r (now (out .exit)) ≡ tidy (now (book .entry)) (now (out .entry)) ⌝ }
 {
     if out.len() != book.len() {
         return Response::OutputLength;
@@ -65,9 +87,11 @@ fn write_into(book: &[u8], out: &mut [u8], goals: usize) -> Response
     Response::Written(n as u16)
 }
 
-// Writes the book's plain form to the output, and zeros behind it. A refusal leaves the
+// Writes the book's plain form to the output, and zeros behind it; a refusal leaves the
 // output as it was.
 pub fn tidy(book: &[u8], out: &mut [u8]) -> Response
+    ensures { λ r. ⌜ replied r (now (out .exit)) ≡ tidy (now (book .entry)) (now (out .entry)) ⌝ }
+    ensures promises { λ r. ⌜ Promises (now (book .entry)) (now (out .entry)) ⌝ }
 {
     let mut starts = [0u16; 64];
     let read = book::read(book, &mut starts);

@@ -1,9 +1,18 @@
 // A line, written.
 use book::columns;
 use definition::format::Line;
+ghost use mathlib.Core.Path.{_≡_};
+ghost use mathlib.Core.List.{_++_};
+ghost use Prim.Native.Nat.{_+_, _/_, _≤_};
+ghost use lib.ListN.{length, drop, set};
+ghost use Rattle.definition.specs.Line.{leadingColumn, lastColumn};
+ghost use Rattle.tidy.specs.Write.{writeLine};
 
 // A number in the three columns from place i on.
 fn put(s: &mut [u8], i: usize, n: u16)
+    requires { ⌜ i + 3 ≤ length (now s) ⌝ }
+    ensures { λ _. ⌜ now (s .exit) ≡ set (set (set (now (s .entry)) i (leadingColumn (n / 100))) (i + 1)
+        (leadingColumn (n / 10))) (i + 2) (lastColumn n) ⌝ }
 {
     s[i] = columns::leading(n / 100);
     s[i + 1] = columns::leading(n / 10);
@@ -11,6 +20,8 @@ fn put(s: &mut [u8], i: usize, n: u16)
 }
 
 fn fill(s: &mut [u8], l: Line)
+    requires { ⌜ length (now s) ≡ 16 ⌝ }
+    ensures { λ _. ⌜ now (s .exit) ≡ writeLine l ⌝ }
 {
     put(s, 0, l.code);
     put(s, 3, l.first);
@@ -22,6 +33,8 @@ fn fill(s: &mut [u8], l: Line)
 
 // Writes a line to the first 16 bytes.
 pub fn write(out: &mut [u8], l: Line)
+    requires { ⌜ 16 ≤ length (now out) ⌝ }
+    ensures { λ _. ⌜ now (out .exit) ≡ writeLine l ++ drop 16 (now (out .entry)) ⌝ }
 {
     fill(&mut out[..16], l);
 }

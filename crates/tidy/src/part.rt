@@ -3,8 +3,13 @@
 use crate::line;
 use book::code::Code;
 use definition::format::Line;
+ghost use mathlib.Core.Path.{_≡_};
+ghost use Prim.Native.Nat.{_≤_, _<_};
+ghost use lib.ListN.{length};
+ghost use Rattle.book.specs.Codes.{codeOf};
+ghost use Rattle.tidy.specs.Engine.{isGroup, isNode, lineDropped, isSpliced, joinedIf, droppedIf, isOnly, headedLength, headed, StartsWithin, WrotePart};
 
-// How many bytes a part takes in the book, and its plain form in the output.
+// How many bytes what was read takes in the book, and what was written in the output.
 pub struct Sizes {
     pub read: usize,
     pub wrote: usize,
@@ -17,30 +22,49 @@ pub struct Joined {
 }
 
 // Whether a line's code says all or any.
-fn is_list(code: u16) -> bool {
+fn is_group(code: u16) -> bool
+    ensures { λ r. ⌜ r ≡ isGroup (codeOf code) ⌝ }
+{
     match Code::of_number(code) {
+        Code::Goal => false,
+        Code::Call => false,
         Code::Group(_) => true,
-        _ => false,
+        Code::Pick => false,
+        Code::Undecided => false,
+        Code::Unknown => false,
     }
 }
 
-// How many parts stand below a line.
-fn below(l: Line) -> u16 {
-    match Code::of_number(l.code) {
-        Code::Group(_) | Code::Pick => l.first,
-        _ => 0,
+// Whether a line's code says all, any or pick.
+fn is_node(code: u16) -> bool
+    ensures { λ r. ⌜ r ≡ isNode (codeOf code) ⌝ }
+{
+    match Code::of_number(code) {
+        Code::Goal => false,
+        Code::Call => false,
+        Code::Group(_) => true,
+        Code::Pick => true,
+        Code::Undecided => false,
+        Code::Unknown => false,
     }
 }
 
-// Takes the first line away: the n bytes from it on move up by a line.
-fn drop_line(out: &mut [u8], n: usize) {
+// Takes the first line of n bytes away: the others move up.
+fn drop_line(out: &mut [u8], n: usize)
+    requires { ⌜ (16 ≤ n) × (n ≤ length (now out)) ⌝ }
+    ensures { λ _. ⌜ now (out .exit) ≡ lineDropped n (now (out .entry)) ⌝ }
+{
     buffer::copy_within(out, 16, 0, n - 16);
 }
 
-// The part of n bytes that `out` starts with joins the parts of a node with this code: a
-// node of the same kind is spliced in, so that its line goes, unless it is a pick.
-fn join(out: &mut [u8], n: usize, code: u16) -> Joined {
-    if !is_list(code) {
+// The part of n bytes that `out` starts with joins the parts of a node with this code:
+// an all inside an all is spliced in, so that its line goes, likewise any inside any.
+fn join(out: &mut [u8], n: usize, code: u16) -> Joined
+    requires { ⌜ (16 ≤ n) × (n ≤ length (now out)) ⌝ }
+    ensures { λ r. ⌜ (r ≡ joinedIf (isSpliced code (now (out .entry))) n (now (out .entry)))
+        × (now (out .exit) ≡ droppedIf (isSpliced code (now (out .entry))) n (now (out .entry))) ⌝ }
+{
+    if !is_group(code) {
         return Joined { count: 1, bytes: n };
     }
     if book::line::field_at(out, 0) != code {
@@ -48,51 +72,64 @@ fn join(out: &mut [u8], n: usize, code: u16) -> Joined {
     }
     let count = book::line::field_at(out, 3);
     drop_line(out, n);
-    Joined { count, bytes: n - 16 }
-}
-
-// The line before `count` parts; a line that starts no node stays.
-fn with_count(l: Line, count: u16) -> Line {
-    match Code::of_number(l.code) {
-        Code::Group(_) | Code::Pick => Line {
-            code: l.code,
-            first: count,
-            second: 0,
-            third: 0,
-            fourth: 0,
-        },
-        _ => l,
+    Joined {
+        count,
+        bytes: n - 16,
     }
 }
 
-// Writes the line before its parts, which stand there: with it n bytes. An all or any of
-// one part has no line. How many bytes there are then.
-fn head(out: &mut [u8], n: usize, l: Line, count: u16) -> usize {
-    if is_list(l.code) {
+// Writes a node's line before its parts, with which it takes n bytes. An all or any of
+// one part has no line. Says how many bytes there are then.
+fn head(out: &mut [u8], n: usize, code: u16, count: u16) -> usize
+    requires { ⌜ (16 ≤ n) × (n ≤ length (now out)) ⌝ }
+    ensures { λ r. ⌜ (r ≡ headedLength (isOnly code count) n)
+        × (now (out .exit) ≡ headed (isOnly code count) code count n (now (out .entry))) ⌝ }
+{
+    if is_group(code) {
         if count == 1 {
             drop_line(out, n);
             return n - 16;
         }
     }
-    line::write(out, with_count(l, count));
+    line::write(out, Line {
+        code,
+        first: count,
+        second: 0,
+        third: 0,
+        fourth: 0,
+    });
     n
 }
 
-// Writes the plain form of the part that the bytes start with, which nests at most
-// `nest` deep.
-pub fn write(part: &[u8], out: &mut [u8], nest: u8) -> Sizes {
+// Writes the plain form of the part that the bytes start with.
+pub fn write(part: &[u8], out: &mut [u8], nest: u8) -> Sizes
+    requires { ⌜ StartsWithin nest (now part) × ((length (now part) ≤ length (now out)) × (length (now part) < 16000)) ⌝ }
+    ensures { λ r. ⌜ WrotePart nest (now (part .entry)) (now (out .entry)) (now (out .exit)) r ⌝ }
+{
     let l = book::line::first(part);
+    let code = l.code;
+    if !is_node(code) {
+        line::write(out, l);
+        return Sizes {
+            read: 16,
+            wrote: 16,
+        };
+    }
     let mut read: usize = 16;
     let mut wrote: usize = 16;
     let mut count: u16 = 0;
-    let mut left = below(l);
+    let mut left = l.first;
     while 0 < left {
         let s = write(&part[read..], &mut out[wrote..], nest - 1);
-        let j = join(&mut out[wrote..], s.wrote, l.code);
+        let j = join(&mut out[wrote..], s.wrote, code);
         read = read + s.read;
         wrote = wrote + j.bytes;
         count = count + j.count;
         left = left - 1;
     }
-    Sizes { read, wrote: head(out, wrote, l, count) }
+    let n = head(out, wrote, code, count);
+    Sizes {
+        read,
+        wrote: n,
+    }
 }
