@@ -2,11 +2,13 @@
 use mathlib.Core.Path.{_≡_, refl, sym, ap, ap₂, _∙_}
 use mathlib.Core.Bool.{true, false}
 use Prim.Native.Nat.{ℕ, zero, suc, _≤_, _<_}
-use lib.Dec.{T, eqb→eq, leb}
+use lib.Dec.{T, eqb→eq, leb, lit<}
 use borrow.Author.Tests.{le-leb, lt-leb}
 use Rattle.definition.specs.declared.answers.Answer.{Answer}
 use Rattle.definition.specs.declared.answers.Answer.the-variants.{No, Yes, Undecided, Overflow}
-use Rattle.definition.specs.Answers.{answerNumber, answerOf, sameAnswer}
+use Rattle.definition.specs.declared.replies.Refusal.{Refusal}
+use Rattle.definition.specs.declared.replies.Refusal.the-variants.{BookLength, BookLine, BookHeader, BookBody, UnknownGoal, DepthAboveTop, CacheLength, CacheForm, WorkLength, ProvisionalCacheFull, CacheConflict, Unreachable}
+use Rattle.definition.specs.Answers.{answerNumber, answerOf, refusalNumber, sameAnswer}
 
 -- what holds from 3 on holds of a number that is not 0, 1 or 2
 pub from-three : (P : ℕ → Type 0) → ((n : ℕ) → P (suc (suc (suc n)))) → (n : ℕ) → (n ≡ 0 → ⊥) → (n ≡ 1 → ⊥) → (n ≡ 2 → ⊥) → P n
@@ -35,3 +37,18 @@ answer-back Overflow = refl
 
 pub same→≡ : (a b : Answer) → T (sameAnswer a b) → a ≡ b
 same→≡ a b t = sym (answer-back a) ∙ ap answerOf (eqb→eq (answerNumber a) (answerNumber b) t) ∙ answer-back b
+
+-- a refusal's number
+pub refusal-small : (r : Refusal) → refusalNumber r < 256
+refusal-small BookLength = lit< tt
+refusal-small BookLine = lit< tt
+refusal-small BookHeader = lit< tt
+refusal-small BookBody = lit< tt
+refusal-small UnknownGoal = lit< tt
+refusal-small DepthAboveTop = lit< tt
+refusal-small CacheLength = lit< tt
+refusal-small CacheForm = lit< tt
+refusal-small WorkLength = lit< tt
+refusal-small ProvisionalCacheFull = lit< tt
+refusal-small CacheConflict = lit< tt
+refusal-small Unreachable = lit< tt

@@ -1,16 +1,13 @@
--- A question line, test by test; a refusal's number.
+-- A question line, test by test.
 use mathlib.Core.Path.{_≡_, refl, sym, ap, _∙_}
 use mathlib.Core.Bool.{Bool, true, false, _&&_}
 use mathlib.Core.Option.{Option, none, some}
 use mathlib.Core.List.{List}
-use Prim.Native.Nat.{ℕ, zero, suc, _+_, _<_}
-use lib.Dec.{eqb, lit<}
+use Prim.Native.Nat.{ℕ, _+_}
+use lib.Dec.{eqb}
 use lib.ListN.{length, getD}
 use borrow.Author.Tests.{eq-eqb, ne-eqb}
 use Rattle.definition.specs.Line.{isField, fieldValue}
-use Rattle.definition.specs.Answers.{refusalNumber}
-use Rattle.definition.specs.declared.replies.Refusal.{Refusal}
-use Rattle.definition.specs.declared.replies.Refusal.the-variants.{BookLength, BookLine, BookHeader, BookBody, UnknownGoal, DepthAboveTop, CacheLength, CacheForm, WorkLength, ProvisionalCacheFull, CacheConflict, Unreachable}
 use Rattle.definition.proofs.Tests.{not-second}
 use Rattle.question.specs.declared.Question.the-variants.{Asked, IllFormed}
 use Rattle.question.specs.Lines.{questionOf, readQuestion}
@@ -72,18 +69,3 @@ module _ (s : List ℕ) where
     where
       line : true ≡ isLine
       line i = sym (eq-eqb (length s) 7 long) i && sym (eq-eqb (getD s 6 0) 10 newline) i
-
--- ---- writing
-pub refusal-small : (r : Refusal) → refusalNumber r < 256
-refusal-small BookLength = lit< tt
-refusal-small BookLine = lit< tt
-refusal-small BookHeader = lit< tt
-refusal-small BookBody = lit< tt
-refusal-small UnknownGoal = lit< tt
-refusal-small DepthAboveTop = lit< tt
-refusal-small CacheLength = lit< tt
-refusal-small CacheForm = lit< tt
-refusal-small WorkLength = lit< tt
-refusal-small ProvisionalCacheFull = lit< tt
-refusal-small CacheConflict = lit< tt
-refusal-small Unreachable = lit< tt

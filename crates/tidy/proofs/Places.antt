@@ -2,6 +2,7 @@
 use mathlib.Core.List.{List, [], _∷_, _++_, append-assoc, append-nil}
 use mathlib.Core.Path.{_∙_, _≡_, ap, refl, sym}
 use Prim.Native.Nat.{_+_, _-_, _≤_, ℕ}
+use native.Mathlib.Nat.{add-zero}
 use native.Mathlib.Omega.{arith}
 use lib.ListN.{drop, drop-of-length-le, length, length-append, length-drop, take, take-append-drop}
 use lib.Seq.{drop-append-le, drop-at, length-take-le, take-append-add, take-at}
@@ -57,6 +58,9 @@ module _ (out : List ℕ) (at : ℕ) (h : at ≤ length out) where
         ∙ drop-append-le 16 (take at out) (take k ys) (omega (arith, front-length))
         ∙ ap (λ n. drop 16 (take n out) ++ take k ys) f
         ∙ ap (λ s. s ++ take k ys) (drop-take 16 (at - 16) out)
+
+    pub back-same : 16 ≤ at → region 16 (at - 16) Back ≡ region 16 (at - 16) out
+    back-same l = ap (λ n. region 16 (n - 16) Back) (sym (add-zero at)) ∙ back-region 0 l ∙ append-nil (region 16 (at - 16) out)
 
 -- ---- n bytes are a line and others
 module _ (s : List ℕ) (n : ℕ) (l : Line) (ls : List Line) (h : take n s ≡ writeLines (l ∷ ls)) (e : n ≡ length (writeLines (l ∷ ls))) where

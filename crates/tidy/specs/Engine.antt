@@ -3,11 +3,12 @@ use mathlib.Core.Path.{_≡_}
 use mathlib.Core.Bool.{Bool, true, false, _&&_}
 use mathlib.Core.Option.{some}
 use mathlib.Core.List.{List, [], _∷_, _++_}
-use Prim.Native.Nat.{ℕ, _+_, _-_, _≤_, _<_}
+use Prim.Native.Nat.{ℕ, _+_, _-_, _/_, _≤_}
 use lib.Dec.{eqb}
-use lib.ListN.{length, take, drop}
+use lib.ListN.{length, take, drop, set}
 use Rattle.definition.specs.declared.format.Line.{Line}
-use Rattle.definition.specs.Part.{Book, Part}
+use Rattle.definition.specs.Line.{lastColumn, leadingColumn}
+use Rattle.definition.specs.Part.{Book}
 use Rattle.definition.specs.Reader.{Accepted, TakenPart, readBook, readGoal, readPart}
 use Rattle.buffer.specs.Regions.{overwrite, region}
 use Rattle.book.specs.declared.code.Code.{Code}
@@ -36,6 +37,10 @@ isNode (codes.Group op) = true
 isNode codes.Pick = true
 isNode codes.Undecided = false
 isNode codes.Unknown = false
+
+-- ---- a number, in the three columns from place i on
+abbrev pub putColumns : List ℕ → ℕ → ℕ → List ℕ
+putColumns s i n = set (set (set s i (leadingColumn (n / 100))) (i + 1) (leadingColumn (n / 10))) (i + 2) (lastColumn n)
 
 -- ---- the first line of n bytes goes
 abbrev pub lineDropped : ℕ → List ℕ → List ℕ

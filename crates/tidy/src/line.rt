@@ -3,16 +3,15 @@ use book::columns;
 use definition::format::Line;
 ghost use mathlib.Core.Path.{_≡_};
 ghost use mathlib.Core.List.{_++_};
-ghost use Prim.Native.Nat.{_+_, _/_, _≤_};
-ghost use lib.ListN.{length, drop, set};
-ghost use Rattle.definition.specs.Line.{leadingColumn, lastColumn};
+ghost use Prim.Native.Nat.{_+_, _≤_};
+ghost use lib.ListN.{length, drop};
 ghost use Rattle.tidy.specs.Write.{writeLine};
+ghost use Rattle.tidy.specs.Engine.{putColumns};
 
 // A number in the three columns from place i on.
 fn put(s: &mut [u8], i: usize, n: u16)
     requires { ⌜ i + 3 ≤ length (now s) ⌝ }
-    ensures { λ _. ⌜ now (s .exit) ≡ set (set (set (now (s .entry)) i (leadingColumn (n / 100))) (i + 1)
-        (leadingColumn (n / 10))) (i + 2) (lastColumn n) ⌝ }
+    ensures { λ _. ⌜ now (s .exit) ≡ putColumns (now (s .entry)) i n ⌝ }
 {
     s[i] = columns::leading(n / 100);
     s[i + 1] = columns::leading(n / 10);

@@ -78,6 +78,16 @@ fn join(out: &mut [u8], n: usize, code: u16) -> Joined
     }
 }
 
+// Whether a node with this code and so many parts becomes its part.
+fn is_only(code: u16, count: u16) -> bool
+    ensures { λ r. ⌜ r ≡ isOnly code count ⌝ }
+{
+    if !is_group(code) {
+        return false;
+    }
+    count == 1
+}
+
 // Writes a node's line before its parts, with which it takes n bytes. An all or any of
 // one part has no line. Says how many bytes there are then.
 fn head(out: &mut [u8], n: usize, code: u16, count: u16) -> usize
@@ -85,11 +95,9 @@ fn head(out: &mut [u8], n: usize, code: u16, count: u16) -> usize
     ensures { λ r. ⌜ (r ≡ headedLength (isOnly code count) n)
         × (now (out .exit) ≡ headed (isOnly code count) code count n (now (out .entry))) ⌝ }
 {
-    if is_group(code) {
-        if count == 1 {
-            drop_line(out, n);
-            return n - 16;
-        }
+    if is_only(code, count) {
+        drop_line(out, n);
+        return n - 16;
     }
     line::write(out, Line {
         code,

@@ -1,5 +1,5 @@
 use native.Mathlib.Omega.{arith}
-use Rattle.question.proofs.Lines.{refusal-small}
+use Rattle.definition.proofs.Numbers.{refusal-small}
 use borrow.Author.Needs.{needs}
 use Rattle.question.proofs.refusal_number.Statement.{statement}
 use Rattle.question.proofs.refusal_number.Tie as tie
