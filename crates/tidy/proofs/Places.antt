@@ -16,6 +16,9 @@ use Rattle.tidy.specs.Engine.{lineDropped}
 use Rattle.tidy.proofs.Fields.{value-back}
 
 -- ---- a part `[at..]` of a buffer is lent, and comes back with ys in it
+abbrev pub Back : List ℕ → ℕ → List ℕ → List ℕ
+Back out at ys = take at out ++ (ys ++ drop (length out - at) (drop at out))
+
 module _ (out : List ℕ) (at : ℕ) (h : at ≤ length out) where
   pub lent-length : length (take (length out - at) (drop at out)) ≡ length out - at
   lent-length = rw (part-from, length-drop)
@@ -24,43 +27,43 @@ module _ (out : List ℕ) (at : ℕ) (h : at ≤ length out) where
   front-length = length-take-le at out h
 
   module _ (ys : List ℕ) where
-    abbrev pub Back : List ℕ
-    Back = take at out ++ (ys ++ drop (length out - at) (drop at out))
+    abbrev back : List ℕ
+    back = Back out at ys
 
-    pub back-is : Back ≡ take at out ++ ys
+    pub back-is : back ≡ take at out ++ ys
     back-is =
         ap (λ l. take at out ++ (ys ++ l)) (drop-of-length-le (drop at out) {i = length out - at} (rw length-drop (omega arith)))
         ∙ ap (λ l. take at out ++ l) (append-nil ys)
 
-    pub back-length : length ys ≡ length out - at → length Back ≡ length out
+    pub back-length : length ys ≡ length out - at → length back ≡ length out
     back-length e = ap length back-is ∙ length-append (take at out) ys ∙ omega (arith, front-length)
 
-    pub back-take : (k : ℕ) → take (at + k) Back ≡ take at out ++ take k ys
+    pub back-take : (k : ℕ) → take (at + k) back ≡ take at out ++ take k ys
     back-take k =
         ap (take (at + k)) back-is
         ∙ ap (λ n. take (n + k) (take at out ++ ys)) (sym front-length)
         ∙ take-append-add (take at out) ys k
 
-    pub back-drop : drop at Back ≡ ys
+    pub back-drop : drop at back ≡ ys
     back-drop = ap (drop at) back-is ∙ drop-at (take at out) ys at front-length
 
-    pub back-front : take at Back ≡ take at out
+    pub back-front : take at back ≡ take at out
     back-front = ap (take at) back-is ∙ take-at (take at out) ys at front-length
 
     -- what stands behind the first line
-    pub back-region : (k : ℕ) → 16 ≤ at → region 16 (at + k - 16) Back ≡ region 16 (at - 16) out ++ take k ys
+    pub back-region : (k : ℕ) → 16 ≤ at → region 16 (at + k - 16) back ≡ region 16 (at - 16) out ++ take k ys
     back-region k l =
         let e : 16 + (at + k - 16) ≡ at + k = omega arith in
         let f : at ≡ 16 + (at - 16) = omega arith in
-        sym (drop-take 16 (at + k - 16) Back)
-        ∙ ap (λ n. drop 16 (take n Back)) e
+        sym (drop-take 16 (at + k - 16) back)
+        ∙ ap (λ n. drop 16 (take n back)) e
         ∙ ap (drop 16) (back-take k)
         ∙ drop-append-le 16 (take at out) (take k ys) (omega (arith, front-length))
         ∙ ap (λ n. drop 16 (take n out) ++ take k ys) f
         ∙ ap (λ s. s ++ take k ys) (drop-take 16 (at - 16) out)
 
-    pub back-same : 16 ≤ at → region 16 (at - 16) Back ≡ region 16 (at - 16) out
-    back-same l = ap (λ n. region 16 (n - 16) Back) (sym (add-zero at)) ∙ back-region 0 l ∙ append-nil (region 16 (at - 16) out)
+    pub back-same : 16 ≤ at → region 16 (at - 16) back ≡ region 16 (at - 16) out
+    back-same l = ap (λ n. region 16 (n - 16) back) (sym (add-zero at)) ∙ back-region 0 l ∙ append-nil (region 16 (at - 16) out)
 
 -- ---- n bytes are a line and others
 module _ (s : List ℕ) (n : ℕ) (l : Line) (ls : List Line) (h : take n s ≡ writeLines (l ∷ ls)) (e : n ≡ length (writeLines (l ∷ ls))) where

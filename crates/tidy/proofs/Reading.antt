@@ -27,7 +27,7 @@ use Rattle.book.proofs.Views.{View, call, group, never, pick, undecided, view}
 use Rattle.tidy.specs.Rules.{isList}
 use Rattle.tidy.specs.Tidy.{tidyPart}
 use Rattle.tidy.specs.Write.{flag, opCode, partLines}
-use Rattle.tidy.specs.Engine.{isGroup, isNode}
+use Rattle.tidy.specs.Engine.{StartsWithin, isGroup, isNode}
 
 -- ---- the node that a code says
 abbrev pub nodeOp : Code → Op
@@ -199,3 +199,10 @@ module _ {inner : Bool → List Line → Option TakenPart} {l : Line} {ls : List
   leaf-read (pick k f o ps r e) n = clash (cc)
   leaf-read (undecided k f e) n =
       (ap (λ (x : TakenPart). partLines (tidyPart (x .part))) (sym e) ∙ undecided-line l k f, ap (λ (x : TakenPart). x .rest) (sym e))
+
+-- ---- a part of some book
+pub starts-line : (nest : ℕ) (s : List ℕ) → StartsWithin nest s → 16 ≤ length s
+starts-line nest s w = some-line (w .goals) (w .inPick) s (w .taken) nest (w .reads)
+
+pub starts-nest : (nest : ℕ) (s : List ℕ) → StartsWithin nest s → 0 < nest
+starts-nest nest s w = some-nest (w .goals) (w .inPick) s (w .taken) nest (w .reads)

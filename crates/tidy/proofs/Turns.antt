@@ -30,7 +30,7 @@ use Rattle.tidy.proofs.Fields.{length-lines}
 use Rattle.tidy.proofs.Written.{op-small, part-lines, parts-lines}
 use Rattle.tidy.proofs.Steps.{alone-count, bytes-append, count-append, firstCode, joined-more, kept, lines-append, node-lines, only-lines, spliced, tells}
 use Rattle.tidy.proofs.Places.{Back, lent-length, back-drop, back-is, back-length, back-region, back-same, code-in, dropped-take, first-in, headed-take, line-room, others-in}
-use Rattle.tidy.proofs.Reading.{NodeRead, group-list, op-code, opAt}
+use Rattle.tidy.proofs.Reading.{NodeRead, group-list, leaf-read, node-read, op-code, opAt, some-line, viewed}
 
 -- ---- the bytes of parts
 abbrev pub partBytes : Part → List ℕ
@@ -124,6 +124,11 @@ pub record Going (goals nest : ℕ) (part : List ℕ) (code : ℕ) (t : TakenPar
   pub length-is : wrote ≡ 16 + length (partsBytes (joinAll (opAt code) (tidyParts done)))
   pub written : region 16 (wrote - 16) out ≡ partsBytes (joinAll (opAt code) (tidyParts done))
 
+-- of whatever book it is a part
+pub Turn : (nest : ℕ) (part : List ℕ) (code : ℕ) (out : List ℕ) (read wrote n left : ℕ) → Type 0
+Turn nest part code out read wrote n left =
+    (goals : ℕ) (p : Bool) (t : TakenPart) → readPart goals nest p (linesIn part) ≡ some t → Going goals nest part code t out read wrote n left
+
 pub starts : {goals nest : ℕ} {part : List ℕ} {l : Line} {t : TakenPart} {out : List ℕ}
     → NodeRead (readPart goals (nest - 1)) l (linesIn (drop 16 part)) t → 16 ≤ length part
     → Going goals nest part (l .code) t out 16 16 0 (l .first)
@@ -202,7 +207,7 @@ module _ {goals nest : ℕ} {part : List ℕ} {code : ℕ} {t : TakenPart} {out 
       -- the output with the part in it, and with the part joined
       module _ (isn : isNode (codeOf code) ≡ true) (sub₂ : List ℕ) (j : Joined) where
         abbrev out₁ : List ℕ
-        out₁ = Back out wrote out-room sub
+        out₁ = Back out wrote sub
 
         abbrev lent : List ℕ
         lent = take (length out₁ - wrote) (drop wrote out₁)
@@ -232,7 +237,7 @@ module _ {goals nest : ℕ} {part : List ℕ} {code : ℕ} {t : TakenPart} {out 
           pub back-room : wrote ≤ length out₁
           back-room = omega (arith, back-length out wrote out-room sub sub-length, out-room)
 
-          pub goes-on : Going goals nest part code t (Back out₁ wrote back-room sub₂) (read + s .read) (wrote + j .bytes) (n + j .count) (left - 1)
+          pub goes-on : Going goals nest part code t (Back out₁ wrote sub₂) (read + s .read) (wrote + j .bytes) (n + j .count) (left - 1)
           goes-on =
               record {
                 inside = g .inside;
@@ -357,3 +362,107 @@ one-line {ls} {rest} {l} part out e r h k after a =
       written = ap (take 16) a ∙ sym (ap writeLines e);
       length-is = ap (λ x. length (writeLines x)) (sym e);
     }
+
+-- ---- a turn, of whatever book it is a part
+module _ (nest : ℕ) (part : List ℕ) (code : ℕ) (out : List ℕ) (read wrote n left : ℕ) (w : StartsWithin nest part)
+    (turn : Turn nest part code out read wrote n left) where
+  here : Going (w .goals) nest part code (w .taken) out read wrote n left
+  unfolding Turn
+  here = turn (w .goals) (w .inPick) (w .taken) (w .reads)
+
+  pub read-within : read ≤ length part
+  read-within = here .within
+
+  pub less-written : wrote ≤ read
+  less-written = here .not-more
+
+  pub some-written : 16 ≤ wrote
+  some-written = line-before here
+
+  module _ (pos : 0 < left) where
+    pub part-starts : StartsWithin (nest - 1) (take (length part - read) (drop read part))
+    part-starts = next-starts here pos
+
+    module _ (room : length part ≤ length out) (few : length part < 16000) (sub : List ℕ) (s : Sizes)
+        (wr : WrotePart (nest - 1) (take (length part - read) (drop read part)) (take (length out - wrote) (drop wrote out)) sub s) where
+      fits : wrote ≤ length out
+      fits = omega (arith, less-written, read-within)
+
+      pub part-line : 16 ≤ s .wrote
+      part-line = line-written here pos room few sub s wr
+
+      pub part-room : s .wrote ≤ length sub
+      part-room = wrote-room here pos room few sub s wr
+
+      pub part-within : s .read ≤ length part - read
+      part-within = read-room here pos room few sub s wr
+
+      pub part-less : s .wrote ≤ s .read
+      part-less = wrote-as here pos room few sub s wr .not-more
+
+      pub same-room : length (Back out wrote sub) ≡ length out
+      same-room = back-length out wrote fits sub (sub-length here pos room few sub s wr)
+
+      abbrev behind : List ℕ
+      behind = take (length (Back out wrote sub) - wrote) (drop wrote (Back out wrote sub))
+
+      pub behind-length : length behind ≡ length sub
+      behind-length = ap length (part-from wrote (Back out wrote sub) ∙ back-drop out wrote fits sub)
+
+      module _ (isn : isNode (codeOf code) ≡ true) (sub₂ : List ℕ) (j : Joined)
+          (js : (j ≡ joinedIf (isSpliced code behind) (s .wrote) behind) × (sub₂ ≡ droppedIf (isSpliced code behind) (s .wrote) behind)) where
+        fits₂ : wrote ≤ length (Back out wrote sub)
+        fits₂ = omega (arith, same-room, fits)
+
+        pub next-turn : Turn nest part code (Back (Back out wrote sub) wrote sub₂) (read + s .read) (wrote + j .bytes) (n + j .count) (left - 1)
+        unfolding Turn
+        next-turn goals p t e = goes-on (turn goals p t e) pos room few sub s wr isn sub₂ j js
+
+        next-here : Going (w .goals) nest part code (w .taken) (Back (Back out wrote sub) wrote sub₂) (read + s .read) (wrote + j .bytes) (n + j .count) (left - 1)
+        next-here = goes-on here pos room few sub s wr isn sub₂ j js
+
+        pub next-bytes : wrote + j .bytes < 16000
+        next-bytes = omega (arith, next-here .not-more, next-here .within, few)
+
+        pub next-count : n + j .count < 1000
+        next-count = omega (arith, few-parts next-here, next-bytes)
+
+        joined-length : length sub₂ ≡ length sub
+        joined-length = ap length (js .1) ∙ go (isSpliced code behind) ∙ behind-length
+          where
+            go : (b : Bool) → length (droppedIf b (s .wrote) behind) ≡ length behind
+            go true = dropped-length (s .wrote) behind part-line (omega (arith, behind-length, part-room))
+            go false = refl
+
+        pub next-room : length (Back (Back out wrote sub) wrote sub₂) ≡ length out
+        next-room =
+            back-length (Back out wrote sub) wrote fits₂ sub₂
+            (omega (arith, joined-length, same-room, sub-length here pos room few sub s wr))
+            ∙ same-room
+
+  module _ (z : left ≤ 0) (isn : isNode (codeOf code) ≡ true) (room : wrote ≤ length out) where
+    pub last-turn : (first after : List ℕ) → length out ≡ length first → (r : ℕ) → r ≡ headedLength (isOnly code n) wrote
+        → after ≡ headed (isOnly code n) code n wrote out → WrotePart nest part first after (record { read = read; wrote = r })
+    unfolding Turn
+    last-turn first after keeps r e f goals p t q = ends (turn goals p t q) z isn room first after keeps r e f
+
+    pub last-length : (after : List ℕ) → after ≡ headed (isOnly code n) code n wrote out → length after ≡ length out
+    last-length after f = ap length f ∙ go (isOnly code n)
+      where
+        go : (b : Bool) → length (headed b code n wrote out) ≡ length out
+        go true = dropped-length wrote out some-written room
+        go false = line-length (lineWith code n) out (omega (arith, some-written))
+
+-- the first turn
+pub first-turn : (nest : ℕ) (part : List ℕ) (l : Line) → l ≡ lineIn part → isNode (codeOf (l .code)) ≡ true → (out : List ℕ)
+    → Turn nest part (l .code) out 16 16 0 (l .first)
+unfolding Turn
+first-turn nest part l e n out goals p t r =
+    rw e (starts (node-read (viewed goals p part t nest r) (rw (← e) n)) (some-line goals p part t nest r))
+
+-- a line that starts no node
+pub only-line : (nest : ℕ) (part : List ℕ) (l : Line) → l ≡ lineIn part → isNode (codeOf (l .code)) ≡ false → (out after : List ℕ)
+    → 16 ≤ length out → after ≡ writeLine l ++ drop 16 out → WrotePart nest part out after (record { read = 16; wrote = 16 })
+only-line nest part l e n out after room a goals p t r =
+    let v = leaf-read (viewed goals p part t nest r) (rw (← e) n) in
+    one-line part out (v .0) (v .1) (some-line goals p part t nest r) room after (rw (← e) a)
