@@ -91,7 +91,7 @@ kind-number (suc (suc zero)) l = refl
 kind-number (suc (suc (suc zero))) l = refl
 kind-number (suc (suc (suc (suc n)))) l = absurd (omega arith)
 
-flag-number : (n : ℕ) → n ≤ 1 → flag (eqb n 1) ≡ n
+pub flag-number : (n : ℕ) → n ≤ 1 → flag (eqb n 1) ≡ n
 flag-number zero l = refl
 flag-number (suc zero) l = refl
 flag-number (suc (suc n)) l = absurd (omega arith)
