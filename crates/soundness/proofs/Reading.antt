@@ -6,7 +6,7 @@ use mathlib.Core.Path.{_∙_, _≡_, ap, refl, sym}
 use Prim.Native.Nat.{_/_, _<_, suc, zero, ℕ}
 use native.Mathlib.Nat.{div-add-mod', mod-lt}
 use native.Mathlib.Omega.{arith}
-use lib.Dec.{T, eqb, eqb→eq, leb, leb→le, ltb, ltb→lt}
+use lib.Dec.{T, eqb, eqb→eq, le→leb, leb, leb→le, ltb, ltb→lt}
 use lib.ListN.{drop, length, take}
 use Rattle.definition.specs.Answers.{refusalNumber}
 use Rattle.definition.specs.Line.{readLine, readLines}
@@ -255,6 +255,10 @@ enough n t = omega (arith, leb→le 48 n long, div-add-mod' n 16, mod-lt n {m = 
 abbrev pub Early : Refusal → Type 0
 Early r = T (leb (refusalNumber r) 9)
 
+-- one of the four that reading a book gives
+abbrev pub OfReading : Refusal → Type 0
+OfReading r = T (leb 1 (refusalNumber r) && leb (refusalNumber r) 4)
+
 module _ (wanted : ℕ → ℕ → PathKind → Bool) where
   -- the first line is the header
   abbrev pub inBook : List Line → Bool
@@ -268,7 +272,7 @@ module _ (wanted : ℕ → ℕ → PathKind → Bool) where
 
   abbrev ReadOk : Option (List Line) → BookRead → Type 0
   ReadOk o (Accepted b) = (ls : List Line) × (o ≡ some ls) × Read b ls
-  ReadOk o (Rejected r) = Early r
+  ReadOk o (Rejected r) = OfReading r
 
   module _ (l : Line) (ls : List Line) where
     abbrev h : Header
@@ -314,8 +318,13 @@ module _ (wanted : ℕ → ℕ → PathKind → Bool) where
 abbrev unwanted : ℕ → ℕ → PathKind → Bool
 unwanted caller goal kind = false
 
+pub rejected-read : (bytes : List ℕ) (r : Refusal) → readBook bytes ≡ Rejected r → OfReading r
+rejected-read bytes r e = rw e at (read-ok unwanted bytes)
+
 pub rejected-early : (bytes : List ℕ) (r : Refusal) → readBook bytes ≡ Rejected r → Early r
-rejected-early bytes r e = rw e at (read-ok unwanted bytes)
+rejected-early bytes r e =
+    le→leb (refusalNumber r) 9
+    (omega (arith, leb→le (refusalNumber r) 4 (and-right (leb 1 (refusalNumber r)) (leb (refusalNumber r) 4) (rejected-read bytes r e))))
 
 step-below : (b : Book)
     → ((y : ℕ) (p : Part) → partAt (b .parts) y ≡ some p → Calls (λ goal kind. goal < b .header .goals) p)

@@ -91,7 +91,7 @@ fn write_into(book: &[u8], out: &mut [u8], goals: usize) -> Response
 // output as it was.
 pub fn tidy(book: &[u8], out: &mut [u8]) -> Response
     ensures { λ r. ⌜ replied r (now (out .exit)) ≡ tidy (now (book .entry)) (now (out .entry)) ⌝ }
-    ensures promises { λ r. ⌜ Promises (now (book .entry)) (now (out .entry)) ⌝ }
+    ensures promises { λ r. ⌜ Promises (now (book .entry)) (now (out .entry)) (replied r (now (out .exit))) ⌝ }
 {
     let mut starts = [0u16; 64];
     let read = book::read(book, &mut starts);
