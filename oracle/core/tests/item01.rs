@@ -2,14 +2,14 @@
 //! the original answers of a draft and of its plain form. Wrong readings of it, each found out by a
 //! recorded draft (item01.txt).
 
-use oracle_core::Limits;
 use oracle_core::book::{Book, Header, LINE, MAX_LINES, MAX_NEST, Part};
-use oracle_core::case::{Case, Expected, read_cases};
+use oracle_core::case::{Case, Expected, Query, read_cases};
 use oracle_core::generate::{CLASSES, class_named};
 use oracle_core::random::Random;
 use oracle_core::recorded::{call, no, yes};
 use oracle_core::tidy::wrong::{self, RIGHT, Reading, named};
 use oracle_core::tidy::{self, RULES, Rule, Told, plain};
+use oracle_core::{Limits, work_len};
 
 fn book(parts: Vec<Part>) -> Book {
     let goals = parts.len();
@@ -236,6 +236,63 @@ fn t5_the_order_does_not_matter() {
         }
     }
     assert!(several > 10_000 && steps > 20_000, "{several} {steps}");
+}
+
+/// All parts of so many lines, with three sorts of leaves and no pick inside a pick.
+fn parts_of(lines: usize, in_pick: bool) -> Vec<Part> {
+    let mut found = if lines == 1 { leaves()[1..].to_vec() } else { vec![] };
+    for parts in lists_of(lines - 1, in_pick) {
+        found.extend([Part::All(parts.clone()), Part::Any(parts)]);
+    }
+    if !in_pick {
+        found.extend(lists_of(lines - 1, true).into_iter().map(Part::Pick));
+    }
+    found
+}
+
+/// All lists of parts that have so many lines together.
+fn lists_of(lines: usize, in_pick: bool) -> Vec<Vec<Part>> {
+    if lines == 0 {
+        return vec![vec![]];
+    }
+    let mut found = Vec::new();
+    for first in 1..=lines {
+        for rest in lists_of(lines - first, in_pick) {
+            let firsts = parts_of(first, in_pick).into_iter();
+            found.extend(firsts.map(|first| [vec![first], rest.clone()].concat()));
+        }
+    }
+    found
+}
+
+/// All parts of up to five lines: whichever rule comes first, and wherever, the plain form is the
+/// same; and on the original the tidy book answers as the draft does.
+#[test]
+fn every_small_part() {
+    let tidied = |part: &Part| plain(&book(vec![part.clone()])).0;
+    let (mut parts, mut changed) = (0, 0);
+    for part in (1..=5).flat_map(|lines| parts_of(lines, false)) {
+        let tidy = tidied(&part);
+        let ways = ways(&part);
+        assert!(ways.iter().all(|way| tidied(way) == tidy), "{part:?}");
+        assert_eq!(ways.is_empty(), tidy.parts[0] == part);
+        parts += 1;
+        if ways.is_empty() {
+            continue;
+        }
+        changed += 1;
+        for (provisional_cache, step_limit) in [(true, 3), (false, 1)] {
+            let header = Header { provisional_cache, step_limit, ..tidy.header };
+            let asked = |part: &Part| {
+                let book = Book { header, parts: vec![part.clone()] };
+                let queries = [5, 0, 5].map(|depth| Query::new(0, depth, work_len(1))).to_vec();
+                let (name, cache) = (String::new(), vec![0; header.cache_len()]);
+                Case { name, book: book.to_bytes(), cache, queries }.replies(Limits::default())
+            };
+            assert!(asked(&part) == asked(&tidy.parts[0]), "{part:?}");
+        }
+    }
+    assert_eq!((parts, changed), (17_406, 12_690));
 }
 
 /// The same with each rule preferred to the others, in all orders of the three.
