@@ -35,9 +35,13 @@ impl Rule {
 /// The first of such parts gives way to its own parts.
 fn splice(parts: &mut Vec<Part>, such: impl Fn(&Part) -> bool) -> bool {
     let Some(at) = parts.iter().position(such) else { return false };
+    splice_at(parts, at);
+    true
+}
+
+fn splice_at(parts: &mut Vec<Part>, at: usize) {
     let inner = parts[at].children().to_vec();
     parts.splice(at..=at, inner);
-    true
 }
 
 /// Applies the first rule that fits, at the first line where one does; none where the part is plain.

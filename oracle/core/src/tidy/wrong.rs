@@ -1,6 +1,6 @@
 //! Wrong readings of item 1, to see that drafts find them out.
 
-use super::{OUTPUT, Told, call, call_with, plain, written};
+use super::{OUTPUT, Told, call, call_with, plain, splice_at, written};
 use crate::book::{Book, LINE, Part};
 
 /// How item 1 is read.
@@ -94,9 +94,7 @@ impl Rules {
 
     fn apply(&self, inside: Inside, part: &mut Part) -> bool {
         if let Some(at) = part.children().iter().position(|inner| (self.joins)(part, inner)) {
-            let parts = part.children_mut().expect("it has parts");
-            let inner = parts[at].children().to_vec();
-            parts.splice(at..=at, inner);
+            splice_at(part.children_mut().expect("it has parts"), at);
             return true;
         }
         match part.children() {
