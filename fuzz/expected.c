@@ -1,4 +1,4 @@
-/* Refusals 1 to 9, decided from what include/search_graph.h and document 01 say, apart from the library. */
+/* Refusals 1 to 9 and 14, decided from what include/search_graph.h and the documents say, apart from the library. */
 #include "fuzz.h"
 
 enum { LINE = 16, FIELDS = 5, DEEPEST = 8 };
@@ -29,6 +29,12 @@ static int read_field(const uint8_t *at, unsigned *n) {
         *n = 10 * *n + (unsigned)(at[i] - '0');
     }
     return 1;
+}
+
+unsigned number(const uint8_t *at) {
+    unsigned n;
+    read_field(at, &n);
+    return n;
 }
 
 static int read_line(const uint8_t *at, unsigned fields[FIELDS]) {
@@ -108,4 +114,11 @@ unsigned expected_refusal(const struct query *q) {
     if (q->cache.len != cache_length(h.goals, h.top)) return 7;
     if (!cache_is_well_formed(q->cache.at, &h)) return 8;
     return q->work.len == work_length(h.goals) ? 0 : 9;
+}
+
+/* 1 to 4 or 14, or 0 where the book is tidied. */
+unsigned tidy_refusal(const struct bytes *book, size_t out_len) {
+    struct header h;
+    unsigned refusal = book_refusal(book->at, book->len, &h);
+    return refusal == 0 && out_len != book->len ? 14 : refusal;
 }

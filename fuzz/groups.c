@@ -13,13 +13,6 @@ struct step {
 
 static char reach[MOST_GOALS][MOST_GOALS];
 
-/* A number of three columns of a good line. */
-static unsigned number(const uint8_t *at) {
-    unsigned n = 0;
-    for (int i = 0; i < 3; i++) n = 10 * n + (at[i] == ' ' ? 0 : (unsigned)(at[i] - '0'));
-    return n;
-}
-
 static unsigned read_steps(const uint8_t *book, size_t len, struct step *steps) {
     unsigned count = 0, caller = 0;
     for (unsigned line = 1; line < len / LINE; line++) {

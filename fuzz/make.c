@@ -14,7 +14,7 @@ struct maker {
 
 /* ---- right books */
 
-static void put_field(uint8_t *to, unsigned n) {
+void put_field(uint8_t *to, unsigned n) {
     to[0] = (uint8_t)(n < 100 ? ' ' : '0' + n / 100 % 10);
     to[1] = (uint8_t)(n < 10 ? ' ' : '0' + n / 10 % 10);
     to[2] = (uint8_t)('0' + n % 10);

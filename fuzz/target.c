@@ -11,23 +11,28 @@
 #include <sys/time.h>
 
 enum { LAST_UNTOUCHED = 9, REFUSALS = 11, ANSWERS = 4, LIMIT_MS = 300 };
+enum { PLAIN, CHANGED, UNREADABLE, OUTPUT_LENGTH, TIDIED };
 
 /* ---- what was seen */
 
 static unsigned long inputs, queries, too_long, answers[ANSWERS], refusals[REFUSALS + 1];
 static unsigned long given, broken; /* guarantees */
+static unsigned long tidied[TIDIED]; /* books by what tidying gave */
 
 static void tell(void) {
     printf("%lu inputs, %lu queries of %d calls each; No %lu, Yes %lu, undecided %lu, overflow %lu; refusals 1 to 11:", inputs, queries, PLACES,
            answers[0], answers[1], answers[2], answers[3]);
     for (int i = 1; i <= REFUSALS; i++) printf(" %lu", refusals[i]);
-    printf("; too long %lu; guarantees given %lu, broken %lu\n", too_long, given, broken);
+    printf("; too long %lu; guarantees given %lu, broken %lu", too_long, given, broken);
+    printf("; tidied: plain already %lu, changed %lu, refused 1 to 4 %lu, 14 %lu\n", tidied[PLAIN], tidied[CHANGED],
+           tidied[UNREADABLE], tidied[OUTPUT_LENGTH]);
 }
 
 /* Of every 10,000 queries at least so many: a third of what random inputs give, and less of what is rare. */
 enum { LEAST_GIVEN = 400, LEAST_BROKEN = 250 };
 static const unsigned long least_answers[ANSWERS] = {250, 250, 250, 400};
 static const unsigned long least_refusals[REFUSALS + 1] = {0, 500, 200, 40, 400, 90, 80, 25, 300, 20, 1, 12};
+static const unsigned long least_tidied[TIDIED] = {280, 320, 350, 80};
 
 static int has(const char *what, int number, unsigned long seen, unsigned long least) {
     if (seen < least) fprintf(stderr, "fuzz: %s %d: %lu, fewer than %lu in %lu queries\n", what, number, seen, least, queries);
@@ -40,6 +45,7 @@ int enough_seen(unsigned long least) {
     if (!enough) fprintf(stderr, "fuzz: %lu queries, fewer than %lu\n", queries, least);
     for (int i = 0; i < ANSWERS; i++) enough &= has("answer", i, answers[i], times * least_answers[i]);
     for (int i = 1; i <= REFUSALS; i++) enough &= has("refusal", i, refusals[i], times * least_refusals[i]);
+    for (int i = 0; i < TIDIED; i++) enough &= has("tidied, outcome", i, tidied[i], times * least_tidied[i]);
     enough &= has("guarantee given", 1, given, times * LEAST_GIVEN) & has("guarantee given", 0, broken, times * LEAST_BROKEN);
     return enough;
 }
@@ -197,6 +203,65 @@ static void check_guarantee(struct input *in, const struct bytes *book) {
     }
 }
 
+/* Mostly as long as the book; else shorter, down to what the tidy book takes, longer, or none. */
+static size_t output_length(struct input *in, size_t book, size_t tidy) {
+    switch (take(in) % 32) {
+    case 1: return 0;
+    case 2: return tidy;
+    case 3: return book - (book > 0);
+    case 4: return book + 1;
+    case 5: return book + 65536;
+    case 6: return take2(in);
+    default: return book;
+    }
+}
+
+static void fail_tidy(const struct query *q, uint32_t code, const char *what) {
+    fprintf(stderr, "fuzz: search_graph_tidy %s (length %u, refusal %u; lengths of book %zu, output %zu)\n", what,
+            (unsigned)(code % 65536), (unsigned)(code / 65536), q->book.len, q->work.len);
+    abort();
+}
+
+/* What a call left is `want` where the book is tidied, and else what was found. */
+static void check_left(const struct query *q, const struct query *placed, uint32_t code, const struct bytes *want) {
+    if (!same(&q->book, &placed->book)) fail_tidy(q, code, "changed the book");
+    if (code >= 65536 && !same(&q->work, &placed->work)) fail_tidy(q, code, "refused, and changed the output");
+    if (code < 65536 && !same(want, &placed->work)) fail_tidy(q, code, "writes another book");
+}
+
+/* Tidies in every placement, each time with other bytes in the output; the length used. */
+static size_t tidy_one(const struct bytes *book, size_t out_len, struct bytes *want, unsigned seed) {
+    static uint8_t out[ROOM], none;
+    unsigned refusal = tidy_refusal(book, out_len);
+    size_t used = refusal == 0 ? expected_tidy(book->at, book->len, want->at) : 0;
+    struct query q = {*book, {&none, 0}, {out, out_len}, 0, 0}, placed;
+    want->len = refusal == 0 ? out_len : 0;
+    for (int how = 0; how < PLACES; how++) {
+        make_noise(seed + (unsigned)how, out, out_len);
+        place(&q, how, &placed);
+        uint32_t code = search_graph_tidy(placed.book.at, placed.book.len, placed.work.at, placed.work.len);
+        if (code / 65536 != refusal) fail_tidy(&q, code, "refuses otherwise");
+        if (code % 65536 != used) fail_tidy(&q, code, "tells another length");
+        check_left(&q, &placed, code, want);
+        unplace(&placed, how);
+    }
+    return used;
+}
+
+/* A book, and once more what it was tidied to, which is plain. */
+static void check_tidy(struct input *in, const struct bytes *book) {
+    static uint8_t once[ROOM], twice[ROOM];
+    struct bytes tidy = {once, 0}, again = {twice, 0};
+    unsigned refusal = tidy_refusal(book, book->len), seed = take(in);
+    size_t right = refusal == 0 ? expected_tidy(book->at, book->len, once) : 0;
+    size_t len = output_length(in, book->len, right);
+    size_t used = tidy.len = tidy_one(book, len, &tidy, seed);
+    tidied[refusal != 0 ? UNREADABLE : len != book->len ? OUTPUT_LENGTH : used < len ? CHANGED : PLAIN]++;
+    if (used == 0) return;
+    struct query q = {tidy, again, tidy, 0, 0};
+    if (tidy_one(&tidy, used, &again, seed) != used || !same(&tidy, &again)) fail_tidy(&q, 0, "changes a tidy book");
+}
+
 /* One query; the cache, of the right length, is carried on where this one has it. 0 where it takes too long. */
 static int one_query(struct input *in, struct query *q, const struct header *h) {
     size_t right = q->cache.len;
@@ -225,6 +290,7 @@ int LLVMFuzzerTestOneInput(const uint8_t *data, size_t size) {
     make_book(&in, &q.book);
     book_refusal(book, q.book.len, &h);
     check_guarantee(&in, &q.book);
+    check_tidy(&in, &q.book);
     make_cache(&in, &h, &q.cache);
     for (unsigned left = 1 + take(&in) % 6; left > 0; left--) {
         if (take(&in) % 32 == 31) make_cache(&in, &h, &q.cache);

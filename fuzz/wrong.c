@@ -10,6 +10,7 @@ size_t right_cache_len(size_t goals, size_t top_depth);
 uint32_t right_query(const uint8_t *book, size_t book_len, uint8_t *cache, size_t cache_len, uint8_t *work, size_t work_len, size_t goal,
                      size_t depth);
 uint32_t right_guarantee(const uint8_t *book, size_t book_len, uint64_t *out, size_t n);
+uint32_t right_tidy(const uint8_t *book, size_t book_len, uint8_t *out, size_t out_len);
 
 static int wrong(const char *name) {
     static const char *set;
@@ -83,6 +84,53 @@ uint32_t search_graph_guarantee(const uint8_t *book, size_t book_len, uint64_t *
     if (wrong("guarantee-writes-past")) ((volatile uint64_t *)out)[n] = 0;
     if (wrong("guarantee-four-for-three") && code == 3 * 256) return 4 * 256;
     return code;
+}
+
+/* Faults before a book is tidied. */
+static void before_tidy(const uint8_t *book, size_t book_len, uint8_t *out, size_t out_len) {
+    if (wrong("tidy-reads-past-book")) read_byte(book + book_len);
+    if (wrong("tidy-writes-past-output")) write_same(out + out_len);
+    if (wrong("tidy-writes-before-output")) write_same(out - 1);
+    if (wrong("tidy-writes-book") && book_len > 0) write_same(book);
+    if (wrong("tidy-changes-book") && book_len > 0) *(uint8_t *)(uintptr_t)book ^= 1;
+}
+
+/* Faults in what it is tidied to. */
+static void leave_tidied(size_t used, const uint8_t *found, uint8_t *out, size_t out_len) {
+    static unsigned calls;
+    if (wrong("tidy-tail-left")) memcpy(out + used, found + used, out_len - used);
+    if (wrong("tidy-tail-spaces")) memset(out + used, ' ', out_len - used);
+    if (wrong("tidy-header") && out[11] == '0') out[11] = '1';
+    if (wrong("tidy-has-a-state") && ++calls % 1000 == 0) out[used - 1] ^= 1;
+    for (size_t i = 16; wrong("tidy-any-for-pick") && i < used; i += 16)
+        if (out[i + 2] == '5') out[i + 2] = '4';
+}
+
+/* Faults in lengths and refusals. */
+static uint32_t other_tidy_code(uint32_t code, size_t book_len, size_t out_len) {
+    uint32_t refusal = code / 65536;
+    if (wrong("tidy-14-before-4") && refusal == 4 && out_len != book_len) return 14 * 65536;
+    if (wrong("tidy-longer-output") && refusal == 14 && out_len > book_len) return (uint32_t)book_len;
+    if (wrong("tidy-shorter-output") && refusal == 14 && out_len < book_len) return (uint32_t)out_len;
+    if (wrong("tidy-refusal-nine") && refusal == 14) return 9 * 65536;
+    if (wrong("tidy-whole-length") && refusal == 0) return (uint32_t)book_len;
+    if (wrong("tidy-refusal-length") && refusal != 0) return code + (uint32_t)(book_len % 65536);
+    return code;
+}
+
+uint32_t search_graph_tidy(const uint8_t *book, size_t book_len, uint8_t *out, size_t out_len) {
+    uint8_t *found = malloc(out_len + 1);
+    memcpy(found, out, out_len);
+    before_tidy(book, book_len, out, out_len);
+    uint32_t code = right_tidy(book, book_len, out, out_len);
+    if (code < 65536) leave_tidied(code, found, out, out_len);
+    free(found);
+    if (wrong("tidy-refusal-writes") && code >= 65536) memset(out, 0, out_len);
+    if (wrong("tidy-copies") && code < 65536) {
+        memcpy(out, book, out_len);
+        return (uint32_t)out_len;
+    }
+    return other_tidy_code(code, book_len, out_len);
 }
 
 /* Faults in the code. */

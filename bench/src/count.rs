@@ -11,8 +11,9 @@ use std::process::Command;
 use oracle_core::arguments::Arguments;
 use oracle_core::case::read_cases;
 
-use crate::engines::{BYTE_FLOOR, ENGINES, FLOOR, FROM_BYTES, LIBRARY, ORIGINAL};
+use crate::engines::{ASKING, BYTE_FLOOR, ENGINES, Engine, FLOOR, FROM_BYTES, LIBRARY, ORIGINAL};
 use crate::lists::{Class, List, queries};
+use crate::tidy::TIDIERS;
 
 /// The table, class by class.
 pub fn table(made: &[(&Class, Vec<List>)]) -> Result<(), String> {
@@ -42,13 +43,12 @@ pub fn table(made: &[(&Class, Vec<List>)]) -> Result<(), String> {
     Ok(())
 }
 
-/// The function that asks an engine.
-const ASKING: &str = "bench::engines::ask_all*";
-
 /// The functions that rebase provisional entries: each is called, and not put inside its callers. The library's takes a
 /// frame off the stack with any ending, so that clearing before a rerun is in it, and in the original is not.
-const REBASING: [(usize, &str); 2] =
-    [(LIBRARY, "task::popped"), (ORIGINAL, "*::rebase_provisional_cache_entries")];
+const REBASING: [(&Engine, &str); 2] = [
+    (&ENGINES[LIBRARY], "task::popped"),
+    (&ENGINES[ORIGINAL], "*::rebase_provisional_cache_entries"),
+];
 
 /// What rebasing takes of it, class by class where there is any.
 pub fn rebasing(made: &[(&Class, Vec<List>)]) -> Result<(), String> {
@@ -67,9 +67,10 @@ pub fn rebasing(made: &[(&Class, Vec<List>)]) -> Result<(), String> {
             continue;
         }
         if inside[0] == 0.0 {
-            return Err(format!("of {REBASING:?} callgrind found the original's alone"));
+            let functions = REBASING.map(|(_, function)| function);
+            return Err(format!("of {functions:?} callgrind found the original's alone"));
         }
-        let whole = within(lists, &[(LIBRARY, ASKING), (ORIGINAL, ASKING)])?;
+        let whole = within(lists, &REBASING.map(|(engine, _)| (engine, ASKING)))?;
         let share = |k: usize| 100.0 * inside[k] / whole[k];
         println!(
             "| {} | {:.1} | {:.1} | {:.1} | {:.1} | {:.2} |",
@@ -87,8 +88,7 @@ pub fn rebasing(made: &[(&Class, Vec<List>)]) -> Result<(), String> {
 
 /// Instructions a query of each engine.
 fn counted(lists: &[List]) -> Result<[f64; ENGINES.len()], String> {
-    let asked: [(usize, &str); ENGINES.len()] = std::array::from_fn(|engine| (engine, ASKING));
-    let counts = within(lists, &asked)?;
+    let counts = within(lists, &ENGINES.each_ref().map(|engine| (engine, ASKING)))?;
     if counts.contains(&0.0) {
         return Err("callgrind counted nothing".to_string());
     }
@@ -96,12 +96,15 @@ fn counted(lists: &[List]) -> Result<[f64; ENGINES.len()], String> {
 }
 
 /// Instructions a query of some engines, each inside one of its functions.
-fn within<const N: usize>(lists: &[List], asked: &[(usize, &str); N]) -> Result<[f64; N], String> {
+pub fn within<const N: usize>(
+    lists: &[List],
+    asked: &[(&Engine, &str); N],
+) -> Result<[f64; N], String> {
     let text: String = lists.iter().map(List::text).collect();
     let file = std::env::temp_dir().join(format!("bench-lists-{}.txt", std::process::id()));
     fs::write(&file, text).map_err(|e| format!("{}: {e}", file.display()))?;
     let mut counts = [0.0; N];
-    let each = asked.iter().zip(&mut counts).try_for_each(|(&(engine, function), count)| {
+    let each = asked.iter().zip(&mut counts).try_for_each(|((engine, function), count)| {
         let of = |times: usize| collected(&file, engine, times, function);
         *count = of(2)?.saturating_sub(of(1)?) as f64 / queries(lists) as f64;
         Ok(())
@@ -121,7 +124,7 @@ fn one_by_one(lists: &[List], instructions: f64) -> Result<(), String> {
 }
 
 /// What callgrind collects inside a function while an engine runs the lists of a file so many times.
-fn collected(file: &Path, engine: usize, times: usize, function: &str) -> Result<u64, String> {
+fn collected(file: &Path, engine: &Engine, times: usize, function: &str) -> Result<u64, String> {
     let this = std::env::current_exe().map_err(|e| e.to_string())?;
     let output = Command::new("valgrind")
         .args(["--tool=callgrind", "--callgrind-out-file=/dev/null"])
@@ -129,7 +132,7 @@ fn collected(file: &Path, engine: usize, times: usize, function: &str) -> Result
         // without it glibc clears by a string instruction, which is counted once a byte
         .env("GLIBC_TUNABLES", "glibc.cpu.x86_rep_stosb_threshold=100000000")
         .arg(this)
-        .args(["run", ENGINES[engine].name, &times.to_string()])
+        .args(["run", engine.name, &times.to_string()])
         .arg(file)
         .output()
         .map_err(|e| format!("valgrind: {e}"))?;
@@ -155,7 +158,8 @@ impl Run {
     }
 
     pub fn run(&self) -> Result<(), String> {
-        let engine = ENGINES.iter().find(|e| e.name == self.engine).ok_or("no such engine")?;
+        let engine = ENGINES.iter().chain(&TIDIERS).find(|e| e.name == self.engine);
+        let engine = engine.ok_or("no such engine")?;
         let text = fs::read_to_string(&self.file).map_err(|e| format!("{}: {e}", self.file))?;
         for case in read_cases(&text)? {
             (engine.run)(&List { case, runs: 1, entries: 0 }, self.times);

@@ -98,7 +98,7 @@ impl Lent {
 }
 
 /// Where the queries change the cache, it is set anew before each run, which is not timed; else the clock is read once for all.
-fn timed<S>(
+pub fn timed<S>(
     list: &List,
     times: usize,
     cache_stays: bool,
@@ -117,7 +117,10 @@ fn timed<S>(
     spent
 }
 
-/// Instructions are counted in this function only (count.rs names it).
+/// The function below, as callgrind knows it.
+pub const ASKING: &str = "bench::engines::ask_all*";
+
+/// Instructions are counted in this function only.
 #[inline(never)]
 fn ask_all<S>(queries: &[Query], times: usize, state: &mut S, ask: &impl Fn(&mut S, &Query)) {
     for _ in 0..times {

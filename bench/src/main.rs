@@ -8,6 +8,7 @@ mod scaling;
 mod search;
 mod shapes;
 mod table;
+mod tidy;
 mod worst;
 
 use std::process::ExitCode;
@@ -29,6 +30,7 @@ fn task() -> Result<Task, String> {
         Some("rebasing") => Box::new(move || count::rebasing(&table::made(only)?)),
         Some("scaling") => Box::new(move || scaling::tables(rounds)),
         Some("worst") => Box::new(move || worst::table(rounds)),
+        Some("tidy") => Box::new(move || tidy::table(rounds)),
         Some("report") => Box::new(move || report(rounds)),
         Some("classes") => Box::new(move || Ok(table::classes(&table::made(only)?))),
         Some("lists") => Box::new(move || Ok(table::lists(&table::made(only)?))),
@@ -60,7 +62,9 @@ fn report(rounds: usize) -> Result<(), String> {
     println!("\n## Scaling\n");
     scaling::tables(rounds)?;
     println!("\n## The worst small books\n");
-    worst::table(rounds)
+    worst::table(rounds)?;
+    println!("\n## Tidying\n");
+    tidy::table(rounds)
 }
 
 fn processor() -> String {

@@ -1,22 +1,22 @@
 //! Rounds: every engine in turn, again and again, on the same lists.
 
-use crate::engines::{ENGINES, agree};
+use crate::engines::{ENGINES, Engine, agree};
 use crate::lists::{List, queries};
 
 /// A round of one engine takes at least so many nanoseconds.
 const ROUND: u64 = 2_000_000;
 
 /// Nanoseconds a query: for each round, for each engine.
-pub struct Rounds(Vec<[f64; ENGINES.len()]>);
+pub struct Rounds(Vec<Vec<f64>>);
 
 impl Rounds {
-    pub fn of(lists: &[List], rounds: usize) -> Rounds {
+    pub fn of(engines: &[Engine], lists: &[List], rounds: usize) -> Rounds {
         let queries = queries(lists);
-        let times: [usize; ENGINES.len()] = std::array::from_fn(|engine| enough(lists, engine));
-        let each = |engine: usize| {
-            run(lists, engine, times[engine]) as f64 / (times[engine] * queries) as f64
+        let times: Vec<usize> = engines.iter().map(|engine| enough(lists, engine)).collect();
+        let each = |(engine, times): (&Engine, &usize)| {
+            run(lists, engine, *times) as f64 / (times * queries) as f64
         };
-        Rounds((0..rounds).map(|_| std::array::from_fn(each)).collect())
+        Rounds((0..rounds).map(|_| engines.iter().zip(&times).map(each).collect()).collect())
     }
 
     /// The median over the rounds, in microseconds.
@@ -36,7 +36,7 @@ impl Rounds {
 /// One list by itself. Times mean nothing where the engines do not do the same.
 pub fn measured(list: List, rounds: usize) -> Result<(List, Rounds), String> {
     all_agree(std::slice::from_ref(&list))?;
-    let rounds = Rounds::of(std::slice::from_ref(&list), rounds);
+    let rounds = Rounds::of(&ENGINES, std::slice::from_ref(&list), rounds);
     Ok((list, rounds))
 }
 
@@ -48,12 +48,12 @@ pub fn all_agree(lists: &[List]) -> Result<(), String> {
     }
 }
 
-fn run(lists: &[List], engine: usize, times: usize) -> u64 {
-    lists.iter().map(|list| (ENGINES[engine].run)(list, times)).sum()
+fn run(lists: &[List], engine: &Engine, times: usize) -> u64 {
+    lists.iter().map(|list| (engine.run)(list, times)).sum()
 }
 
 /// How often an engine has to run the lists in a round.
-fn enough(lists: &[List], engine: usize) -> usize {
+fn enough(lists: &[List], engine: &Engine) -> usize {
     let powers = (0..20).map(|power| 1 << power);
     powers.into_iter().find(|&times| run(lists, engine, times) >= ROUND).unwrap_or(1 << 20)
 }

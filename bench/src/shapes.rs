@@ -1,6 +1,6 @@
 //! Books made for timing.
 
-use oracle_core::book::{Book, COINDUCTIVE, Header, INDUCTIVE, Part, UNKNOWN};
+use oracle_core::book::{Book, COINDUCTIVE, Header, INDUCTIVE, MAX_LINES, Part, UNKNOWN};
 use oracle_core::random::Random;
 
 /// A ring: each goal leans on the next, and some of them, more or less many, on other goals or a fact too.
@@ -83,4 +83,21 @@ pub fn one_goal(lines: usize) -> Book {
     let call = || Part::Call { goal: 0, kind: COINDUCTIVE, lower: false };
     let parts = (0..lines - 3).map(|i| if i % 2 == 0 { call() } else { EMPTY });
     Book { header, parts: vec![Part::All(parts.collect())] }
+}
+
+/// Goals of the same part, and a last one of an any of calls that fills the book to 1,000 lines.
+pub fn filled(part: Part) -> Book {
+    let call = Part::Call { goal: 0, kind: INDUCTIVE, lower: true };
+    let goals = ((MAX_LINES - 5) / (1 + part.lines())).min(63);
+    let rest = MAX_LINES - 3 - goals * (1 + part.lines());
+    let mut parts = vec![part; goals];
+    parts.push(Part::Any(vec![call; rest]));
+    let header = Header {
+        provisional_cache: true,
+        goals: goals + 1,
+        top_depth: 4,
+        step_limit: 8,
+        divisor: 2,
+    };
+    Book { header, parts }
 }

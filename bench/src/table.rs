@@ -1,6 +1,6 @@
 //! The table of times, and whether the goals are met.
 
-use crate::engines::{BYTE_FLOOR, FLOOR, FROM_BYTES, LIBRARY, ORIGINAL};
+use crate::engines::{BYTE_FLOOR, ENGINES, FLOOR, FROM_BYTES, LIBRARY, ORIGINAL};
 use crate::lists::{CLASSES, Class, LISTS, List, queries};
 use crate::rounds::{Rounds, all_agree, median};
 
@@ -82,7 +82,7 @@ pub fn times(made: &[(&'static Class, Vec<List>)], rounds: usize) {
     let rows = made.iter().map(|(class, lists)| {
         eprintln!("timing {}", class.name);
         let cached = lists.iter().all(List::is_cached);
-        let row = Row { class: class.name, cached, rounds: Rounds::of(lists, rounds) };
+        let row = Row { class: class.name, cached, rounds: Rounds::of(&ENGINES, lists, rounds) };
         row.print();
         row
     });

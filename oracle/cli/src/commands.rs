@@ -11,6 +11,7 @@ use oracle_core::generate::{CLASSES, class_named};
 use oracle_core::groups::wrong::{self, RIGHT};
 use oracle_core::groups::{self, Breach};
 use oracle_core::recorded;
+use oracle_core::tidy;
 use oracle_core::{Limits, Outcome, extend_with_paths, reply_within, work_len, wrong_readings};
 
 use oracle_core::arguments::Arguments;
@@ -66,6 +67,9 @@ pub fn readings(given: Arguments) -> Done {
     for (number, what) in wrong_readings() {
         say(&format!("{number:>3} {what}"))?;
     }
+    for reading in tidy::wrong::all() {
+        say(&format!("item 1, {} ({}): {}", reading.name, reading.of, reading.what))?;
+    }
     for reading in wrong::all() {
         say(&format!("item 12, {}: {}", reading.name, reading.what))?;
     }
@@ -78,6 +82,21 @@ pub fn generate(mut given: Arguments) -> Done {
     let (seed, count) = (given.need_number("SEED")?, given.need_number("COUNT")?);
     given.end()?;
     (0..count).try_for_each(|number| print_case(&class.case(seed, number)))?;
+    Ok(true)
+}
+
+/// Prints a book's tidy form.
+pub fn tidy(mut given: Arguments) -> Done {
+    let name = given.need("BOOKFILE")?;
+    given.end()?;
+    let bytes = read_file(&name)?;
+    let mut out = vec![0; bytes.len()];
+    let told = tidy::call(&bytes, &mut out);
+    if told.refusal != 0 {
+        return Err(format!("{name}: refused by {}", told.refusal));
+    }
+    let text = String::from_utf8_lossy(&out[..told.length]);
+    say(text.trim_end_matches('\n'))?;
     Ok(true)
 }
 

@@ -39,6 +39,8 @@ oracle: document 01's queries, answered by the original search graph
       Prints the groups of item 12, called ones first: the goals, and whether the set is least,
       greatest or either. Where the condition is broken, prints the group, its first inductive
       and its first coinductive line (the header is line 0); exit status 1.
+  oracle tidy BOOKFILE
+      Prints the book in its tidy form (item 1 of document 02).
   oracle extensions < TABLE
       Compares a table of 1,024 numbers, as crates/pop/src/table.rt has it between `[` and
       `]`, with every set of paths extended by every set; exit status 1 if something differs.
@@ -47,7 +49,7 @@ oracle: document 01's queries, answered by the original search graph
       or random.
   oracle readings
       Lists the wrong readings that this build knows: by number (feature wrong_readings), and
-      those of item 12 by name.
+      those of items 1 and 12 by name.
   oracle hunt [--rounds N] [--seconds S] [--seed K] [--readings N,N,..]
       Hunts small cases that catch wrong readings (feature wrong_readings) and prints few of
       them; tells the standard error how it goes and what is not caught. Ends after N rounds
@@ -86,6 +88,7 @@ fn run() -> Result<bool, String> {
         Some("verify") => commands::verify(given),
         Some("demand3") => commands::demand3(given),
         Some("groups") => commands::groups(given),
+        Some("tidy") => commands::tidy(given),
         Some("extensions") => commands::extensions(given),
         Some("recorded") => commands::recorded(given),
         Some("readings") => commands::readings(given),

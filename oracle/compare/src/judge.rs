@@ -4,6 +4,7 @@ use oracle_core::judge::too_long;
 
 use crate::passes::KINDS;
 use crate::tally::Tally;
+use crate::tidy;
 
 /// From so many cases on, a class is judged by its floors; fewer tell too little.
 pub const ENOUGH: u64 = 1_000;
@@ -52,6 +53,7 @@ const FLOORS: &[Floors] = &[
     floors("no-inductive",     1700, [130,  840, 200, 360], [  0,   0,  0,   0,  26,  11,   0,    0,  13,  0,   0]),
     floors("groups",           1600, [320,  420, 320, 400], [  0,   0,  0,   0,  28,  11,   0,    0,  14,  0,   0]),
     floors("mixed",            1700, [270,  630, 270, 320], [  0,   0,  0,   0,  25,  12,   0,    0,  10,  0,   0]),
+    floors("drafts",           1200, [200,  330, 190, 310], [  0,   0,  0,   0,  17,   7,   0,    0,   7,  0,  10]),
     floors("bad-query",        1900, [ 88,  150,  98, 170], [  0,   0,  0,   0, 570, 270, 230,    0, 200,  0,   0]),
     floors("damaged-book",     1000, [ 20,   22,  23,  35], [160, 120, 70, 370,   0,   0,   0,    0,   0,  0,   0]),
     floors("made-cache",       1200, [270,  350, 190, 250], [  0,   0,  0,   0,   7,   0,   0,    0,   0,  0,   9]),
@@ -67,6 +69,8 @@ pub fn never(all: &Tally, lengths: u64) -> Vec<String> {
         (all.differences, "queries that library and original answer differently"),
         (lengths, "lengths that the library computes wrongly"),
         (all.wrong_guarantees, "guarantees that the library tells wrongly"),
+        (all.wrong_tidied, "books that the library tidies otherwise"),
+        (all.wrong_on_tidied, "queries that a tidy book answers otherwise than its draft"),
         (all.panics, "panics of the original"),
         (all.frames, "frames of the original out of order"),
     ];
@@ -108,12 +112,35 @@ const PASSES: [u64; KINDS.len()] = [2_500, 180, 95, 23, 45];
 
 /// Where all classes together gave too few.
 pub fn too_few_passes(cases: u64, all: &Tally) -> Vec<String> {
-    let least = PASSES.map(|floor| floor * cases / ENOUGH);
-    let each = KINDS.iter().zip(all.passes).zip(least);
-    let few = each.filter(|((_, seen), least)| seen < least);
-    few.map(|((kind, seen), least)| format!("passes {kind}: {seen} queries, fewer than {least}"))
+    let few = too_few(cases, &KINDS, &all.passes, &PASSES);
+    few.map(|(kind, seen, least)| format!("passes {kind}: {seen} queries, fewer than {least}"))
         .collect()
 }
+
+/// Of each of `tidy::KINDS`, in every `ENOUGH` cases of all classes: half of what they give.
+const TIDIED: [u64; tidy::KINDS.len()] =
+    [3_500, 7_800, 95, 65, 35, 180, 3_100, 42_000, 43_000, 32_000, 26_000];
+
+/// Where all classes together gave too few.
+pub fn too_few_tidied(cases: u64, all: &Tally) -> Vec<String> {
+    let few = too_few(cases, &tidy::KINDS, &all.tidied, &TIDIED);
+    few.map(|(kind, seen, least)| format!("tidied, {kind}: {seen}, fewer than {least}")).collect()
+}
+
+/// Kinds that were seen too seldom, how often they were, and how often they should be.
+fn too_few<'a>(
+    cases: u64,
+    kinds: &'a [&str],
+    seen: &'a [u64],
+    floors: &'a [u64],
+) -> impl Iterator<Item = (&'a str, u64, u64)> {
+    let each = kinds.iter().zip(seen).zip(floors);
+    let each = each.map(move |((kind, seen), floor)| (*kind, *seen, floor * cases / ENOUGH));
+    each.filter(|(_, seen, least)| seen < least)
+}
+
+/// Drafts that tidying changes, in every `ENOUGH` cases of their class: half of what it gives.
+const CHANGED_DRAFTS: u64 = 340;
 
 /// Where a class is below its floors after so many cases.
 pub fn below_floors(class: &str, cases: u64, tally: &Tally) -> Vec<String> {
@@ -124,6 +151,10 @@ pub fn below_floors(class: &str, cases: u64, tally: &Tally) -> Vec<String> {
 }
 
 impl Floors {
+    fn changed(&self) -> u64 {
+        if self.class == "drafts" { CHANGED_DRAFTS } else { 0 }
+    }
+
     /// The floors that the class does not reach.
     fn missed(&self, cases: u64, tally: &Tally) -> Vec<String> {
         let mut found = Vec::new();
@@ -135,6 +166,7 @@ impl Floors {
             }
         };
         at_least(self.compared, tally.compared, "queries compared");
+        at_least(self.changed(), tally.tidied[tidy::CHANGED], "books changed");
         for (answer, name) in ["No", "Yes", "undecided", "overflow"].iter().enumerate() {
             at_least(self.answers[answer], tally.answers[answer], name);
         }
@@ -157,6 +189,7 @@ mod tests {
         let scaled = |floor: u64| floor * cases / ENOUGH;
         let mut tally = Tally { compared: scaled(floors.compared), ..Tally::default() };
         tally.answers = floors.answers.map(scaled);
+        tally.tidied[tidy::CHANGED] = scaled(floors.changed());
         (1..=11).for_each(|i| tally.refusals[i] = scaled(floors.refusals[i - 1]));
         tally
     }
@@ -174,6 +207,7 @@ mod tests {
         let asked = |of: &dyn Fn(&Floors) -> u64| FLOORS.iter().any(|floors| of(floors) > 0);
         assert!((0..4).all(|i| asked(&|floors| floors.answers[i])));
         assert!((0..11).all(|i| asked(&|floors| floors.refusals[i])));
+        assert!(asked(&Floors::changed));
         assert!(FLOORS.iter().all(|f| f.compared > 0 && f.answers[0] > 0 && f.answers[1] > 0));
     }
 
@@ -190,6 +224,9 @@ mod tests {
                 assert!(found.len() == 1 && found[0].contains(&name), "{found:?}");
             };
             told(&|tally| tally.compared -= 1, "queries compared".into());
+            if floors.changed() > 0 {
+                told(&|tally| tally.tidied[tidy::CHANGED] -= 1, "books changed".into());
+            }
             for (i, name) in ["No", "Yes", "undecided", "overflow"].into_iter().enumerate() {
                 told(&|tally| tally.answers[i] -= 1, format!(" {name}: "));
             }
@@ -223,6 +260,18 @@ mod tests {
     }
 
     #[test]
+    fn one_tidied_fewer_is_too_few() {
+        let enough = Tally { tidied: TIDIED.map(|n| 2 * n), ..Tally::default() };
+        assert!(too_few_tidied(2 * ENOUGH, &enough).is_empty());
+        for (i, kind) in tidy::KINDS.iter().enumerate() {
+            let mut tally = enough.clone();
+            tally.tidied[i] -= 1;
+            let found = too_few_tidied(2 * ENOUGH, &tally);
+            assert!(found.len() == 1 && found[0].contains(kind), "{found:?}");
+        }
+    }
+
+    #[test]
     fn one_entry_fewer_is_too_few() {
         let most = |entries| Tally { entries, ..Tally::default() };
         assert!(too_few_entries(&most(ENTRIES)).is_empty());
@@ -239,6 +288,11 @@ mod tests {
         assert_eq!(said(good.clone(), 2), "2 lengths that the library computes wrongly");
         let told = Tally { wrong_guarantees: 1, ..good.clone() };
         assert_eq!(said(told, 0), "1 guarantees that the library tells wrongly");
+        let tidied = Tally { wrong_tidied: 1, ..good.clone() };
+        assert_eq!(said(tidied, 0), "1 books that the library tidies otherwise");
+        let on_tidied = Tally { wrong_on_tidied: 1, ..good.clone() };
+        let otherwise = "1 queries that a tidy book answers otherwise than its draft";
+        assert_eq!(said(on_tidied, 0), otherwise);
         assert_eq!(said(Tally { panics: 1, ..good.clone() }, 0), "1 panics of the original");
         let frame = Tally { frames: 1, ..good.clone() };
         assert_eq!(said(frame, 0), "1 frames of the original out of order");

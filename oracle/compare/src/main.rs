@@ -1,11 +1,12 @@
 //! The proved library and the original, side by side in one process, on generated cases: answers, refusals, every byte of
-//! cache and workspace, and guard bytes around what is lent; and whether the guarantee of mixed books applies.
+//! cache and workspace, and guard bytes around what is lent; whether the guarantee of mixed books applies; and tidy books.
 
 mod guarantee;
 mod guarded;
 mod judge;
 mod passes;
 mod tally;
+mod tidy;
 
 use std::process::ExitCode;
 use std::time::Instant;
@@ -15,16 +16,19 @@ use oracle_core::arguments::Arguments;
 use oracle_core::book::{Book, Header};
 use oracle_core::case::{Case, Query};
 use oracle_core::generate::{CLASSES, Class, class_named};
+use oracle_core::tidy::wrong::{self, RIGHT, Reading};
 use oracle_core::{Limits, Outcome, reply_within, work_len};
 use passes::{KINDS, shown};
 use tally::Tally;
 
 const USAGE: &str = "usage: compare [--seed S] [--cases N] [--seconds T] [--fuel F] [--class NAME] [--least M]
+               [--reading NAME]
   N cases of each class (100,000), for T seconds at the most (60); a query of more than F goal runs (20,000) is not compared.
   Fails where the two differ, where the original panics or has a frame out of order, where more than 1 query in 100 is too
   long, and where a class gives fewer comparisons, answers or refusals than it should. The last is judged from 1,000 cases of
   each class on, and said where there are fewer; with --least M, fewer than M are a failure.
-  --mutant N: the original with wrong reading N (feature wrong_readings), to see this program find it.";
+  --mutant N: the original with wrong reading N (feature wrong_readings), to see this program find it.
+  --reading NAME: books tidied by a wrong reading of item 1 (`oracle readings`), to the same end.";
 
 struct Options {
     seed: u64,
@@ -34,6 +38,8 @@ struct Options {
     classes: Vec<&'static Class>,
     /// Fewer cases of each class are a failure.
     least: u64,
+    /// How item 1 is read.
+    reading: Reading,
 }
 
 impl Options {
@@ -43,6 +49,10 @@ impl Options {
         let classes = match words.option_word("--class")? {
             Some(name) => vec![class_named(&name).ok_or(format!("no class {name:?}"))?],
             None => CLASSES.iter().collect(),
+        };
+        let reading = match words.option_word("--reading")? {
+            Some(name) => wrong::named(&name).ok_or(format!("no reading {name:?} of item 1"))?,
+            None => RIGHT,
         };
         let options = Options {
             seed: words.option("--seed")?.unwrap_or(1),
@@ -55,13 +65,14 @@ impl Options {
             },
             classes,
             least: words.option("--least")?.unwrap_or(0),
+            reading,
         };
         words.end()?;
         Ok(options)
     }
 }
 
-/// What the workspace holds before a query: anything.
+/// What the workspace holds before a query, or the output before tidying: anything.
 fn any_bytes(len: usize, salt: usize) -> Vec<u8> {
     (0..len).map(|i| (i.wrapping_mul(37) ^ salt.wrapping_mul(101)) as u8).collect()
 }
@@ -73,6 +84,14 @@ struct Asked<'a> {
     header: Option<Header>,
     number: usize,
     query: &'a Query,
+    /// The tidy book, where it is not the draft.
+    tidied: Option<&'a [u8]>,
+}
+
+impl Asked<'_> {
+    fn any_work(&self) -> Vec<u8> {
+        any_bytes(self.query.work_len, self.number)
+    }
 }
 
 impl std::fmt::Display for Asked<'_> {
@@ -112,7 +131,7 @@ fn original_says(
 fn compare_query(asked: &Asked, cache: &mut [u8], limits: Limits, tally: &mut Tally) {
     let (case, query) = (asked.case, asked.query);
     let mut our_cache = Guarded::new(cache);
-    let mut work = any_bytes(query.work_len, asked.number);
+    let mut work = asked.any_work();
     let mut our_work = Guarded::new(&work);
     let before = cache.to_vec();
     let said = original_says(asked, cache, &mut work, limits, tally);
@@ -126,8 +145,12 @@ fn compare_query(asked: &Asked, cache: &mut [u8], limits: Limits, tally: &mut Ta
         0 => tally.accept(answer, asked.header.map(|header| shown(&header, &before, cache))),
         n => tally.refusals[n as usize] += 1,
     }
+    let expected = u32::from(answer) + 256 * u32::from(refusal);
+    if let Some(tidied) = asked.tidied {
+        tidy::compare_query(asked, tidied, &before, (expected, cache, &work), tally);
+    }
     let whole = book.guards_hold() && our_cache.guards_hold() && our_work.guards_hold();
-    let same = code == u32::from(answer) + 256 * u32::from(refusal)
+    let same = code == expected
         && book.inner() == case.book
         && our_cache.inner() == cache
         && our_work.inner() == work;
@@ -144,11 +167,12 @@ fn compare_query(asked: &Asked, cache: &mut [u8], limits: Limits, tally: &mut Ta
     }
 }
 
-fn compare_case(case: &Case, limits: Limits, tally: &mut Tally) {
+fn compare_case(case: &Case, tidied: Option<&[u8]>, limits: Limits, tally: &mut Tally) {
     let mut cache = case.cache.clone();
     let header = Book::read(&case.book).ok().map(|book| book.header);
     for (number, query) in case.queries.iter().enumerate() {
-        compare_query(&Asked { case, header, number, query }, &mut cache, limits, tally);
+        let asked = Asked { case, header, number, query, tidied };
+        compare_query(&asked, &mut cache, limits, tally);
     }
 }
 
@@ -178,7 +202,8 @@ fn compare(options: &Options) -> (Vec<Tally>, u64) {
             }
             let case = class.case(options.seed, number);
             guarantee::compare(&case.name, &case.book, number, tally);
-            compare_case(&case, options.limits, tally);
+            let tidied = tidy::compare(&case.name, &case.book, number, options.reading, tally);
+            compare_case(&case, tidied.as_deref(), options.limits, tally);
         }
     }
     (tallies, options.cases)
@@ -201,9 +226,20 @@ fn print(options: &Options, tallies: &[Tally], cases: u64, all: &Tally) {
         "seed {}, {cases} cases of each class: {} queries compared, {} differences; not compared: {} too long, {} panics of the original, {} frames out of order",
         options.seed, all.compared, all.differences, all.too_long, all.panics, all.frames
     );
-    let passes: Vec<String> =
-        KINDS.iter().zip(all.passes).map(|(kind, count)| format!("{kind} {count}")).collect();
-    println!("accepted queries by the passes of the slots that they wrote: {}", passes.join(", "));
+    let told = |kinds: &[&str], counts: &[u64]| {
+        let each = kinds.iter().zip(counts).map(|(kind, count)| format!("{kind} {count}"));
+        each.collect::<Vec<String>>().join(", ")
+    };
+    println!(
+        "accepted queries by the passes of the slots that they wrote: {}",
+        told(&KINDS, &all.passes)
+    );
+    println!(
+        "tidied: {}, {} differences, {} replies that differ from the draft's",
+        told(&tidy::KINDS, &all.tidied),
+        all.wrong_tidied,
+        all.wrong_on_tidied
+    );
     let [given, broken, refused] = all.guarantees;
     println!(
         "guarantees: {given} given, {broken} broken, {refused} books refused, {} differences",
@@ -222,6 +258,7 @@ fn faults(options: &Options, tallies: &[Tally], cases: u64, all: &Tally) -> Vec<
         if options.classes.len() == CLASSES.len() {
             found.extend(judge::too_few_guarantees(cases, all));
             found.extend(judge::too_few_passes(cases, all));
+            found.extend(judge::too_few_tidied(cases, all));
             found.extend(judge::too_few_entries(all));
         }
     } else {

@@ -1,6 +1,7 @@
 //! What a run has seen of a class.
 
 use crate::passes::KINDS;
+use crate::tidy;
 
 #[derive(Clone, Default)]
 pub struct Tally {
@@ -21,6 +22,10 @@ pub struct Tally {
     /// Of the books: given, broken, refused.
     pub guarantees: [u64; 3],
     pub wrong_guarantees: u64,
+    /// Of tidying, in the order of `tidy::KINDS`.
+    pub tidied: [u64; tidy::KINDS.len()],
+    pub wrong_tidied: u64,
+    pub wrong_on_tidied: u64,
 }
 
 impl Tally {
@@ -36,6 +41,9 @@ impl Tally {
         self.wrong_guarantees += other.wrong_guarantees;
         (0..3).for_each(|i| self.guarantees[i] += other.guarantees[i]);
         (0..12).for_each(|i| self.refusals[i] += other.refusals[i]);
+        self.wrong_tidied += other.wrong_tidied;
+        self.wrong_on_tidied += other.wrong_on_tidied;
+        (0..tidy::KINDS.len()).for_each(|i| self.tidied[i] += other.tidied[i]);
     }
 
     pub fn accept(&mut self, answer: u8, passes: Option<[bool; KINDS.len()]>) {

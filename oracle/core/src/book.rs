@@ -70,8 +70,21 @@ impl Part {
         }
     }
 
+    /// None where the line can have no parts.
+    pub fn children_mut(&mut self) -> Option<&mut Vec<Part>> {
+        match self {
+            Part::All(parts) | Part::Any(parts) | Part::Pick(parts) => Some(parts),
+            Part::Call { .. } | Part::Undecided => None,
+        }
+    }
+
     pub fn lines(&self) -> usize {
         1 + self.children().iter().map(Part::lines).sum::<usize>()
+    }
+
+    /// How many levels it takes: 1 where nothing stands below.
+    pub fn height(&self) -> usize {
+        1 + self.children().iter().map(Part::height).max().unwrap_or(0)
     }
 
     /// This part and all below it, as their lines follow each other.

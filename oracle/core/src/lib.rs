@@ -13,6 +13,7 @@ pub mod recorded;
 pub mod sets;
 pub mod shrink;
 pub mod slot;
+pub mod tidy;
 mod work;
 
 #[cfg(not(feature = "wrong_readings"))]

@@ -14,6 +14,7 @@ unsafe extern "C" {
         depth: usize,
     ) -> u32;
     fn search_graph_guarantee(book: *const u8, book_len: usize, out: *mut u64, n: usize) -> u32;
+    fn search_graph_tidy(book: *const u8, book_len: usize, out: *mut u8, out_len: usize) -> u32;
 }
 
 pub fn work_len(goals: usize) -> usize {
@@ -43,4 +44,9 @@ pub fn query(book: &[u8], cache: &mut [u8], work: &mut [u8], goal: usize, depth:
 /// 256 * refusal; an inductive line, a coinductive line and their group, as far as there is room.
 pub fn guarantee(book: &[u8], out: &mut [u64]) -> u32 {
     unsafe { search_graph_guarantee(book.as_ptr(), book.len(), out.as_mut_ptr(), out.len()) }
+}
+
+/// Length used + 65536 * refusal.
+pub fn tidy(book: &[u8], out: &mut [u8]) -> u32 {
+    unsafe { search_graph_tidy(book.as_ptr(), book.len(), out.as_mut_ptr(), out.len()) }
 }

@@ -4,6 +4,7 @@ mod books;
 mod caches;
 pub mod change;
 mod damage;
+mod drafts;
 pub mod examples;
 mod mixed;
 pub mod reruns;
@@ -47,6 +48,7 @@ pub const CLASSES: &[Class] = &[
     class("no-inductive", "calls of kinds 1, 2, 3", |r| honest(r, books::no_inductive)),
     class("groups", "groups of either sort, calls downwards", |r| honest(r, books::groups)),
     class("mixed", "rings of either sort that call later ones", |r| honest(r, mixed::book)),
+    class("drafts", "parts that nest more than they need to", drafts::any),
     class("bad-query", "goal, depth, cache or work length wrong", bad_query),
     class("damaged-book", "a book that is spoiled", damaged_book),
     class("made-cache", "a well-formed cache made by hand", made_cache),
