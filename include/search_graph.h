@@ -1,5 +1,5 @@
-/* The search graph: one query over a book, with a cache that is kept between queries; and whether
-   what it answers of a book is proved right.
+/* The search graph: one query over a book, with a cache that is kept between queries; whether what
+   it answers of a book is proved right; and a book's plain form, which has the same answers.
 
    The caller owns every buffer. No function keeps a pointer, allocates or has a state of its own.
    The buffers of a call must not overlap, and a pointer is not null, also where the
@@ -95,6 +95,23 @@ uint32_t search_graph_query(const uint8_t *book, size_t book_len,
      out[2]          the goals of that group, bit i for goal i
    All three are 0 where the guarantee is given, and where the book is refused. */
 uint32_t search_graph_guarantee(const uint8_t *book, size_t book_len, uint64_t *out, size_t n);
+
+/* Writes the book's plain form to out. Three rules make it, used at every level until none fits:
+   an all directly inside an all is spliced in, so that its parts take its place, and an empty one
+   disappears; likewise an any inside an any; an all or any with exactly one part becomes that
+   part. A pick stays, with its candidates and their order, even if there is only one: each of them
+   is put in its plain form by itself, nothing is spliced into a pick, and a pick into nothing. The
+   header, goal lines, calls and undecided lines stay, in their order. A plain book is copied.
+
+   Every query with the plain book gets the answer or refusal that it gets with the book, and
+   leaves the same cache and workspace, so that a cache may be kept when its book is tidied. Only
+   lines have other numbers then, such as search_graph_guarantee tells.
+
+   Returns length used + 65536 * refusal: 0 or the first of the refusals 1 to 4 above, and then
+     14  out is not as long as the book: it must be, though the plain book may be shorter
+   Where refusal is 0, the length used is that of the plain book, in bytes; out holds it, and zeros
+   from there to its end. Any refusal leaves out as it was, and has length 0. book is only read. */
+uint32_t search_graph_tidy(const uint8_t *book, size_t book_len, uint8_t *out, size_t out_len);
 
 #ifdef __cplusplus
 }

@@ -1,11 +1,12 @@
-/* One query with the buffers of one's choice, to see refusals that a careful caller never meets:
+/* One query, or one book tidied, with the buffers of one's choice, to see refusals that a careful caller never meets:
 
        refusal BOOK CACHE WORK_LENGTH GOAL DEPTH
+       refusal BOOK OUTPUT_LENGTH
 
    CACHE is a file of hexadecimal bytes, a slot to a line. Prints answer and refusal, and whether the
-   cache was left as it was, filled with zeros, or changed. Exit status: 0, or 2 where nothing was asked. */
-#include "../../include/search_graph.h"
-#include "read_file.h"
+   cache was left as it was, filled with zeros, or changed; of a book that is tidied the length used and
+   refusal, and the same of the output. Exit status: 0, or 2 where nothing was asked. */
+#include "lent.h"
 
 #include <string.h>
 
@@ -32,14 +33,34 @@ static const char *fate(const uint8_t *before, const uint8_t *after, size_t leng
     return zero == length ? "filled with zeros" : "changed";
 }
 
+/* Tidies a book into an output that holds neither zeros nor a book's bytes before. */
+static int tidied(const char *path, size_t out_len) {
+    size_t book_len;
+    uint8_t *book = read_file(path, &book_len), *before = zeros(out_len), *out = zeros(out_len);
+    if (book == NULL || before == NULL || out == NULL) {
+        fprintf(stderr, "refusal: the book cannot be read\n");
+        return 2;
+    }
+    memset(before, 255, out_len);
+    memcpy(out, before, out_len);
+    uint32_t code = search_graph_tidy(book, book_len, out, out_len);
+    printf("length used %u, refusal %u; the output was %s\n", (unsigned)(code % 65536), (unsigned)(code / 65536),
+           fate(before, out, out_len));
+    free(book);
+    free(before);
+    free(out);
+    return 0;
+}
+
 int main(int argc, char **argv) {
+    if (argc == 3) return tidied(argv[1], strtoul(argv[2], NULL, 10));
     if (argc != 6) {
-        fprintf(stderr, "usage: refusal BOOK CACHE WORK_LENGTH GOAL DEPTH\n");
+        fprintf(stderr, "usage: refusal BOOK CACHE WORK_LENGTH GOAL DEPTH\n       refusal BOOK OUTPUT_LENGTH\n");
         return 2;
     }
     size_t book_len, cache_len, work_len = strtoul(argv[3], NULL, 10);
     uint8_t *book = read_file(argv[1], &book_len), *cache = read_file(argv[2], &cache_len);
-    uint8_t *work = calloc(work_len == 0 ? 1 : work_len, 1);
+    uint8_t *work = zeros(work_len);
     if (book == NULL || cache == NULL || work == NULL) {
         fprintf(stderr, "refusal: a file cannot be read\n");
         return 2;

@@ -24,6 +24,12 @@ mod c {
             out: *mut u64,
             n: usize,
         ) -> u32;
+        pub fn search_graph_tidy(
+            book: *const u8,
+            book_len: usize,
+            out: *mut u8,
+            out_len: usize,
+        ) -> u32;
     }
 }
 
@@ -36,7 +42,7 @@ pub enum Answer {
     Overflow,
 }
 
-/// Why a query is refused.
+/// Why a call is refused.
 #[derive(Clone, Copy, Debug, PartialEq, Eq)]
 pub enum Refusal {
     BookLength,
@@ -50,6 +56,7 @@ pub enum Refusal {
     WorkLength,
     TooManyEntries,
     DifferentResult,
+    OutputLength,
     /// A number that the header does not know.
     Unknown(u32),
 }
@@ -115,6 +122,21 @@ impl Questions {
             goals: (0..64).filter(|goal| group >> goal & 1 == 1).collect(),
         }))
     }
+
+    /// The book in its plain form, which has the same answers.
+    pub fn tidy(&self) -> Result<Vec<u8>, Refusal> {
+        let mut out = vec![0; self.book.len()];
+        // SAFETY: two distinct vectors with their own lengths; their pointers are never null.
+        let code = unsafe {
+            let book = (self.book.as_ptr(), self.book.len());
+            c::search_graph_tidy(book.0, book.1, out.as_mut_ptr(), out.len())
+        };
+        if code / 65536 != 0 {
+            return Err(refusal(code / 65536));
+        }
+        out.truncate(code as usize);
+        Ok(out)
+    }
 }
 
 /// A number of the first line, three columns; 0 for what is none, which the query refuses.
@@ -129,18 +151,25 @@ fn read_code(code: u32) -> Result<Answer, Refusal> {
         (0, 1) => Ok(Answer::Yes),
         (0, 2) => Ok(Answer::Undecided),
         (0, 3) => Ok(Answer::Overflow),
-        (1, _) => Err(Refusal::BookLength),
-        (2, _) => Err(Refusal::BookLine),
-        (3, _) => Err(Refusal::BookHeader),
-        (4, _) => Err(Refusal::BookGrammar),
-        (5, _) => Err(Refusal::Goal),
-        (6, _) => Err(Refusal::Depth),
-        (7, _) => Err(Refusal::CacheLength),
-        (8, _) => Err(Refusal::CacheForm),
-        (9, _) => Err(Refusal::WorkLength),
-        (10, _) => Err(Refusal::TooManyEntries),
-        (11, _) => Err(Refusal::DifferentResult),
-        (other, _) => Err(Refusal::Unknown(other)),
+        (number, _) => Err(refusal(number)),
+    }
+}
+
+fn refusal(number: u32) -> Refusal {
+    match number {
+        1 => Refusal::BookLength,
+        2 => Refusal::BookLine,
+        3 => Refusal::BookHeader,
+        4 => Refusal::BookGrammar,
+        5 => Refusal::Goal,
+        6 => Refusal::Depth,
+        7 => Refusal::CacheLength,
+        8 => Refusal::CacheForm,
+        9 => Refusal::WorkLength,
+        10 => Refusal::TooManyEntries,
+        11 => Refusal::DifferentResult,
+        14 => Refusal::OutputLength,
+        other => Refusal::Unknown(other),
     }
 }
 
@@ -177,6 +206,7 @@ impl fmt::Display for Refusal {
             Refusal::DifferentResult => {
                 "the cache holds another result: it comes from another book; begin with zeros"
             }
+            Refusal::OutputLength => "the output is not as long as the book",
             Refusal::Unknown(n) => {
                 return write!(f, "refusal {n}, which this wrapper does not know");
             }
@@ -216,6 +246,14 @@ mod tests {
         let conflict = Conflict { inductive_line: 4, coinductive_line: 3, goals: vec![0] };
         assert_eq!(Questions::new(book.into()).guarantee(), Ok(Some(conflict)));
         assert_eq!(Questions::new("".into()).guarantee(), Err(Refusal::BookLength));
+    }
+
+    #[test]
+    fn a_draft_and_its_plain_form() {
+        let draft = RING.replace("  2  0  0", "  3  1  0  0  0\n  2  0  0");
+        assert_eq!(Questions::new(draft.into()).tidy(), Ok(RING.into()));
+        assert_eq!(Questions::new(RING.into()).tidy(), Ok(RING.into()));
+        assert_eq!(Questions::new("".into()).tidy(), Err(Refusal::BookLength));
     }
 
     #[test]
