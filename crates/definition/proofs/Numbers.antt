@@ -6,6 +6,9 @@ use lib.Dec.{T, eqb→eq, leb, lit<}
 use borrow.Author.Tests.{le-leb, lt-leb}
 use Rattle.definition.specs.declared.answers.Answer.{Answer}
 use Rattle.definition.specs.declared.answers.Answer.the-variants.{No, Yes, Undecided, Overflow}
+use Rattle.definition.specs.declared.paths.PathKind.{PathKind}
+use Rattle.definition.specs.declared.paths.PathKind.the-variants.{Inductive, Unknown, Coinductive, ForcedAmbiguity}
+use Rattle.definition.specs.Paths.{kindNumber, kindOf}
 use Rattle.definition.specs.declared.replies.Refusal.{Refusal}
 use Rattle.definition.specs.declared.replies.Refusal.the-variants.{BookLength, BookLine, BookHeader, BookBody, UnknownGoal, DepthAboveTop, CacheLength, CacheForm, WorkLength, ProvisionalCacheFull, CacheConflict, Unreachable}
 use Rattle.definition.specs.Answers.{answerNumber, answerOf, refusalNumber, sameAnswer}
@@ -37,6 +40,13 @@ answer-back Overflow = refl
 
 pub same→≡ : (a b : Answer) → T (sameAnswer a b) → a ≡ b
 same→≡ a b t = sym (answer-back a) ∙ ap answerOf (eqb→eq (answerNumber a) (answerNumber b) t) ∙ answer-back b
+
+-- a kind by its number
+pub kind-back : (k : PathKind) → kindOf (kindNumber k) ≡ k
+kind-back Inductive = refl
+kind-back Unknown = refl
+kind-back Coinductive = refl
+kind-back ForcedAmbiguity = refl
 
 -- a refusal's number
 pub refusal-small : (r : Refusal) → refusalNumber r < 256

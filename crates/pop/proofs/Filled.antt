@@ -9,7 +9,7 @@ use lib.Seq.{getD-set-same, getD-set-other}
 use Rattle.definition.specs.declared.paths.PathKind.{PathKind}
 use Rattle.definition.specs.Paths.{kindNumber, kindOf}
 use Rattle.definition.specs.Stack.{Stack, cyclePathKind}
-use Rattle.stack.proofs.Fields.{kind-back}
+use Rattle.definition.proofs.Numbers.{kind-back}
 use Rattle.pop.specs.Popped.{pathAt}
 
 -- those below i, and the step at the others

@@ -23,7 +23,7 @@ use Rattle.layout.proofs.Frames.{entry-byte, entry-heads, withEntryByte}
 use Rattle.layout.proofs.Graphs.{entry-room}
 use Rattle.stack.specs.Bytes.{GraphBytes}
 use Rattle.stack.proofs.Parts.{part, returned, part-length, part-back}
-use Rattle.stack.proofs.Fields.{kind-back}
+use Rattle.definition.proofs.Numbers.{kind-back}
 use Rattle.provisional_cache.specs.Entries.{EntryBytes, EntriesBytes, entryBytesFrom, entryBytes, withFields, withLongerPath}
 
 -- a graph holds them behind its frames

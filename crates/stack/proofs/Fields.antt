@@ -10,10 +10,10 @@ use lib.ListN.{length, getD, set, replicate, length-set}
 use lib.Seq.{getD-set-same, getD-set-other}
 use Rattle.definition.specs.declared.usages.HeadUsages.{HeadUsages}
 use Rattle.definition.specs.declared.paths.PathKind.{PathKind}
-use Rattle.definition.specs.declared.paths.PathKind.the-variants.{Inductive, Unknown, Coinductive, ForcedAmbiguity}
 use Rattle.definition.specs.declared.answers.Answer.{Answer}
 use Rattle.definition.specs.declared.answers.Answer.the-variants.{No, Yes, Undecided, Overflow}
-use Rattle.definition.specs.Paths.{kindNumber, kindOf}
+use Rattle.definition.proofs.Numbers.{kind-back}
+use Rattle.definition.specs.Paths.{kindNumber}
 use Rattle.definition.specs.Answers.{answerNumber}
 use Rattle.definition.specs.Usages.{noUsages}
 use Rattle.definition.specs.Heads.{noHeads}
@@ -35,12 +35,6 @@ use Rattle.layout.proofs.Frames.{frame-by, frame-provisional, frame-overflow, f
 use Rattle.stack.proofs.Parts.{part, returned, part-length, part-back, returned-length}
 
 -- ---- numbers that are read back
-pub kind-back : (k : PathKind) → kindOf (kindNumber k) ≡ k
-kind-back Inductive = refl
-kind-back Unknown = refl
-kind-back Coinductive = refl
-kind-back ForcedAmbiguity = refl
-
 pub result-back : (a : Answer) → resultOf (answerNumber a + 1) ≡ some a
 result-back No = refl
 result-back Yes = refl

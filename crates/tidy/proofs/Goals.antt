@@ -1,22 +1,19 @@
 -- The goals of a book, written one after the other.
-use mathlib.Core.Bool.{Bool, _&&_, false, true}
+use mathlib.Core.Bool.{false}
 use mathlib.Core.List.{List, [], _∷_, _++_, append-assoc, append-nil}
 use mathlib.Core.Option.{Option, none, some}
-use mathlib.Core.Path.{_∙_, _≡_, ap, ap₂, refl, subst, sym}
-use Prim.Native.Nat.{_*_, _+_, _-_, _<_, _≤_, suc, zero, ℕ}
+use mathlib.Core.Path.{_∙_, _≡_, ap, ap₂, refl, sym}
+use Prim.Native.Nat.{_+_, _-_, _<_, _≤_, suc, ℕ}
 use native.Mathlib.Decide.{decLt}
 use native.Mathlib.Nat.{zero-add}
 use native.Mathlib.Numerals.{add-one}
 use native.Mathlib.Omega.{arith}
-use lib.Dec.{T, leb, leb→le}
-use lib.ListN.{drop, length, length-append, length-drop, length-replicate, replicate, take}
+use lib.ListN.{drop, length, length-append, length-replicate, replicate, take}
 use lib.Seq.{drop-drop}
 use Rattle.definition.specs.Part.{Book, Part}
-use Rattle.definition.specs.Reader.{Accepted, TakenGoals, TakenPart, headerInRange, headerOf, nestingLimit, readBook, readGoal, readGoals, readPart}
+use Rattle.definition.specs.Reader.{Accepted, TakenGoals, TakenPart, readBook, readGoal, readGoals, readPart}
 use Rattle.definition.specs.declared.format.Line.{Line}
 use Rattle.definition.proofs.Lists.{part-from}
-use Rattle.definition.proofs.Tests.{and-left, and-right}
-use Rattle.soundness.proofs.Logic.{of-true}
 use Rattle.book.specs.Lines.{lineIn, linesIn}
 use Rattle.book.specs.Parts.{partRead}
 use Rattle.book.proofs.Bodies.{goal-part}
@@ -24,12 +21,13 @@ use Rattle.book.proofs.Books.{accepted-range, length-fits, read-as}
 use Rattle.book.proofs.Lines.{lines-none}
 use Rattle.book.proofs.Views.{never, of-some}
 use Rattle.tidy.specs.declared.part.Sizes.{Sizes}
-use Rattle.tidy.specs.Tidy.{tidyBook, tidyGoals, tidyPart}
+use Rattle.tidy.specs.Tidy.{tidyGoals, tidyPart}
 use Rattle.tidy.specs.Write.{goalsLines, headerLine, lineWith, partLines, writeLine, writeLines}
-use Rattle.tidy.specs.Reply.{padded, tidyBytes}
+use Rattle.tidy.specs.Reply.{tidyBytes}
 use Rattle.tidy.specs.Engine.{IsRead, StartsGoal, StartsWithin, WroteAs, WroteBook, WroteGoal, WrotePart}
 use Rattle.tidy.proofs.Places.{Back, back-is, back-length, back-take, lent-length}
-use Rattle.tidy.proofs.Reading.{flag-number}
+use Rattle.tidy.proofs.Fits.{length-tidy}
+use Rattle.tidy.proofs.Headers.{header-same}
 use Rattle.tidy.proofs.Steps.{bytes-append}
 use Rattle.tidy.proofs.Turns.{line-length}
 
@@ -111,10 +109,6 @@ tidy-append : (ps qs : List Part) → tidyGoals (ps ++ qs) ≡ tidyGoals ps ++ t
 tidy-append [] qs = refl
 tidy-append (p ∷ ps) qs = ap (λ rs. tidyPart p ∷ rs) (tidy-append ps qs)
 
-tidy-count : (ps : List Part) → length (tidyGoals ps) ≡ length ps
-tidy-count [] = refl
-tidy-count (p ∷ ps) = ap suc (tidy-count ps)
-
 abbrev goalBytes : List Part → List ℕ
 goalBytes ps = writeLines (goalsLines 0 (tidyGoals ps))
 
@@ -124,7 +118,7 @@ goal-more ps p =
     ap (λ qs. writeLines (goalsLines 0 qs)) (tidy-append ps (p ∷ []))
     ∙ ap writeLines (goals-append 0 (tidyGoals ps) (tidyPart p ∷ []))
     ∙ bytes-append (goalsLines 0 (tidyGoals ps)) (goalsLines (0 + length (tidyGoals ps)) (tidyPart p ∷ []))
-    ∙ ap₂ (λ n ls. goalBytes ps ++ writeLines (lineWith 1 n ∷ ls)) (zero-add (length (tidyGoals ps)) ∙ tidy-count ps) (append-nil (partLines (tidyPart p)))
+    ∙ ap₂ (λ n ls. goalBytes ps ++ writeLines (lineWith 1 n ∷ ls)) (zero-add (length (tidyGoals ps)) ∙ length-tidy ps) (append-nil (partLines (tidyPart p)))
 
 record NextGoal (goals g n : ℕ) (ls : List Line) (t : TakenGoals) : Type 0 where
   one : TakenPart
@@ -168,22 +162,7 @@ pub Writes : (bytes out : List ℕ) (goals read wrote g : ℕ) → Type 0
 Writes bytes out goals read wrote g =
     (b : Book) → readBook bytes ≡ Accepted b → goals ≡ b .header .goals → Writing bytes b out read wrote g
 
--- ---- the header
-header-same : (bytes : List ℕ) (b : Book) → readBook bytes ≡ Accepted b → headerLine (b .header) ≡ lineIn bytes
-header-same bytes b e =
-    let r = read-as b bytes e in
-    ap headerLine (sym (r .header)) ∙ λ i.
-    record {
-      code = flag-number (lineIn bytes .code) (leb→le (lineIn bytes .code) 1 (code-fits (of-true _ (r .in-range)))) i;
-      first = lineIn bytes .first;
-      second = lineIn bytes .second;
-      third = lineIn bytes .third;
-      fourth = lineIn bytes .fourth;
-    }
-  where
-    code-fits : T (headerInRange (lineIn bytes)) → T (leb (lineIn bytes .code) 1)
-    code-fits t = search (and-left, and-right) depth 8
-
+-- ---- the first goal, after the header
 module _ (bytes : List ℕ) (goals : ℕ) (is : IsRead bytes goals) where
   long : (48 ≤ length bytes) × (length bytes ≤ 16000)
   long = length-fits (length bytes) (read-as (is .book) bytes (is .reads) .long)
@@ -327,7 +306,7 @@ module _ (bytes : List ℕ) (goals : ℕ) (is : IsRead bytes goals) where
       ended b e w =
           let z : 0 ≡ b .header .goals - g = omega arith in
           let none-left : record { parts = []; rest = linesIn (drop read bytes) } ≡ w .todo =
-              of-some (ap (λ n. readGoals (b .header .goals) g n (linesIn (drop read bytes))) z ∙ w .to-read) in
+          of-some (ap (λ n. readGoals (b .header .goals) g n (linesIn (drop read bytes))) z ∙ w .to-read) in
           sym (append-nil (w .done)) ∙ ap (λ (t : TakenGoals). w .done ++ t .parts) none-left ∙ w .whole
 
       tidied : take wrote out ≡ tidyBytes (is .book)

@@ -1,7 +1,7 @@
 -- The tests of `join` and `head`, and what their results come to.
-use mathlib.Core.Bool.{Bool, _&&_, false, true}
+use mathlib.Core.Bool.{Bool, false, true}
 use mathlib.Core.List.{List, _++_}
-use mathlib.Core.Path.{_∙_, _≡_, ap, refl, sym}
+use mathlib.Core.Path.{_∙_, _≡_, ap, sym}
 use Prim.Native.Nat.{_-_, ℕ}
 use lib.Dec.{eqb}
 use lib.ListN.{drop}

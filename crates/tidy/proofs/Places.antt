@@ -1,6 +1,6 @@
 -- Bytes put behind others, and lines that stand at the front of bytes.
-use mathlib.Core.List.{List, [], _∷_, _++_, append-assoc, append-nil}
-use mathlib.Core.Path.{_∙_, _≡_, ap, refl, sym}
+use mathlib.Core.List.{List, _∷_, _++_, append-assoc, append-nil}
+use mathlib.Core.Path.{_∙_, _≡_, ap, sym}
 use Prim.Native.Nat.{_+_, _-_, _≤_, ℕ}
 use native.Mathlib.Nat.{add-zero}
 use native.Mathlib.Omega.{arith}
@@ -46,9 +46,6 @@ module _ (out : List ℕ) (at : ℕ) (h : at ≤ length out) where
 
     pub back-drop : drop at back ≡ ys
     back-drop = ap (drop at) back-is ∙ drop-at (take at out) ys at front-length
-
-    pub back-front : take at back ≡ take at out
-    back-front = ap (take at) back-is ∙ take-at (take at out) ys at front-length
 
     -- what stands behind the first line
     pub back-region : (k : ℕ) → 16 ≤ at → region 16 (at + k - 16) back ≡ region 16 (at - 16) out ++ take k ys

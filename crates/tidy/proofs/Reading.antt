@@ -1,7 +1,7 @@
 -- A part's first line: a node with parts below it, or a line that is the whole part.
 use mathlib.Core.Bool.{Bool, _&&_, false, true}
 use mathlib.Core.List.{List, [], _∷_}
-use mathlib.Core.Option.{Option, none, some}
+use mathlib.Core.Option.{Option, some}
 use mathlib.Core.Path.{_∙_, _≡_, ap, refl, sym}
 use Prim.Native.Nat.{_-_, _<_, _≤_, suc, zero, ℕ}
 use native.Mathlib.Decide.{decLt}
@@ -9,15 +9,14 @@ use native.Mathlib.Numerals.{sub-one}
 use native.Mathlib.Omega.{arith}
 use lib.Dec.{T, eqb, eqb→eq, leb, leb→le, ltb}
 use lib.ListN.{drop, length}
-use Rattle.definition.specs.Part.{All, Any, Call, Node, Op, Pick, UndecidedLine}
+use Rattle.definition.specs.Part.{Call, Node, Op, Pick, UndecidedLine}
 use Rattle.definition.specs.Paths.{kindNumber, kindOf}
-use Rattle.definition.specs.Reader.{TakenPart, TakenParts, readFirst, readGoal, readPart, readParts}
+use Rattle.definition.specs.Reader.{TakenPart, TakenParts, readFirst, readPart, readParts}
 use Rattle.definition.specs.declared.format.Line.{Line}
 use Rattle.definition.proofs.Tests.{and-left, and-right}
 use Rattle.soundness.proofs.Logic.{clash, of-true}
 use Rattle.book.specs.declared.code.Code.{Code}
 use Rattle.book.specs.declared.code.Code.the-variants as codes
-use Rattle.book.specs.declared.code.Op as kinds
 use Rattle.book.specs.declared.code.Op.the-variants as groups
 use Rattle.book.specs.Codes.{codeOf, opOf}
 use Rattle.book.specs.Grammar.{callFits, undecidedFits}

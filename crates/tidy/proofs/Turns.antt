@@ -1,7 +1,7 @@
 -- The parts of a node, written one after the other: what stands in the output after each turn.
 use mathlib.Core.Bool.{Bool, _&&_, false, true}
 use mathlib.Core.List.{List, [], _∷_, _++_, append-nil}
-use mathlib.Core.Option.{Option, some}
+use mathlib.Core.Option.{some}
 use mathlib.Core.Path.{_∙_, _≡_, ap, ap₂, refl, subst, sym}
 use Prim.Native.Nat.{_*_, _+_, _-_, _<_, _≤_, suc, ℕ}
 use native.Mathlib.Omega.{arith}
@@ -22,36 +22,33 @@ use Rattle.tidy.specs.declared.part.Sizes.{Sizes}
 use Rattle.tidy.specs.declared.part.Joined.{Joined}
 use Rattle.tidy.specs.Rules.{append, isList}
 use Rattle.tidy.specs.Tidy.{join, joinAll, joins, nodeOr, tidyPart, tidyParts}
-use Rattle.tidy.specs.Write.{callLine, count, lineWith, opCode, partLines, partsLines, writeLine, writeLines}
-use Rattle.tidy.specs.Engine.{StartsWithin, WroteAs, WrotePart, droppedIf, headed, headedLength, isGroup, isNode, isOnly, isSpliced, joinedIf, lineDropped}
+use Rattle.tidy.specs.Write.{callLine, count, lineWith, opCode, partLines, partsLines, writeLine, writeLines, writePart}
+use Rattle.tidy.specs.Engine.{StartsWithin, WroteAs, WrotePart, droppedIf, headed, headedLength, isNode, isOnly, isSpliced, joinedIf, lineDropped}
 use Rattle.tidy.proofs.Parts.{append-assoc, append-end, isAlone, isJoined, joins-list, joins-same}
 use Rattle.tidy.proofs.Fits.{count-sizes, size, size-some, sizes}
 use Rattle.tidy.proofs.Fields.{length-lines}
 use Rattle.tidy.proofs.Written.{op-small, part-lines, parts-lines}
 use Rattle.tidy.proofs.Steps.{alone-count, bytes-append, count-append, firstCode, joined-more, kept, lines-append, node-lines, only-lines, spliced, tells}
-use Rattle.tidy.proofs.Places.{Back, lent-length, back-drop, back-is, back-length, back-region, back-same, code-in, dropped-take, first-in, headed-take, line-room, others-in}
+use Rattle.tidy.proofs.Places.{Back, lent-length, back-drop, back-length, back-region, back-same, code-in, dropped-take, first-in, headed-take, line-room, others-in}
 use Rattle.tidy.proofs.Reading.{NodeRead, group-list, leaf-read, node-read, op-code, opAt, some-line, viewed}
 
 -- ---- the bytes of parts
-abbrev pub partBytes : Part → List ℕ
-partBytes p = writeLines (partLines p)
-
 abbrev pub partsBytes : Parts → List ℕ
 partsBytes ps = writeLines (partsLines ps)
 
-pub part-length : (p : Part) → length (partBytes p) ≡ 16 * size p
+pub part-length : (p : Part) → length (writePart p) ≡ 16 * size p
 part-length p = length-lines (partLines p) ∙ ap (λ n. 16 * n) (part-lines p)
 
 pub parts-length : (ps : Parts) → length (partsBytes ps) ≡ 16 * sizes ps
 parts-length ps = length-lines (partsLines ps) ∙ ap (λ n. 16 * n) (parts-lines ps)
 
 -- ---- the part that stands at the front of s joins the parts of an op
-module _ (code : ℕ) (node : isNode (codeOf code) ≡ true) (p : Part) (s : List ℕ) (n : ℕ) (h : take n s ≡ partBytes p)
-    (e : n ≡ length (partBytes p)) (few : n < 16000) where
+module _ (code : ℕ) (node : isNode (codeOf code) ≡ true) (p : Part) (s : List ℕ) (n : ℕ) (h : take n s ≡ writePart p)
+    (e : n ≡ length (writePart p)) (few : n < 16000) where
   abbrev op : Op
   op = opAt code
 
-  first-code : (q : Part) → take n s ≡ partBytes q → n ≡ length (partBytes q) → fieldIn s 0 ≡ firstCode q
+  first-code : (q : Part) → take n s ≡ writePart q → n ≡ length (writePart q) → fieldIn s 0 ≡ firstCode q
   first-code (Call goal kind lower) g f = code-in s n (callLine goal kind lower) [] g f (omega arith)
   first-code (Node o ps) g f = code-in s n (lineWith (opCode o) (count ps)) (partsLines ps) g f (omega (arith, op-small o))
   first-code UndecidedLine g f = code-in s n (lineWith 6 0) [] g f (omega arith)
@@ -79,7 +76,7 @@ module _ (code : ℕ) (node : isNode (codeOf code) ≡ true) (p : Part) (s : Lis
     pub count-is : r .count ≡ count (join op p End)
     pub fewer : r .bytes ≤ n
 
-  as-spliced : (q : Part) → take n s ≡ partBytes q → n ≡ length (partBytes q) → n ≤ length s → isJoined op q ≡ true
+  as-spliced : (q : Part) → take n s ≡ writePart q → n ≡ length (writePart q) → n ≤ length s → isJoined op q ≡ true
       → (take (n - 16) (droppedIf true n s) ≡ partsBytes (join op q End))
       × ((n - 16 ≡ length (partsBytes (join op q End))) × (fieldIn s 3 ≡ count (join op q End)))
   as-spliced (Call goal kind lower) g f r j = clash (cc)
@@ -87,8 +84,7 @@ module _ (code : ℕ) (node : isNode (codeOf code) ≡ true) (p : Part) (s : Lis
       let same : join op (Node inner qs) End ≡ qs = ap (λ o. join op (Node o qs) End) (joins-same op inner j) ∙ spliced op qs (joins-list op inner j) in
       let l : Line = lineWith (opCode inner) (count qs) in
       let long : n ≡ 16 * suc (sizes qs) = f ∙ part-length (Node inner qs) in
-      subst (λ ps. (take (n - 16) (droppedIf true n s) ≡ partsBytes ps) × ((n - 16 ≡ length (partsBytes ps)) × (fieldIn s 3 ≡ count ps))) (sym same)
-      (
+      subst (λ ps. (take (n - 16) (droppedIf true n s) ≡ partsBytes ps) × ((n - 16 ≡ length (partsBytes ps)) × (fieldIn s 3 ≡ count ps))) (sym same) (
         dropped-take s n (line-room s n l (partsLines qs) g f) r ∙ others-in s n l (partsLines qs) g f,
         (omega (arith, long, parts-length qs), first-in s n l (partsLines qs) g f (omega (arith, long, count-sizes qs))),
       )
@@ -103,7 +99,7 @@ module _ (code : ℕ) (node : isNode (codeOf code) ≡ true) (p : Part) (s : Lis
           record { bytes = w .0; length-is = w .1 .0; count-is = w .1 .1; fewer = omega arith }
       go false j =
           let same : join op p End ≡ Then p End = kept op p j in
-          let lines : partsBytes (Then p End) ≡ partBytes p = ap writeLines (append-nil (partLines p)) in
+          let lines : partsBytes (Then p End) ≡ writePart p = ap writeLines (append-nil (partLines p)) in
           record {
             bytes = h ∙ sym (ap partsBytes same ∙ lines);
             length-is = e ∙ ap length (sym (ap partsBytes same ∙ lines));
@@ -312,21 +308,19 @@ module _ {goals nest : ℕ} {part : List ℕ} {code : ℕ} {t : TakenPart} {out 
   -- the node's line, or none, before them
   abbrev Node-is : ℕ → List ℕ → Type 0
   Node-is r after =
-      (take r after ≡ partBytes (nodeOr op″ parts)) × ((r ≡ length (partBytes (nodeOr op″ parts))) × ((r ≤ wrote) × (length after ≡ length out)))
+      (take r after ≡ writePart (nodeOr op″ parts)) × ((r ≡ length (writePart (nodeOr op″ parts))) × ((r ≤ wrote) × (length after ≡ length out)))
 
   headed-by : (b : Bool) → isAlone op″ parts ≡ b → Node-is (headedLength b wrote) (headed b code n wrote out)
   headed-by true e =
-      let bytes : partBytes (nodeOr op″ parts) ≡ partsBytes parts = ap writeLines (only-lines op″ parts e) in
-      (
+      let bytes : writePart (nodeOr op″ parts) ≡ partsBytes parts = ap writeLines (only-lines op″ parts e) in (
         dropped-take out wrote (line-before g) room ∙ g .written ∙ sym bytes,
         (omega (arith, g .length-is, ap length bytes), (omega arith, dropped-length wrote out (line-before g) room)),
       )
   headed-by false e =
       let l : Line = lineWith code n in
       let same : lineWith (opCode op″) (count parts) ≡ l = ap₂ lineWith (op-code code isn) (sym (g .counted)) in
-      let bytes : partBytes (nodeOr op″ parts) ≡ writeLine l ++ partsBytes parts =
-          ap writeLines (node-lines op″ parts e) ∙ ap (λ k. writeLine k ++ partsBytes parts) same in
-      (
+      let bytes : writePart (nodeOr op″ parts) ≡ writeLine l ++ partsBytes parts =
+      ap writeLines (node-lines op″ parts e) ∙ ap (λ k. writeLine k ++ partsBytes parts) same in (
         headed-take out wrote l (line-before g) ∙ ap (λ s. writeLine l ++ s) (g .written) ∙ sym bytes,
         (
           omega (arith, g .length-is, ap length bytes, length-append (writeLine l) (partsBytes parts)),
@@ -396,9 +390,6 @@ module _ (nest : ℕ) (part : List ℕ) (code : ℕ) (out : List ℕ) (read wrot
 
       pub part-within : s .read ≤ length part - read
       part-within = read-room here pos room few sub s wr
-
-      pub part-less : s .wrote ≤ s .read
-      part-less = wrote-as here pos room few sub s wr .not-more
 
       pub same-room : length (Back out wrote sub) ≡ length out
       same-room = back-length out wrote fits sub (sub-length here pos room few sub s wr)

@@ -8,7 +8,6 @@ use book::BookRead;
 use definition::format::Line;
 use definition::replies::Refusal;
 ghost use mathlib.Core.Path.{_≡_};
-ghost use mathlib.Core.List.{_++_};
 ghost use Prim.Native.Nat.{_≤_, _<_};
 ghost use lib.ListN.{length};
 ghost use Rattle.tidy.specs.Reply.{replied, responseCode, tidy};
@@ -42,13 +41,16 @@ fn write_goal(body: &[u8], out: &mut [u8], goal: u16) -> Sizes
     requires { ⌜ StartsGoal goal (now body) × ((length (now body) ≤ length (now out)) × (length (now body) < 16000)) ⌝ }
     ensures { λ r. ⌜ WroteGoal goal (now (body .entry)) (now (out .entry)) (now (out .exit)) r ⌝ }
 {
-    line::write(out, Line {
-        code: 1,
-        first: goal,
-        second: 0,
-        third: 0,
-        fourth: 0,
-    });
+    line::write(
+        out,
+        Line {
+            code: 1,
+            first: goal,
+            second: 0,
+            third: 0,
+            fourth: 0,
+        },
+    );
     let s = part::write(&body[16..], &mut out[16..], 8);
     Sizes {
         read: s.read + 16,

@@ -99,13 +99,16 @@ fn head(out: &mut [u8], n: usize, code: u16, count: u16) -> usize
         drop_line(out, n);
         return n - 16;
     }
-    line::write(out, Line {
-        code,
-        first: count,
-        second: 0,
-        third: 0,
-        fourth: 0,
-    });
+    line::write(
+        out,
+        Line {
+            code,
+            first: count,
+            second: 0,
+            third: 0,
+            fourth: 0,
+        },
+    );
     n
 }
 
@@ -136,8 +139,5 @@ pub fn write(part: &[u8], out: &mut [u8], nest: u8) -> Sizes
         left = left - 1;
     }
     let n = head(out, wrote, code, count);
-    Sizes {
-        read,
-        wrote: n,
-    }
+    Sizes { read, wrote: n }
 }

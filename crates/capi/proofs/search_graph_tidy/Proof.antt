@@ -18,8 +18,7 @@ same-length c = search needs
 returns : tie.Need-returns
 returns c =
     let q = c .before .before .before .tidy in
-    let x = c .code in
-    (
+    let x = c .code in (
       tidied (q .result) (x .result) (q .last .1 .0) (q .ensures .0) (x .ensures),
       (subst (Promises _ _) (q .ensures .0) (q .ensures .1), subst CodeOfTable (sym (x .ensures)) (code-table (q .result) (q .last .1 .0) (q .ensures .1))),
     )

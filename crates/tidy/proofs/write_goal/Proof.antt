@@ -22,7 +22,7 @@ part-write-end : tie.Need-part-write-end
 part-write-end c = search needs
 
 sub-write-2 : tie.Need-sub-write-2
-sub-write-2 c = 
+sub-write-2 c =
     let a = c .before .before .before .before .before .before .before in
     let w = c .before .before .before .write in
     let h = starts-room (a .args .goal) (a .args .body .now) (a .pre .0) in
@@ -30,7 +30,7 @@ sub-write-2 c =
     omega (arith, l, h, a .pre .1 .0)
 
 part-write-start-2 : tie.Need-part-write-start-2
-part-write-start-2 c = 
+part-write-start-2 c =
     let a = c .before .before .before .before .before .before .before in
     let w = c .before .before .before .write in
     let h = starts-room (a .args .goal) (a .args .body .now) (a .pre .0) in
@@ -41,12 +41,11 @@ part-write-end-2 : tie.Need-part-write-end-2
 part-write-end-2 c = search needs
 
 write-requires-2 : tie.Need-write-requires-2
-write-requires-2 c κs = 
+write-requires-2 c κs =
     let a = c .before .before .before .before .before .before .before .before in
     let w = c .before .before .before .before .write in
     let h = starts-room (a .args .goal) (a .args .body .now) (a .pre .0) in
-    let l : length (w .last .0) ≡ length (a .args .out .now) = ap length (w .ensures) ∙ line-length (lineWith 1 (a .args .goal)) (a .args .out .now) (omega (arith, h, a .pre .1 .0)) in
-    (
+    let l : length (w .last .0) ≡ length (a .args .out .now) = ap length (w .ensures) ∙ line-length (lineWith 1 (a .args .goal)) (a .args .out .now) (omega (arith, h, a .pre .1 .0)) in (
       starts-part (a .args .goal) (a .args .body .now) (a .pre .0),
       (
         omega (arith, l, h, a .pre .1 .0, lent-length (a .args .body .now) 16 h, lent-length (w .last .0) 16 (omega (arith, l, h, a .pre .1 .0))),
@@ -55,14 +54,14 @@ write-requires-2 c κs =
     )
 
 add-t10 : tie.Need-add-t10
-add-t10 c = 
+add-t10 c =
     let a = c .before .before .before .before .before .before .before .before .before .before .before .before in
     let w = c .before .before .before .before .before .before .before .before .write in
     let v = c .before .before .before .write2 in
     omega (arith, goal-within (a .args .goal) (a .args .body .now) (a .args .out .now) (a .pre .1 .0) (w .last .0) (w .ensures) (v .last .1 .0) (v .result) (v .ensures) (a .pre .0 .goals) (a .pre .0 .taken) (a .pre .0 .reads), a .pre .1 .1)
 
 add-t14 : tie.Need-add-t14
-add-t14 c = 
+add-t14 c =
     let a = c .before .before .before .before .before .before .before .before .before .before .before .before .before in
     let w = c .before .before .before .before .before .before .before .before .before .write in
     let v = c .before .before .before .before .write2 in
@@ -72,7 +71,7 @@ same-length : tie.Need-same-length
 same-length c = search needs
 
 returns : tie.Need-returns
-returns c = 
+returns c =
     let a = c .before .before .before .before .before .before .before .before .before .before .before .before .before in
     let w = c .before .before .before .before .before .before .before .before .before .write in
     let v = c .before .before .before .before .write2 in

@@ -1,12 +1,12 @@
 use borrow.Author.Needs.{needs}
-use mathlib.Core.Path.{_∙_, _≡_, ap, refl, sym}
+use mathlib.Core.Path.{_∙_, _≡_, ap, refl}
 use native.Mathlib.Omega.{arith}
 use Prim.Native.Nat.{_≤_}
 use lib.ListN.{length}
 use Rattle.tidy.proofs.Places.{lent-length}
 use Rattle.book.proofs.Tests.{held, refused}
 use Rattle.tidy.proofs.Reading.{starts-line, starts-nest}
-use Rattle.tidy.proofs.Turns.{Turn, behind-length, first-turn, last-length, last-turn, less-written, line-length, next-bytes, next-count, next-room, next-turn, only-line, part-less, part-line, part-room, part-starts, part-within, read-within, same-room, some-written}
+use Rattle.tidy.proofs.Turns.{Turn, behind-length, first-turn, last-length, last-turn, less-written, line-length, next-bytes, next-count, next-room, next-turn, only-line, part-line, part-room, part-starts, part-within, read-within, same-room, some-written}
 use Prim.Native.Nat.{ℕ, _<_}
 use borrow.Fn.Kinds.{In}
 use borrow.Fn.PlainCycle.{Measures, is, falls, and}
@@ -50,32 +50,32 @@ write-write-requires : (t : ℕ) → write-lts.Need-write-requires (write-claims
 write-write-requires t c κs = let a = c .before .before .before .before .before .before in omega (arith, starts-line (a .args .nest) (a .args .part .now) (a .pre .1 .0), a .pre .1 .1 .0)
 
 write-same-length : (t : ℕ) → write-lts.Need-same-length (write-claims t) (write-at t) write.Post write-Inv-loop write-μ-loop
-write-same-length t c = 
+write-same-length t c =
     let a = c .before .before .before .before .before .before .before .before .before in
     ap length (c .before .before .write .ensures)
     ∙ line-length (c .before .before .before .before .before .before .first .result) (a .args .out .now) (omega (arith, starts-line (a .args .nest) (a .args .part .now) (a .pre .1 .0), a .pre .1 .1 .0))
 
 write-returns : (t : ℕ) → write-lts.Need-returns (write-claims t) (write-at t) write.Post write-Inv-loop write-μ-loop
-write-returns t c = 
+write-returns t c =
     let a = c .before .before .before .before .before .before .before .before .before in
     let f = c .before .before .before .before .before .before in
     only-line (a .args .nest) (a .args .part .now) (f .first .result) (f .first .ensures) (refused (c .before .before .before .before .before .is-node .ensures) (c .before .before .before .before .if1 .taken))
     (a .args .out .now) (c .before .before .write .last .0) (omega (arith, starts-line (a .args .nest) (a .args .part .now) (a .pre .1 .0), a .pre .1 .1 .0)) (c .before .before .write .ensures)
 
 write-loop-holds : (t : ℕ) → write-lts.Need-loop-holds (write-claims t) (write-at t) write.Post write-Inv-loop write-μ-loop
-write-loop-holds t c = 
+write-loop-holds t c =
     let a = c .before .before .before .before .before .args in
     (refl, first-turn (a .nest) (a .part .now) (c .before .before .first .result) (c .before .before .first .ensures) (held (c .before .is-node .ensures) (c .if1 .left)) (a .out .now))
 
 write-sub-write : (t : ℕ) → write-lts.Need-sub-write (write-claims t) (write-at t) write.Post write-Inv-loop write-μ-loop
-write-sub-write t c = 
+write-sub-write t c =
     let l = c .before .loop in
     let b = c .before .before .before .before .before .before .before in
     let a = b .args in
     read-within (a .nest) (a .part .now) _ (l .out) (l .read) (l .wrote) (l .count) (l .left) (b .pre .1 .0) (l .inv .1)
 
 write-part-write-start : (t : ℕ) → write-lts.Need-part-write-start (write-claims t) (write-at t) write.Post write-Inv-loop write-μ-loop
-write-part-write-start t c = 
+write-part-write-start t c =
     let l = c .before .loop in
     let b = c .before .before .before .before .before .before .before in
     let a = b .args in
@@ -85,14 +85,14 @@ write-part-write-end : (t : ℕ) → write-lts.Need-part-write-end (write-claims
 write-part-write-end t c = search needs
 
 write-sub-write-2 : (t : ℕ) → write-lts.Need-sub-write-2 (write-claims t) (write-at t) write.Post write-Inv-loop write-μ-loop
-write-sub-write-2 t c = 
+write-sub-write-2 t c =
     let l = c .before .before .loop in
     let b = c .before .before .before .before .before .before .before .before in
     let a = b .args in
     omega (arith, read-within (a .nest) (a .part .now) _ (l .out) (l .read) (l .wrote) (l .count) (l .left) (b .pre .1 .0) (l .inv .1), less-written (a .nest) (a .part .now) _ (l .out) (l .read) (l .wrote) (l .count) (l .left) (b .pre .1 .0) (l .inv .1), l .inv .0, b .pre .1 .1 .0)
 
 write-part-write-start-2 : (t : ℕ) → write-lts.Need-part-write-start-2 (write-claims t) (write-at t) write.Post write-Inv-loop write-μ-loop
-write-part-write-start-2 t c = 
+write-part-write-start-2 t c =
     let l = c .before .before .loop in
     let b = c .before .before .before .before .before .before .before .before in
     let a = b .args in
@@ -102,7 +102,7 @@ write-part-write-end-2 : (t : ℕ) → write-lts.Need-part-write-end-2 (write-cl
 write-part-write-end-2 t c = search needs
 
 write-sub-write-3 : (t : ℕ) → write-lts.Need-sub-write-3 (write-claims t) (write-at t) write.Post write-Inv-loop write-μ-loop
-write-sub-write-3 t c = 
+write-sub-write-3 t c =
     let x = c .before .before in
     let l = x .before .loop in
     let b = x .before .before .before .before .before .before .before in
@@ -111,13 +111,12 @@ write-sub-write-3 t c =
     starts-nest (a .nest) (a .part .now) (b .pre .1 .0)
 
 write-write-requires-2 : (t : ℕ) → write-lts.Need-write-requires-2 (write-claims t) (write-at t) write.Post write-Inv-loop write-μ-loop
-write-write-requires-2 t c κs = 
+write-write-requires-2 t c κs =
     let x = c .before .before in
     let l = x .before .loop in
     let b = x .before .before .before .before .before .before .before in
     let a = b .args in
-    let room : length (a .part .now) ≤ length (l .out) = omega (arith, l .inv .0, b .pre .1 .1 .0) in
-    (
+    let room : length (a .part .now) ≤ length (l .out) = omega (arith, l .inv .0, b .pre .1 .1 .0) in (
       omega (arith, b .pre .0, starts-nest (a .nest) (a .part .now) (b .pre .1 .0)),
       (
         part-starts (a .nest) (a .part .now) _ (l .out) (l .read) (l .wrote) (l .count) (l .left) (b .pre .1 .0) (l .inv .1) (x .loop-test .taken),
@@ -129,7 +128,7 @@ write-write-requires-2 t c κs =
     )
 
 write-sub-join : (t : ℕ) → write-lts.Need-sub-join (write-claims t) (write-at t) write.Post write-Inv-loop write-μ-loop
-write-sub-join t c = 
+write-sub-join t c =
     let x = c .before .before .before .before .before in
     let l = x .before .loop in
     let b = x .before .before .before .before .before .before .before in
@@ -139,7 +138,7 @@ write-sub-join t c =
     omega (arith, same-room (a .nest) (a .part .now) _ (l .out) (l .read) (l .wrote) (l .count) (l .left) (b .pre .1 .0) (l .inv .1) (x .loop-test .taken) room (b .pre .1 .1 .1) (w .write2 .last .1 .0) (w .write2 .result) (w .write2 .ensures), room, read-within (a .nest) (a .part .now) _ (l .out) (l .read) (l .wrote) (l .count) (l .left) (b .pre .1 .0) (l .inv .1), less-written (a .nest) (a .part .now) _ (l .out) (l .read) (l .wrote) (l .count) (l .left) (b .pre .1 .0) (l .inv .1))
 
 write-part-join-start : (t : ℕ) → write-lts.Need-part-join-start (write-claims t) (write-at t) write.Post write-Inv-loop write-μ-loop
-write-part-join-start t c = 
+write-part-join-start t c =
     let x = c .before .before .before .before .before in
     let l = x .before .loop in
     let b = x .before .before .before .before .before .before .before in
@@ -152,7 +151,7 @@ write-part-join-end : (t : ℕ) → write-lts.Need-part-join-end (write-claims t
 write-part-join-end t c = search needs
 
 write-join-requires : (t : ℕ) → write-lts.Need-join-requires (write-claims t) (write-at t) write.Post write-Inv-loop write-μ-loop
-write-join-requires t c κs = 
+write-join-requires t c κs =
     let x = c .before .before .before .before .before .before in
     let l = x .before .loop in
     let b = x .before .before .before .before .before .before .before in
@@ -162,7 +161,7 @@ write-join-requires t c κs =
     (part-line (a .nest) (a .part .now) _ (l .out) (l .read) (l .wrote) (l .count) (l .left) (b .pre .1 .0) (l .inv .1) (x .loop-test .taken) room (b .pre .1 .1 .1) (w .write2 .last .1 .0) (w .write2 .result) (w .write2 .ensures), omega (arith, behind-length (a .nest) (a .part .now) _ (l .out) (l .read) (l .wrote) (l .count) (l .left) (b .pre .1 .0) (l .inv .1) (x .loop-test .taken) room (b .pre .1 .1 .1) (w .write2 .last .1 .0) (w .write2 .result) (w .write2 .ensures), part-room (a .nest) (a .part .now) _ (l .out) (l .read) (l .wrote) (l .count) (l .left) (b .pre .1 .0) (l .inv .1) (x .loop-test .taken) room (b .pre .1 .1 .1) (w .write2 .last .1 .0) (w .write2 .result) (w .write2 .ensures)))
 
 write-add-read : (t : ℕ) → write-lts.Need-add-read (write-claims t) (write-at t) write.Post write-Inv-loop write-μ-loop
-write-add-read t c = 
+write-add-read t c =
     let x = c .before .before .before .before .before .before .before .before .before .before in
     let l = x .before .loop in
     let b = x .before .before .before .before .before .before .before in
@@ -172,7 +171,7 @@ write-add-read t c =
     omega (arith, part-within (a .nest) (a .part .now) _ (l .out) (l .read) (l .wrote) (l .count) (l .left) (b .pre .1 .0) (l .inv .1) (x .loop-test .taken) room (b .pre .1 .1 .1) (w .write2 .last .1 .0) (w .write2 .result) (w .write2 .ensures), read-within (a .nest) (a .part .now) _ (l .out) (l .read) (l .wrote) (l .count) (l .left) (b .pre .1 .0) (l .inv .1), b .pre .1 .1 .1)
 
 write-add-wrote : (t : ℕ) → write-lts.Need-add-wrote (write-claims t) (write-at t) write.Post write-Inv-loop write-μ-loop
-write-add-wrote t c = 
+write-add-wrote t c =
     let x = c .before .before .before .before .before .before .before .before .before .before .before in
     let l = x .before .loop in
     let b = x .before .before .before .before .before .before .before in
@@ -183,7 +182,7 @@ write-add-wrote t c =
     omega (arith, next-bytes (a .nest) (a .part .now) _ (l .out) (l .read) (l .wrote) (l .count) (l .left) (b .pre .1 .0) (l .inv .1) (x .loop-test .taken) room (b .pre .1 .1 .1) (w .write2 .last .1 .0) (w .write2 .result) (w .write2 .ensures) (held (x .before .before .before .is-node .ensures) (x .before .before .if1 .left)) (j .join .last .0) (j .join .result) (j .join .ensures))
 
 write-add-count : (t : ℕ) → write-lts.Need-add-count (write-claims t) (write-at t) write.Post write-Inv-loop write-μ-loop
-write-add-count t c = 
+write-add-count t c =
     let x = c .before .before .before .before .before .before .before .before .before .before .before .before in
     let l = x .before .loop in
     let b = x .before .before .before .before .before .before .before in
@@ -200,7 +199,7 @@ write-loop-less : (t : ℕ) → write-lts.Need-loop-less (write-claims t) (write
 write-loop-less t c = search needs
 
 write-loop-again : (t : ℕ) → write-lts.Need-loop-again (write-claims t) (write-at t) write.Post write-Inv-loop write-μ-loop
-write-loop-again t c = 
+write-loop-again t c =
     let x = c .before .before .before .before .before .before .before .before .before .before .before .before in
     let l = x .before .loop in
     let b = x .before .before .before .before .before .before .before in
@@ -211,7 +210,7 @@ write-loop-again t c =
     (next-room (a .nest) (a .part .now) _ (l .out) (l .read) (l .wrote) (l .count) (l .left) (b .pre .1 .0) (l .inv .1) (x .loop-test .taken) room (b .pre .1 .1 .1) (w .write2 .last .1 .0) (w .write2 .result) (w .write2 .ensures) (held (x .before .before .before .is-node .ensures) (x .before .before .if1 .left)) (j .join .last .0) (j .join .result) (j .join .ensures) ∙ l .inv .0, next-turn (a .nest) (a .part .now) _ (l .out) (l .read) (l .wrote) (l .count) (l .left) (b .pre .1 .0) (l .inv .1) (x .loop-test .taken) room (b .pre .1 .1 .1) (w .write2 .last .1 .0) (w .write2 .result) (w .write2 .ensures) (held (x .before .before .before .is-node .ensures) (x .before .before .if1 .left)) (j .join .last .0) (j .join .result) (j .join .ensures))
 
 write-head-requires : (t : ℕ) → write-lts.Need-head-requires (write-claims t) (write-at t) write.Post write-Inv-loop write-μ-loop
-write-head-requires t c κs = 
+write-head-requires t c κs =
     let x = c .before in
     let l = x .before .loop in
     let b = x .before .before .before .before .before .before .before in
@@ -220,7 +219,7 @@ write-head-requires t c κs =
     (some-written (a .nest) (a .part .now) _ (l .out) (l .read) (l .wrote) (l .count) (l .left) (b .pre .1 .0) (l .inv .1), room)
 
 write-same-length-2 : (t : ℕ) → write-lts.Need-same-length-2 (write-claims t) (write-at t) write.Post write-Inv-loop write-μ-loop
-write-same-length-2 t c = 
+write-same-length-2 t c =
     let x = c .before .before .before .before in
     let l = x .before .loop in
     let b = x .before .before .before .before .before .before .before in
@@ -229,7 +228,7 @@ write-same-length-2 t c =
     last-length (a .nest) (a .part .now) _ (l .out) (l .read) (l .wrote) (l .count) (l .left) (b .pre .1 .0) (l .inv .1) (x .loop-test .left) (held (x .before .before .before .is-node .ensures) (x .before .before .if1 .left)) room (c .before .before .head .last .0) (c .before .before .head .ensures .1) ∙ l .inv .0
 
 write-returns-2 : (t : ℕ) → write-lts.Need-returns-2 (write-claims t) (write-at t) write.Post write-Inv-loop write-μ-loop
-write-returns-2 t c = 
+write-returns-2 t c =
     let x = c .before .before .before .before in
     let l = x .before .loop in
     let b = x .before .before .before .before .before .before .before in
