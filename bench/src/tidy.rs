@@ -35,17 +35,21 @@ fn called(list: &List, times: usize, less: usize, call: impl Fn(&[u8], &mut [u8]
 }
 
 /// Books of 1,000 lines, and what they are.
-fn drafts() -> [(&'static str, Book); 3] {
+fn drafts() -> [(&'static str, Book); 4] {
     let call = || Part::Call { goal: 0, kind: INDUCTIVE, lower: true };
     let deep = (1..MAX_NEST).fold(call(), |inner, _| Part::All(vec![call(), inner]));
-    let alone = (1..MAX_NEST).fold(call(), |inner, level| {
-        if level % 2 == 0 { Part::All(vec![inner]) } else { Part::Any(vec![inner]) }
-    });
+    let alone = |part: Part| {
+        (part.height()..MAX_NEST).fold(part, |inner, level| {
+            if level % 2 == 0 { Part::Any(vec![inner]) } else { Part::All(vec![inner]) }
+        })
+    };
+    let wide = Part::Any((0..MAX_LINES - 20).map(|_| call()).collect());
     let flat = Part::Any((1..deep.lines()).map(|_| call()).collect());
     [
         ("plain already", shapes::filled(flat)),
         ("all in all, 8 deep", shapes::filled(deep)),
-        ("lists of one part, 8 deep", shapes::filled(alone)),
+        ("lists of one part, 8 deep", shapes::filled(alone(call()))),
+        ("one long list, moved at 6 levels", shapes::filled(alone(wide))),
     ]
 }
 
