@@ -60,6 +60,10 @@ bookOr (reader.Rejected r) =
 unfoldable pub bookIn : List ℕ → Book
 bookIn bytes = bookOr (reader.readBook bytes)
 
+-- they do say one
+abbrev pub IsAccepted : List ℕ → Type 0
+IsAccepted bytes = reader.readBook bytes ≡ reader.Accepted (bookIn bytes)
+
 pub record HeaderInRange (h : Header) : Type 0 where
   pub some-goals : 1 ≤ h .goals
   pub few-goals : h .goals ≤ 64
@@ -70,7 +74,7 @@ pub record HeaderInRange (h : Header) : Type 0 where
 
 -- bytes say a book with this header, and the places of its goals' parts are in `starts`
 pub record IsBook (bytes starts : List ℕ) (h : Header) : Type 0 where
-  pub accepted : reader.readBook bytes ≡ reader.Accepted (bookIn bytes)
+  pub accepted : IsAccepted bytes
   pub header : bookIn bytes .header ≡ h
   pub in-range : HeaderInRange h
   pub started : Started (h .goals) (bookIn bytes .parts) bytes starts

@@ -14,7 +14,7 @@ use Rattle.definition.specs.Part.{Book}
 use Rattle.definition.specs.Reader.{Accepted, linesOf, readBook}
 use Rattle.definition.proofs.Tests.{and-left, and-right}
 use Rattle.book.specs.Lines.{linesIn}
-use Rattle.book.specs.Read.{bookIn}
+use Rattle.book.specs.Read.{IsAccepted, bookIn}
 use Rattle.book.proofs.Books.{read-as, length-fits, accepted-range}
 use Rattle.soundness.specs.Groups.{StepLine, stepLines, StepsAreLines, callsSome, hasStep, linked}
 use Rattle.soundness.proofs.Calls.{BookOk, calls-step, exactly, step-calls}
@@ -23,7 +23,7 @@ use Rattle.soundness.proofs.Reading.{any-read}
 use Rattle.soundness.proofs.StepLines.{steps-are-lines}
 use Rattle.soundness.proofs.Reach.{calls-inside, reaches-inside, linked-to}
 use Rattle.guarantee.specs.Guarantee.{maskOf}
-use Rattle.guarantee.specs.Engine.{IsAccepted, inMask, meets, CallMasks}
+use Rattle.guarantee.specs.Engine.{inMask, meets, CallMasks}
 use Rattle.guarantee.specs.Meaning.{IsOneOf}
 use Rattle.guarantee.proofs.Lines.{someStep, into, beyond}
 use Rattle.guarantee.proofs.Masks.{meets-none}

@@ -9,11 +9,10 @@ use Rattle.definition.specs.Reader as reader
 use Rattle.book.specs.declared.BookRead.{BookRead}
 use Rattle.book.specs.declared.BookRead.the-variants.{Rejected}
 use Rattle.book.specs.Lines.{linesIn}
-use Rattle.book.specs.Read.{headerRead, bookIn}
+use Rattle.book.specs.Read.{IsAccepted, headerRead, bookIn}
 use Rattle.soundness.specs.Groups.{stepLines}
 use Rattle.guarantee.specs.declared.Verdict.the-variants.{Refused}
 use Rattle.guarantee.specs.Guarantee.{firstConflict, stepsOf, guaranteeOfRead, guaranteeOf}
-use Rattle.guarantee.specs.Engine.{IsAccepted}
 use Rattle.guarantee.proofs.Accepted.{accepted-lines}
 
 pub of-accepted : (bytes : List ℕ) → IsAccepted bytes

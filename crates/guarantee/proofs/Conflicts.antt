@@ -13,7 +13,7 @@ use denote.Enum.Declared.{tagOf}
 use Rattle.definition.specs.declared.paths.PathKind.the-variants.{Inductive, Coinductive}
 use Rattle.definition.specs.Part.{Book}
 use Rattle.book.specs.Lines.{linesIn}
-use Rattle.book.specs.Read.{bookIn}
+use Rattle.book.specs.Read.{IsAccepted, bookIn}
 use Rattle.soundness.specs.Sets.{Goals}
 use Rattle.soundness.specs.Groups.{StepLine, stepLines, linked}
 use Rattle.guarantee.specs.declared.Conflict.{Conflict}
@@ -23,7 +23,7 @@ use Rattle.guarantee.specs.declared.steps.Seen.{Seen}
 use Rattle.guarantee.specs.declared.steps.Found.{Found}
 use Rattle.guarantee.specs.declared.steps.Found.the-variants.{At, Nothing}
 use Rattle.guarantee.specs.Guarantee.{stepWithin, firstStep, maskOf, conflict, conflictWith, firstConflict}
-use Rattle.guarantee.specs.Engine.{IsAccepted, inMask, IsGroup, stepAt, lineOf, foundLine, verdictOf, conflictAt, consIf}
+use Rattle.guarantee.specs.Engine.{inMask, IsGroup, stepAt, lineOf, foundLine, verdictOf, conflictAt, consIf}
 use Rattle.guarantee.proofs.Accepted.{few-goals, outside}
 use Rattle.guarantee.proofs.Numbers.{mask-of}
 use Rattle.guarantee.proofs.Verdict.{the-type}

@@ -7,12 +7,12 @@ use Rattle.definition.specs.declared.format.Line.{Line}
 use Rattle.definition.specs.Part.{Book}
 use Rattle.definition.specs.Reader.{BookRead, Accepted, linesOf, readBook}
 use Rattle.book.specs.Lines.{linesIn}
-use Rattle.book.specs.Read.{bookOr, bookIn}
+use Rattle.book.specs.Read.{IsAccepted, bookOr, bookIn}
 use Rattle.soundness.specs.Groups.{stepLines, OneKindEach}
 use Rattle.guarantee.specs.declared.Conflict.{Conflict}
 use Rattle.guarantee.specs.declared.Verdict.the-variants.{Given, Broken}
 use Rattle.guarantee.specs.Guarantee.{stepsOf, guaranteeOf, guaranteeOfRead}
-use Rattle.guarantee.specs.Engine.{IsAccepted, inMask}
+use Rattle.guarantee.specs.Engine.{inMask}
 use Rattle.guarantee.specs.Meaning.{Conflicting, Meaning}
 use Rattle.guarantee.proofs.Accepted.{accepted-lines, caller-in, group-goals, ok, line-step, step-line}
 use Rattle.guarantee.proofs.Books.{of-accepted}

@@ -9,9 +9,8 @@ use lib.ListN.{length, getD}
 use Rattle.definition.specs.declared.format.Line.{Line}
 use Rattle.definition.specs.Paths.{kindOf}
 use Rattle.definition.specs.Part.{Book}
-use Rattle.definition.specs.Reader.{Accepted, readBook}
 use Rattle.bits.specs.Masks.{flags, pairwise}
-use Rattle.book.specs.Read.{bookIn}
+use Rattle.book.specs.Read.{IsAccepted, bookIn}
 use Rattle.soundness.specs.Sets.{Goals}
 use Rattle.soundness.specs.Groups.{StepLine, callsSome, reaches, linked}
 use Rattle.guarantee.specs.declared.Conflict.{Conflict}
@@ -21,10 +20,6 @@ use Rattle.guarantee.specs.declared.steps.Seen.{Seen}
 use Rattle.guarantee.specs.declared.steps.Found.{Found}
 use Rattle.guarantee.specs.declared.steps.Found.the-variants.{At, Nothing}
 use Rattle.guarantee.specs.Guarantee.{conflictWith}
-
--- bytes say a book
-abbrev pub IsAccepted : List ℕ → Type 0
-IsAccepted bytes = readBook bytes ≡ Accepted (bookIn bytes)
 
 -- ---- masks
 

@@ -14,11 +14,11 @@ ghost use mathlib.Core.Path.{_≡_};
 ghost use mathlib.Core.Bool.{true};
 ghost use Prim.Native.Nat.{_<_};
 ghost use Rattle.book.specs.Lines.{linesIn};
-ghost use Rattle.book.specs.Read.{bookIn};
+ghost use Rattle.book.specs.Read.{IsAccepted, bookIn};
 ghost use Rattle.soundness.specs.Groups.{stepLines};
 ghost use Rattle.guarantee.specs.Guarantee.{firstConflict, guaranteeOf};
 ghost use Rattle.guarantee.specs.Codes.{verdictCode, verdictNumbers};
-ghost use Rattle.guarantee.specs.Engine.{IsAccepted, Ready, verdictOf, conflictAt};
+ghost use Rattle.guarantee.specs.Engine.{Ready, verdictOf, conflictAt};
 
 // An inductive and a coinductive step inside one group: their lines, the header being
 // line 0, and the goals of the group, bit i for goal i.

@@ -7,9 +7,9 @@ ghost use Prim.Native.Nat.{ℕ, _<_};
 ghost use lib.Dec.{eqb};
 ghost use lib.ListN.{length, getD};
 ghost use Rattle.definition.specs.Part.{Book};
-ghost use Rattle.book.specs.Read.{bookIn};
+ghost use Rattle.book.specs.Read.{IsAccepted, bookIn};
 ghost use Rattle.soundness.specs.Groups.{towards, reaches};
-ghost use Rattle.guarantee.specs.Engine.{inMask, meets, IsMask, CallMasks, ReachMasks, IsGroup, IsAccepted};
+ghost use Rattle.guarantee.specs.Engine.{inMask, meets, IsMask, CallMasks, ReachMasks, IsGroup};
 
 // Whether two masks have a goal in common.
 fn meet(a: u64, b: u64) -> bool

@@ -16,6 +16,7 @@ use Rattle.definition.specs.declared.format.Line.{Line}
 use Rattle.definition.proofs.Lists.{part-from}
 use Rattle.book.specs.Lines.{lineIn, linesIn}
 use Rattle.book.specs.Parts.{partRead}
+use Rattle.book.specs.Read.{bookIn}
 use Rattle.book.proofs.Bodies.{goal-part}
 use Rattle.book.proofs.Books.{accepted-range, length-fits, read-as}
 use Rattle.book.proofs.Lines.{lines-none}
@@ -165,13 +166,13 @@ Writes bytes out goals read wrote g =
 -- ---- the first goal, after the header
 module _ (bytes : List ℕ) (goals : ℕ) (is : IsRead bytes goals) where
   long : (48 ≤ length bytes) × (length bytes ≤ 16000)
-  long = length-fits (length bytes) (read-as (is .book) bytes (is .reads) .long)
+  long = length-fits (length bytes) (read-as (bookIn bytes) bytes (is .0) .long)
 
   pub book-room : 16 ≤ length bytes
   book-room = omega (arith, long .0)
 
   pub few-goals : goals ≤ 64
-  few-goals = omega (arith, is .goals-are, accepted-range (is .book) bytes (is .reads) .few-goals)
+  few-goals = omega (arith, sym (is .1), accepted-range (bookIn bytes) bytes (is .0) .few-goals)
 
   pub book-few : length bytes ≤ 16000
   book-few = long .1
@@ -195,9 +196,9 @@ module _ (bytes : List ℕ) (goals : ℕ) (is : IsRead bytes goals) where
       }
 
   module _ (out : List ℕ) (read wrote g : ℕ) (ws : Writes bytes out goals read wrote g) where
-    here : Writing bytes (is .book) out read wrote g
+    here : Writing bytes (bookIn bytes) out read wrote g
     unfolding Writes
-    here = ws (is .book) (is .reads) (is .goals-are)
+    here = ws (bookIn bytes) (is .0) (sym (is .1))
 
     pub goals-within : read ≤ length bytes
     goals-within = here .within
@@ -228,9 +229,9 @@ module _ (bytes : List ℕ) (goals : ℕ) (is : IsRead bytes goals) where
       pub goal-starts : StartsGoal g rest
       goal-starts =
           record {
-            goals = is .book .header .goals;
-            taken = split-at (is .book) (is .goals-are) (here .todo) (here .to-read) .one;
-            reads = reads-next (is .book) (is .goals-are) (here .todo) (here .to-read);
+            goals = bookIn bytes .header .goals;
+            taken = split-at (bookIn bytes) (sym (is .1)) (here .todo) (here .to-read) .one;
+            reads = reads-next (bookIn bytes) (sym (is .1)) (here .todo) (here .to-read);
           }
 
       module _ (same : length out ≡ length bytes) (sub : List ℕ) (s : Sizes) (wg : WroteGoal g rest (take (length out - wrote) (drop wrote out)) sub s) where
@@ -291,13 +292,13 @@ module _ (bytes : List ℕ) (goals : ℕ) (is : IsRead bytes goals) where
         next-goals b r e = goes-on b e (ws b r e)
 
         pub next-within : s .read ≤ length bytes - read
-        next-within = step-within (is .book) (is .goals-are) here
+        next-within = step-within (bookIn bytes) (sym (is .1)) here
 
         pub next-less : s .wrote ≤ s .read
-        next-less = step-as (is .book) (is .goals-are) here .not-more
+        next-less = step-as (bookIn bytes) (sym (is .1)) here .not-more
 
         pub next-kept : length (Back out wrote sub) ≡ length out
-        next-kept = back-length out wrote fits sub (step-as (is .book) (is .goals-are) here .kept ∙ lent-length out wrote fits)
+        next-kept = back-length out wrote fits sub (step-as (bookIn bytes) (sym (is .1)) here .kept ∙ lent-length out wrote fits)
 
     -- every goal is written, and zeros behind them
     module _ (all : goals ≤ g) (same : length out ≡ length bytes) (before sub : List ℕ) (keeps : length out ≡ length before)
@@ -309,29 +310,24 @@ module _ (bytes : List ℕ) (goals : ℕ) (is : IsRead bytes goals) where
           of-some (ap (λ n. readGoals (b .header .goals) g n (linesIn (drop read bytes))) z ∙ w .to-read) in
           sym (append-nil (w .done)) ∙ ap (λ (t : TakenGoals). w .done ++ t .parts) none-left ∙ w .whole
 
-      tidied : take wrote out ≡ tidyBytes (is .book)
-      tidied = here .written ∙ ap (λ ps. writeLine (headerLine (is .book .header)) ++ goalBytes ps) (ended (is .book) (is .goals-are) here)
+      tidied : take wrote out ≡ tidyBytes (bookIn bytes)
+      tidied = here .written ∙ ap (λ ps. writeLine (headerLine (bookIn bytes .header)) ++ goalBytes ps) (ended (bookIn bytes) (sym (is .1)) here)
 
-      tidied-length : wrote ≡ length (tidyBytes (is .book))
+      tidied-length : wrote ≡ length (tidyBytes (bookIn bytes))
       tidied-length =
-          here .length-is ∙ ap (λ ps. 16 + length (goalBytes ps)) (ended (is .book) (is .goals-are) here)
-          ∙ sym (length-append (writeLine (headerLine (is .book .header))) (goalBytes (is .book .parts)))
+          here .length-is ∙ ap (λ ps. 16 + length (goalBytes ps)) (ended (bookIn bytes) (sym (is .1)) here)
+          ∙ sym (length-append (writeLine (headerLine (bookIn bytes .header))) (goalBytes (bookIn bytes .parts)))
 
       room : wrote ≤ length out
       room = omega (arith, goals-less, goals-within, same)
 
       pub all-written : WroteBook bytes before (Back out wrote sub) wrote
       all-written =
-          let f : length out - wrote ≡ length before - length (tidyBytes (is .book)) = omega (arith, keeps, tidied-length) in
-          record {
-            book = is .book;
-            reads = is .reads;
-            length-is = tidied-length;
-            out-is =
-                back-is out wrote room sub
-                ∙ ap₂ (λ x y. x ++ y) tidied (zeros ∙ ap (λ n. replicate n 0) (lent-length out wrote room ∙ f));
-            few = omega (arith, goals-less, goals-within, long .1);
-          }
+          let f : length out - wrote ≡ length before - length (tidyBytes (bookIn bytes)) = omega (arith, keeps, tidied-length) in (
+            tidied-length,
+            back-is out wrote room sub
+                ∙ ap₂ (λ x y. x ++ y) tidied (zeros ∙ ap (λ n. replicate n 0) (lent-length out wrote room ∙ f)),
+          )
 
       pub all-kept : length (Back out wrote sub) ≡ length out
       all-kept = back-length out wrote room sub (ap length zeros ∙ length-replicate _ 0 ∙ lent-length out wrote room)

@@ -8,8 +8,8 @@ use lib.Dec.{eqb}
 use lib.ListN.{length, take, drop, set}
 use Rattle.definition.specs.declared.format.Line.{Line}
 use Rattle.definition.specs.Line.{lastColumn, leadingColumn}
-use Rattle.definition.specs.Part.{Book}
-use Rattle.definition.specs.Reader.{Accepted, TakenPart, readBook, readGoal, readPart}
+use Rattle.book.specs.Read.{IsAccepted, bookIn}
+use Rattle.definition.specs.Reader.{TakenPart, readGoal, readPart}
 use Rattle.buffer.specs.Regions.{overwrite, region}
 use Rattle.book.specs.declared.code.Code.{Code}
 use Rattle.book.specs.declared.code.Code.the-variants as codes
@@ -46,10 +46,11 @@ putColumns s i n = set (set (set s i (leadingColumn (n / 100))) (i + 1) (leading
 abbrev pub lineDropped : ℕ → List ℕ → List ℕ
 lineDropped n out = overwrite out 0 (region 16 (n - 16) out)
 
--- a part of n bytes is spliced into a node with this code
+-- ---- the part at the front of the output joins a node with this code: whether it is spliced in
 abbrev pub isSpliced : ℕ → List ℕ → Bool
 isSpliced code out = isGroup (codeOf code) && eqb (fieldIn out 0) code
 
+-- its parts are there then, without its line; else it counts for one
 abbrev pub joinedIf : Bool → ℕ → List ℕ → Joined
 joinedIf true n out = record { count = fieldIn out 3; bytes = n - 16 }
 joinedIf false n out = record { count = 1; bytes = n }
@@ -58,7 +59,7 @@ abbrev pub droppedIf : Bool → ℕ → List ℕ → List ℕ
 droppedIf true n out = lineDropped n out
 droppedIf false n out = out
 
--- ---- a node's own line
+-- ---- a node's own line: none, where the node becomes its only part
 abbrev pub isOnly : ℕ → ℕ → Bool
 isOnly code count = isGroup (codeOf code) && eqb count 1
 
@@ -103,15 +104,10 @@ WroteGoal goal bytes before after s =
     → WroteAs (lineWith 1 goal ∷ partLines (tidyPart (t .part))) (t .rest) bytes before after s
 
 -- a book that was read, with so many goals
-pub record IsRead (bytes : List ℕ) (goals : ℕ) : Type 0 where
-  pub book : Book
-  pub reads : readBook bytes ≡ Accepted book
-  pub goals-are : goals ≡ book .header .goals
+abbrev pub IsRead : List ℕ → ℕ → Type 0
+IsRead bytes goals = IsAccepted bytes × (bookIn bytes .header .goals ≡ goals)
 
 -- its tidy bytes, and zeros behind them
-pub record WroteBook (bytes before after : List ℕ) (n : ℕ) : Type 0 where
-  pub book : Book
-  pub reads : readBook bytes ≡ Accepted book
-  pub length-is : n ≡ length (tidyBytes book)
-  pub out-is : after ≡ padded (length before) (tidyBytes book)
-  pub few : n ≤ 16000
+abbrev pub WroteBook : List ℕ → List ℕ → List ℕ → ℕ → Type 0
+WroteBook bytes before after n =
+    (n ≡ length (tidyBytes (bookIn bytes))) × (after ≡ padded (length before) (tidyBytes (bookIn bytes)))

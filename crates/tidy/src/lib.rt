@@ -5,12 +5,11 @@ mod part;
 
 use crate::part::Sizes;
 use book::BookRead;
-use definition::format::Line;
 use definition::replies::Refusal;
 ghost use mathlib.Core.Path.{_≡_};
 ghost use Prim.Native.Nat.{_≤_, _<_};
 ghost use lib.ListN.{length};
-ghost use Rattle.tidy.specs.Reply.{replied, responseCode, tidy};
+ghost use Rattle.tidy.specs.Reply.{lengthUsed, refusalOf, replied, responseCode, tidy};
 ghost use Rattle.tidy.specs.Promises.{Promises};
 ghost use Rattle.tidy.specs.Engine.{StartsGoal, WroteGoal, IsRead, WroteBook};
 
@@ -24,15 +23,33 @@ pub enum Response {
 }
 
 impl Response {
+    // The length used, 0 for a refusal.
+    fn length(self) -> u16
+        ensures { λ r. ⌜ r ≡ lengthUsed self ⌝ }
+    {
+        match self {
+            Response::Written(n) => n,
+            Response::Unread(_) => 0,
+            Response::OutputLength => 0,
+        }
+    }
+
+    // The refusal's number, 0 for none.
+    pub fn refusal(self) -> u16
+        ensures { λ r. ⌜ r ≡ refusalOf self ⌝ }
+    {
+        match self {
+            Response::Written(_) => 0,
+            Response::Unread(r) => r.number() as u16,
+            Response::OutputLength => 14,
+        }
+    }
+
     // Length used + 65536 * refusal.
     pub fn code(self) -> u32
         ensures { λ r. ⌜ r ≡ responseCode self ⌝ }
     {
-        match self {
-            Response::Written(n) => n as u32,
-            Response::Unread(r) => 65536 * (r.number() as u32),
-            Response::OutputLength => 917504,
-        }
+        (self.length() as u32) + 65536 * (self.refusal() as u32)
     }
 }
 
@@ -41,21 +58,11 @@ fn write_goal(body: &[u8], out: &mut [u8], goal: u16) -> Sizes
     requires { ⌜ StartsGoal goal (now body) × ((length (now body) ≤ length (now out)) × (length (now body) < 16000)) ⌝ }
     ensures { λ r. ⌜ WroteGoal goal (now (body .entry)) (now (out .entry)) (now (out .exit)) r ⌝ }
 {
-    line::write(
-        out,
-        Line {
-            code: 1,
-            first: goal,
-            second: 0,
-            third: 0,
-            fourth: 0,
-        },
-    );
+    line::write_with(out, 1, goal);
     let s = part::write(&body[16..], &mut out[16..], 8);
-    Sizes {
-        read: s.read + 16,
-        wrote: s.wrote + 16,
-    }
+    let read = s.read + 16;
+    let wrote = s.wrote + 16;
+    Sizes { read, wrote }
 }
 
 // Writes a book that was read; how many bytes its plain form takes.
@@ -86,7 +93,8 @@ fn write_into(book: &[u8], out: &mut [u8], goals: usize) -> Response
         return Response::OutputLength;
     }
     let n = write_book(book, out, goals);
-    Response::Written(n as u16)
+    let length = n as u16;
+    Response::Written(length)
 }
 
 // Writes the book's plain form to the output, and zeros behind it; a refusal leaves the

@@ -5,7 +5,7 @@ ghost use mathlib.Core.Path.{_≡_};
 ghost use mathlib.Core.List.{_++_};
 ghost use Prim.Native.Nat.{_+_, _≤_};
 ghost use lib.ListN.{length, drop};
-ghost use Rattle.tidy.specs.Write.{writeLine};
+ghost use Rattle.tidy.specs.Write.{lineWith, writeLine};
 ghost use Rattle.tidy.specs.Engine.{putColumns};
 
 // A number in the three columns from place i on.
@@ -36,4 +36,21 @@ pub fn write(out: &mut [u8], l: Line)
     ensures { λ _. ⌜ now (out .exit) ≡ writeLine l ++ drop 16 (now (out .entry)) ⌝ }
 {
     fill(&mut out[..16], l);
+}
+
+// The same of a line that uses its code and one number.
+pub fn write_with(out: &mut [u8], code: u16, n: u16)
+    requires { ⌜ 16 ≤ length (now out) ⌝ }
+    ensures { λ _. ⌜ now (out .exit) ≡ writeLine (lineWith code n) ++ drop 16 (now (out .entry)) ⌝ }
+{
+    write(
+        out,
+        Line {
+            code,
+            first: n,
+            second: 0,
+            third: 0,
+            fourth: 0,
+        },
+    );
 }

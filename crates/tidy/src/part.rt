@@ -2,7 +2,6 @@
 // as soon as it stands there; the node's own line is written when its parts are known.
 use crate::line;
 use book::code::Code;
-use definition::format::Line;
 ghost use mathlib.Core.Path.{_≡_};
 ghost use Prim.Native.Nat.{_≤_, _<_};
 ghost use lib.ListN.{length};
@@ -72,10 +71,8 @@ fn join(out: &mut [u8], n: usize, code: u16) -> Joined
     }
     let count = book::line::field_at(out, 3);
     drop_line(out, n);
-    Joined {
-        count,
-        bytes: n - 16,
-    }
+    let bytes = n - 16;
+    Joined { count, bytes }
 }
 
 // Whether a node with this code and so many parts becomes its part.
@@ -99,16 +96,7 @@ fn head(out: &mut [u8], n: usize, code: u16, count: u16) -> usize
         drop_line(out, n);
         return n - 16;
     }
-    line::write(
-        out,
-        Line {
-            code,
-            first: count,
-            second: 0,
-            third: 0,
-            fourth: 0,
-        },
-    );
+    line::write_with(out, code, count);
     n
 }
 

@@ -4,8 +4,7 @@ use libc::STDOUT_FILENO;
 use tidy::Response;
 
 fn print_refusal(r: Response) {
-    let number = (r.code() / 65536) as u16;
-    let columns = book::columns::of_number(number);
+    let columns = book::columns::of_number(r.refusal());
     io::write_all(STDOUT_FILENO, &columns);
     io::write_all(STDOUT_FILENO, b"\n");
 }

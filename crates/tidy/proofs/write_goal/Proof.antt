@@ -9,8 +9,8 @@ use borrow.Author.Needs.{needs}
 use Rattle.tidy.proofs.write_goal.Statement.{statement}
 use Rattle.tidy.proofs.write_goal.Tie as tie
 
-write-requires : tie.Need-write-requires
-write-requires c κs = let a = c .before .before .before in omega (arith, starts-room (a .args .goal) (a .args .body .now) (a .pre .0), a .pre .1 .0)
+write-with-requires : tie.Need-write-with-requires
+write-with-requires c κs = let a = c .before .before .before in omega (arith, starts-room (a .args .goal) (a .args .body .now) (a .pre .0), a .pre .1 .0)
 
 sub-write : tie.Need-sub-write
 sub-write c = let a = c .before .before .before .before .before .before in starts-room (a .args .goal) (a .args .body .now) (a .pre .0)
@@ -24,7 +24,7 @@ part-write-end c = search needs
 sub-write-2 : tie.Need-sub-write-2
 sub-write-2 c =
     let a = c .before .before .before .before .before .before .before in
-    let w = c .before .before .before .write in
+    let w = c .before .before .before .write-with in
     let h = starts-room (a .args .goal) (a .args .body .now) (a .pre .0) in
     let l : length (w .last .0) ≡ length (a .args .out .now) = ap length (w .ensures) ∙ line-length (lineWith 1 (a .args .goal)) (a .args .out .now) (omega (arith, h, a .pre .1 .0)) in
     omega (arith, l, h, a .pre .1 .0)
@@ -32,7 +32,7 @@ sub-write-2 c =
 part-write-start-2 : tie.Need-part-write-start-2
 part-write-start-2 c =
     let a = c .before .before .before .before .before .before .before in
-    let w = c .before .before .before .write in
+    let w = c .before .before .before .write-with in
     let h = starts-room (a .args .goal) (a .args .body .now) (a .pre .0) in
     let l : length (w .last .0) ≡ length (a .args .out .now) = ap length (w .ensures) ∙ line-length (lineWith 1 (a .args .goal)) (a .args .out .now) (omega (arith, h, a .pre .1 .0)) in
     omega (arith, l, h, a .pre .1 .0)
@@ -40,10 +40,10 @@ part-write-start-2 c =
 part-write-end-2 : tie.Need-part-write-end-2
 part-write-end-2 c = search needs
 
-write-requires-2 : tie.Need-write-requires-2
-write-requires-2 c κs =
+write-requires : tie.Need-write-requires
+write-requires c κs =
     let a = c .before .before .before .before .before .before .before .before in
-    let w = c .before .before .before .before .write in
+    let w = c .before .before .before .before .write-with in
     let h = starts-room (a .args .goal) (a .args .body .now) (a .pre .0) in
     let l : length (w .last .0) ≡ length (a .args .out .now) = ap length (w .ensures) ∙ line-length (lineWith 1 (a .args .goal)) (a .args .out .now) (omega (arith, h, a .pre .1 .0)) in (
       starts-part (a .args .goal) (a .args .body .now) (a .pre .0),
@@ -53,18 +53,18 @@ write-requires-2 c κs =
       ),
     )
 
-add-t10 : tie.Need-add-t10
-add-t10 c =
+add-read : tie.Need-add-read
+add-read c =
     let a = c .before .before .before .before .before .before .before .before .before .before .before .before in
-    let w = c .before .before .before .before .before .before .before .before .write in
-    let v = c .before .before .before .write2 in
+    let w = c .before .before .before .before .before .before .before .before .write-with in
+    let v = c .before .before .before .write in
     omega (arith, goal-within (a .args .goal) (a .args .body .now) (a .args .out .now) (a .pre .1 .0) (w .last .0) (w .ensures) (v .last .1 .0) (v .result) (v .ensures) (a .pre .0 .goals) (a .pre .0 .taken) (a .pre .0 .reads), a .pre .1 .1)
 
-add-t14 : tie.Need-add-t14
-add-t14 c =
+add-wrote : tie.Need-add-wrote
+add-wrote c =
     let a = c .before .before .before .before .before .before .before .before .before .before .before .before .before in
-    let w = c .before .before .before .before .before .before .before .before .before .write in
-    let v = c .before .before .before .before .write2 in
+    let w = c .before .before .before .before .before .before .before .before .before .write-with in
+    let v = c .before .before .before .before .write in
     omega (arith, goal-within (a .args .goal) (a .args .body .now) (a .args .out .now) (a .pre .1 .0) (w .last .0) (w .ensures) (v .last .1 .0) (v .result) (v .ensures) (a .pre .0 .goals) (a .pre .0 .taken) (a .pre .0 .reads), goal-less (a .args .goal) (a .args .body .now) (a .args .out .now) (a .pre .1 .0) (w .last .0) (w .ensures) (v .last .1 .0) (v .result) (v .ensures) (a .pre .0 .goals) (a .pre .0 .taken) (a .pre .0 .reads), a .pre .1 .1)
 
 same-length : tie.Need-same-length
@@ -73,23 +73,23 @@ same-length c = search needs
 returns : tie.Need-returns
 returns c =
     let a = c .before .before .before .before .before .before .before .before .before .before .before .before .before in
-    let w = c .before .before .before .before .before .before .before .before .before .write in
-    let v = c .before .before .before .before .write2 in
+    let w = c .before .before .before .before .before .before .before .before .before .write-with in
+    let v = c .before .before .before .before .write in
     goal-written (a .args .goal) (a .args .body .now) (a .args .out .now) (a .pre .1 .0) (w .last .0) (w .ensures) (v .last .1 .0) (v .result) (v .ensures)
 
 pub write-goal-spec : {M : Type 1} → statement M
 write-goal-spec =
     tie.close
     (tie.spec
-    write-requires
+    write-with-requires
     sub-write
     part-write-start
     part-write-end
     sub-write-2
     part-write-start-2
     part-write-end-2
-    write-requires-2
-    add-t10
-    add-t14
+    write-requires
+    add-read
+    add-wrote
     same-length
     returns)

@@ -1,6 +1,6 @@
 use native.Mathlib.Omega.{arith}
 use borrow.Author.Needs.{needs}
-use Rattle.tidy.proofs.Replies.{right-length, wrong-length}
+use Rattle.tidy.proofs.Replies.{few-written, right-length, wrong-length}
 use Rattle.tidy.proofs.write_into.Statement.{statement}
 use Rattle.tidy.proofs.write_into.Tie as tie
 
@@ -12,8 +12,11 @@ returns c =
 write-book-requires : tie.Need-write-book-requires
 write-book-requires c κs = search needs
 
-cast-t10 : tie.Need-cast-t10
-cast-t10 c = record { fits = omega (arith, c .before .before .write-book .ensures .few) }
+cast-length : tie.Need-cast-length
+cast-length c =
+    let a = c .before .before .before .before .before .before .before in
+    let w = c .before .before .write-book in
+    record { fits = omega (arith, few-written (a .args .book .now) (a .args .out .now) (w .last .1 .0) (w .result) (a .args .goals) (a .pre) (w .ensures)) }
 
 same-length : tie.Need-same-length
 same-length c = search needs
@@ -22,7 +25,7 @@ returns-2 : tie.Need-returns-2
 returns-2 c =
     let a = c .before .before .before .before .before .before .before in
     let w = c .before .before .write-book in
-    right-length (a .args .book .now) (a .args .out .now) (w .last .1 .0) (w .result) (w .ensures) (c .before .before .before .before .if1 .left)
+    right-length (a .args .book .now) (a .args .out .now) (w .last .1 .0) (w .result) (a .args .goals) (a .pre) (w .ensures) (c .before .before .before .before .if1 .left)
 
 pub write-into-spec : {M : Type 1} → statement M
-write-into-spec = tie.close (tie.spec returns write-book-requires cast-t10 same-length returns-2)
+write-into-spec = tie.close (tie.spec returns write-book-requires cast-length same-length returns-2)

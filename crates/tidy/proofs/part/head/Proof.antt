@@ -21,8 +21,8 @@ returns c =
     let a = o .before .before .args in
     only-part (a .code) (a .count) (a .n) (a .out .now) _ (o .is-only .result) (o .is-only .ensures) (c .before .before .before .before .if1 .taken) (c .before .before .drop-line .ensures)
 
-write-requires : tie.Need-write-requires
-write-requires c κs = search needs
+write-with-requires : tie.Need-write-with-requires
+write-with-requires c κs = search needs
 
 same-length-2 : tie.Need-same-length-2
 same-length-2 c = search needs
@@ -31,7 +31,7 @@ returns-2 : tie.Need-returns-2
 returns-2 c =
     let o = c .before .before .before .before .before in
     let a = o .before .before .args in
-    line-stands (a .code) (a .count) (a .n) (a .out .now) _ (o .is-only .result) (o .is-only .ensures) (c .before .before .before .before .if1 .left) (c .before .before .write .ensures)
+    line-stands (a .code) (a .count) (a .n) (a .out .now) _ (o .is-only .result) (o .is-only .ensures) (c .before .before .before .before .if1 .left) (c .before .before .write-with .ensures)
 
 pub head-spec : {M : Type 1} → statement M
 head-spec =
@@ -42,6 +42,6 @@ head-spec =
     sub-result
     same-length
     returns
-    write-requires
+    write-with-requires
     same-length-2
     returns-2)

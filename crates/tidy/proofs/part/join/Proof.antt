@@ -29,8 +29,8 @@ field-at-requires-2 c κs = search needs
 drop-line-requires : tie.Need-drop-line-requires
 drop-line-requires c κs = search needs
 
-sub-t15 : tie.Need-sub-t15
-sub-t15 c = search needs
+sub-bytes : tie.Need-sub-bytes
+sub-bytes c = search needs
 
 same-length-2 : tie.Need-same-length-2
 same-length-2 c = search needs
@@ -55,6 +55,6 @@ join-spec =
     returns-2
     field-at-requires-2
     drop-line-requires
-    sub-t15
+    sub-bytes
     same-length-2
     returns-3)
