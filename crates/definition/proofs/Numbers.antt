@@ -62,3 +62,17 @@ refusal-small WorkLength = lit< tt
 refusal-small ProvisionalCacheFull = lit< tt
 refusal-small CacheConflict = lit< tt
 refusal-small Unreachable = lit< tt
+
+pub refusal-some : (r : Refusal) → 0 < refusalNumber r
+refusal-some BookLength = lit< tt
+refusal-some BookLine = lit< tt
+refusal-some BookHeader = lit< tt
+refusal-some BookBody = lit< tt
+refusal-some UnknownGoal = lit< tt
+refusal-some DepthAboveTop = lit< tt
+refusal-some CacheLength = lit< tt
+refusal-some CacheForm = lit< tt
+refusal-some WorkLength = lit< tt
+refusal-some ProvisionalCacheFull = lit< tt
+refusal-some CacheConflict = lit< tt
+refusal-some Unreachable = lit< tt

@@ -1,7 +1,4 @@
-use mathlib.Core.Path.{subst, sym}
-use Rattle.tidy.specs.Promises.{CodeOfTable, Promises}
-use Rattle.tidy.proofs.Theorems.{code-table}
-use Rattle.capi.proofs.Tidying.{tidied}
+use Rattle.capi.proofs.Tidying.{promised, tidied}
 use borrow.Author.Needs.{needs}
 use Rattle.capi.proofs.search_graph_tidy.Statement.{statement}
 use Rattle.capi.proofs.search_graph_tidy.Tie as tie
@@ -20,7 +17,7 @@ returns c =
     let q = c .before .before .before .tidy in
     let x = c .code in (
       tidied (q .result) (x .result) (q .last .1 .0) (q .ensures .0) (x .ensures),
-      (subst (Promises _ _) (q .ensures .0) (q .ensures .1), subst CodeOfTable (sym (x .ensures)) (code-table (q .result) (q .last .1 .0) (q .ensures .1))),
+      promised _ _ (q .last .1 .0) (q .result) (x .result) (x .ensures) (q .ensures .1),
     )
 
 pub search-graph-tidy-spec : {M : Type 1} → statement M
