@@ -1,14 +1,14 @@
 -- A reply of tidying and its code.
 use mathlib.Core.List.{List}
 use mathlib.Core.Logic.{_≢_}
-use mathlib.Core.Path.{_∙_, _≡_, ap, refl, subst, sym}
+use mathlib.Core.Path.{_∙_, _≡_, ap, refl, subst}
 use Prim.Native.Nat.{_*_, _+_, _<_, _≤_, ℕ}
 use native.Mathlib.Omega.{arith}
 use Rattle.definition.proofs.Numbers.{refusal-some}
 use Rattle.tidy.specs.declared.Response.{Response}
 use Rattle.tidy.specs.declared.Response.the-variants.{OutputLength, Unread, Written}
 use Rattle.tidy.specs.Promises.{Promises, TidyRefusal, Used}
-use Rattle.tidy.specs.Reply.{Reply, lengthUsed, refusalOf, replied, responseCode}
+use Rattle.tidy.specs.Reply.{Reply, refusalOf, replied, responseCode}
 use Rattle.tidy.proofs.Theorems.{used-few}
 use Rattle.capi.specs.Tidied.{Tidied, TidyPromises}
 
