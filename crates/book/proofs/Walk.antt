@@ -1,13 +1,13 @@
 -- A part of a book is walked by its first line, and the parts below it one by one.
 use mathlib.Core.Path.{_≡_, refl, sym, ap, _∙_}
-use mathlib.Core.Bool.{Bool, true, false, _&&_}
+use mathlib.Core.Bool.{Bool, true, false, and-eq-true-iff}
 use mathlib.Core.Option.{Option, some}
 use mathlib.Core.List.{List}
 use Prim.Native.Nat.{ℕ, suc, _-_, _≤_, _<_}
 use native.Mathlib.Omega.{arith}
 use native.Mathlib.Decide.{decLt}
 use lib.ListN.{length, drop}
-use lib.Dec.{eqb, leb, ltb}
+use lib.Dec.{eqb}
 use borrow.Author.Tests.{leb-true, ltb-true}
 use Rattle.definition.specs.declared.format.Line.{Line}
 use Rattle.definition.specs.Paths.{kindOf}
@@ -88,16 +88,10 @@ module _ (goals : ℕ) (p : Bool) (bytes : List ℕ) (l : Line) (is : l ≡ line
   known-code = not-unknown seen
 
   fits : codeOf (l .code) ≡ codes.Call → (l .first < goals) × ((l .second ≤ 3) × (l .third ≤ 1))
-  fits k = let t = tests (ltb (l .first) goals) (leb (l .second) 3) (leb (l .third) 1) (eqb (l .fourth) 0) (as-call seen k .0) in (ltb-true _ _ (t .0), (leb-true _ _ (t .1 .0), leb-true _ _ (t .1 .1)))
-    where
-      off : {A : Type 0} → _≡_ {A = Bool} false true → A
-      off e = let z : _≡_ {A = ℕ} 0 1 = ap (λ (b : Bool). elim b [ true ↦ 1 | false ↦ 0 ]) e in absurd (omega arith)
-
-      tests : (a b c d : Bool) → a && b && c && d ≡ true → (a ≡ true) × ((b ≡ true) × (c ≡ true))
-      tests true true true d e = (refl, (refl, refl))
-      tests true true false d e = off e
-      tests true false c d e = off e
-      tests false b c d e = off e
+  fits k =
+      let c = and-eq-true-iff _ _ .0 (and-eq-true-iff _ _ .0 (as-call seen k .0) .0) in
+      let b = and-eq-true-iff _ _ .0 (c .0) in
+      (ltb-true _ _ (b .0), (leb-true _ _ (b .1), leb-true _ _ (c .1)))
 
   pub is-call : codeOf (l .code) ≡ codes.Call
       → (partIn goals p bytes ≡ Call (l .first) (kindOf (l .second)) (eqb (l .third) 1)) × (l .first < goals)
