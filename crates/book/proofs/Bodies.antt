@@ -37,6 +37,14 @@ front-front : (ps qs : List Part) (x : Option TakenGoals) → withFront (ps ++ q
 front-front ps qs none = refl
 front-front ps qs (some t) = ap (λ (l : List Part). some (record { parts = l; rest = t .rest })) (append-assoc ps qs (t .parts))
 
+-- ---- n goals are one goal and the others
+pub record NextGoal (goals g n : ℕ) (ls : List Line) (t : TakenGoals) : Type 0 where
+  pub one : TakenPart
+  pub others : TakenGoals
+  pub one-is : readGoal goals g ls ≡ some one
+  pub others-are : readGoals goals (suc g) n (one .rest) ≡ some others
+  pub all-are : record { parts = one .part ∷ others .parts; rest = others .rest } ≡ t
+
 module _ (goals g n : ℕ) (ls : List Line) where
   abbrev before : TakenPart → Option TakenGoals → Option TakenGoals
   before p x = elim x [ none ↦ none | some ps ↦ some (record { parts = p .part ∷ ps .parts; rest = ps .rest }) ]
@@ -53,6 +61,17 @@ module _ (goals g n : ℕ) (ls : List Line) where
 
   goals-none : readGoal goals g ls ≡ none → readGoals goals g (suc n) ls ≡ none
   goals-none e = ap oneAnd e
+
+  pub next-goal : (t : TakenGoals) → readGoals goals g (suc n) ls ≡ some t → NextGoal goals g n ls t
+  next-goal t e = go (readGoal goals g ls) refl e
+    where
+      with-others : (p : TakenPart) → readGoal goals g ls ≡ some p → (x : Option TakenGoals) → readGoals goals (suc g) n (p .rest) ≡ x → before p x ≡ some t → NextGoal goals g n ls t
+      with-others p a none b q = never q
+      with-others p a (some ps) b q = record { one = p; others = ps; one-is = a; others-are = b; all-are = of-some q }
+
+      go : (x : Option TakenPart) → readGoal goals g ls ≡ x → oneAnd x ≡ some t → NextGoal goals g n ls t
+      go none a q = never q
+      go (some p) a q = with-others p a (readGoals goals (suc g) n (p .rest)) refl q
 
 -- ---- a goal that was read
 record Goal (goals g : ℕ) (s : List ℕ) (rest : List Line) : Type 0 where
@@ -75,13 +94,17 @@ abbrev ifGoal : ℕ → List ℕ → Bool → Option TakenPart
 ifGoal goals s b = elim b [ true ↦ readPart goals 8 false (linesIn (drop 16 s)) | false ↦ none ]
 
 -- its part is read after its line
-pub goal-part : (goals g : ℕ) (s : List ℕ) (t : TakenPart) → 16 ≤ length s → readGoal goals g (linesIn s) ≡ some t → partRead goals false (drop 16 s) ≡ some t
-unfolding partRead
-goal-part goals g s t room e = go (isGoalLine g (lineIn s)) (sym (ap (readGoal goals g) (lines-cons s room)) ∙ e)
-  where
-    go : (b : Bool) → ifGoal goals s b ≡ some t → readPart goals 8 false (linesIn (drop 16 s)) ≡ some t
-    go true q = q
-    go false q = never q
+module _ (goals g : ℕ) (s : List ℕ) (t : TakenPart) (e : readGoal goals g (linesIn s) ≡ some t) where
+  pub goal-room : 16 ≤ length s
+  goal-room = elim (decLt (length s) 16) [ yes h ↦ never (sym (ap (readGoal goals g) (lines-none s h)) ∙ e) | no h ↦ omega arith ]
+
+  pub goal-part : partRead goals false (drop 16 s) ≡ some t
+  unfolding partRead
+  goal-part = go (isGoalLine g (lineIn s)) (sym (ap (readGoal goals g) (lines-cons s goal-room)) ∙ e)
+    where
+      go : (b : Bool) → ifGoal goals s b ≡ some t → readPart goals 8 false (linesIn (drop 16 s)) ≡ some t
+      go true q = q
+      go false q = never q
 
 -- ---- the parts at the places in `starts`
 pub startParts : ℕ → List ℕ → List ℕ → ℕ → List Part
@@ -163,14 +186,11 @@ module _ (goals : ℕ) (book starts : List ℕ) (at g : ℕ) (b : Body goals boo
       goal : Goal goals g (drop at book) (linesIn (drop (at + r) book))
       goal = goal-of goals g (drop at book) (linesIn (drop (at + r) book)) (sym said′ ∙ after-some r (drop at book) ne ∙ ap (λ (s : List ℕ). some (linesIn s)) (drop-drop r at book))
 
-      has-line : 16 ≤ length (drop at book)
-      has-line = elim (decLt (length (drop at book)) 16) [ yes h ↦ never (sym (ap (readGoal goals g) (lines-none (drop at book) h)) ∙ goal .is) | no h ↦ omega arith ]
-
       pub line-room : at + 16 ≤ length book
-      line-room = let a = rw length-drop at has-line in let w = b .within in omega arith
+      line-room = let a = rw length-drop at (goal-room goals g (drop at book) (goal .taken) (goal .is)) in let w = b .within in omega arith
 
       part-read : partRead goals false (drop (at + 16) book) ≡ some (goal .taken)
-      part-read = ap (partRead goals false) (sym (drop-drop 16 at book)) ∙ goal-part goals g (drop at book) (goal .taken) has-line (goal .is)
+      part-read = ap (partRead goals false) (sym (drop-drop 16 at book)) ∙ goal-part goals g (drop at book) (goal .taken) (goal .is)
 
       module _ (slot : g < length starts) where
         abbrev next : List ℕ

@@ -1,6 +1,6 @@
 -- A book, read: the definition's refusals at each way through the code.
 use mathlib.Core.Path.{_≡_, refl, sym, ap, _∙_, subst}
-use mathlib.Core.Bool.{Bool, true, false, not, _&&_}
+use mathlib.Core.Bool.{Bool, true, false, not, _&&_, and-eq-true-iff}
 use mathlib.Core.Option.{Option, none, some}
 use mathlib.Core.List.{List, [], _∷_}
 use Prim.Native.Nat.{ℕ, _%_, _≤_}
@@ -25,13 +25,9 @@ use Rattle.book.proofs.Heads.{in-range}
 
 -- a length in range
 pub length-fits : (n : ℕ) → lengthInRange n ≡ true → (48 ≤ n) × (n ≤ 16000)
-length-fits n e = let t = tests (eqb (n % 16) 0) (leb 48 n) (leb n 16000) e in (leb-true 48 n (t .0), leb-true n 16000 (t .1))
-  where
-    tests : (a b c : Bool) → a && b && c ≡ true → (b ≡ true) × (c ≡ true)
-    tests true true true e = (refl, refl)
-    tests true true false e = (refl, e)
-    tests true false c e = let z : _≡_ {A = ℕ} 0 1 = cc in absurd (omega arith)
-    tests false b c e = let z : _≡_ {A = ℕ} 0 1 = cc in absurd (omega arith)
+length-fits n e =
+    let t = and-eq-true-iff (eqb (n % 16) 0 && leb 48 n) (leb n 16000) .0 e in
+    (leb-true 48 n (and-eq-true-iff (eqb (n % 16) 0) (leb 48 n) .0 (t .0) .1), leb-true n 16000 (t .1))
 
 abbrev byLength : Bool → Option (List Line) → reader.BookRead
 byLength b x = elim b [ false ↦ reader.Rejected BookLength | true ↦ elim x [ none ↦ reader.Rejected BookLine | some ls ↦ readHeader ls ] ]

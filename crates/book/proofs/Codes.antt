@@ -11,6 +11,7 @@ use types.Run.{OneOf, miss}
 use denote.Enum.Declared.{tagOf}
 use Rattle.definition.specs.declared.format.Line.{Line}
 use Rattle.definition.specs.Reader.{TakenPart, readCall, readUndecided, readNode, readPick, readByCode}
+use Rattle.book.specs.declared.code.Op.the-variants as kinds
 use Rattle.book.specs.declared.code.Code.{Code}
 use Rattle.book.specs.declared.code.Code.the-variants as codes
 use Rattle.book.specs.Codes.{codeOf, opOf, countBelow}
@@ -54,6 +55,26 @@ goal-number (suc (suc (suc (suc (suc zero))))) = refl
 goal-number (suc (suc (suc (suc (suc (suc zero)))))) = refl
 goal-number (suc (suc (suc (suc (suc (suc (suc n))))))) =
     ne-eqb (suc (suc (suc (suc (suc (suc (suc n))))))) 1 (λ e. omega arith)
+
+-- a known code's number
+abbrev pub codeNumber : Code → ℕ
+codeNumber codes.Goal = 1
+codeNumber codes.Call = 2
+codeNumber (codes.Group kinds.All) = 3
+codeNumber (codes.Group kinds.Any) = 4
+codeNumber codes.Pick = 5
+codeNumber codes.Undecided = 6
+codeNumber codes.Unknown = 0
+
+pub code-number : (n : ℕ) → (codeOf n ≡ codes.Unknown → ⊥) → codeNumber (codeOf n) ≡ n
+code-number zero h = refl
+code-number (suc zero) h = refl
+code-number (suc (suc zero)) h = refl
+code-number (suc (suc (suc zero))) h = refl
+code-number (suc (suc (suc (suc zero)))) h = refl
+code-number (suc (suc (suc (suc (suc zero))))) h = refl
+code-number (suc (suc (suc (suc (suc (suc zero)))))) h = refl
+code-number (suc (suc (suc (suc (suc (suc (suc n))))))) h = absurd (h refl)
 
 -- any other number, which is none of these
 pub no-code : (n : ℕ) → (n ≡ 1 → ⊥) → (n ≡ 2 → ⊥) → (n ≡ 3 → ⊥) → (n ≡ 4 → ⊥) → (n ≡ 5 → ⊥) → (n ≡ 6 → ⊥)

@@ -1,6 +1,6 @@
 -- The lines of bytes: one by one, and as the definition reads them.
 use mathlib.Core.Path.{_≡_, refl, sym, ap, _∙_}
-use mathlib.Core.Bool.{Bool, true, false, _&&_}
+use mathlib.Core.Bool.{Bool, true, false, _&&_, and-eq-true-iff}
 use mathlib.Core.Option.{Option, none, some}
 use mathlib.Core.List.{List, [], _∷_}
 use Prim.Native.Nat.{ℕ, zero, suc, _+_, _-_, _/_, _≤_, _<_}
@@ -104,6 +104,14 @@ lines-of s = read-lines (length s / 16) s ∙ by (allFit s)
     by : (b : Bool) → someIf b (linesIn s) ≡ linesIf b s
     by true = refl
     by false = refl
+
+-- where they were read, the first is well-formed
+pub first-fits : (s : List ℕ) → 16 ≤ length s → linesOf s ≡ some (linesIn s) → lineFits s ≡ true
+first-fits s h e = and-eq-true-iff _ _ .0 (sym (all-cons s h) ∙ go (allFit s) (sym (lines-of s) ∙ e)) .0
+  where
+    go : (b : Bool) → linesIf b s ≡ some (linesIn s) → b ≡ true
+    go true q = refl
+    go false q = let z : _≡_ {A = ℕ} 0 1 = cc in absurd (omega arith)
 
 -- ---- the tests of `first_fits` in their order
 module _ (s : List ℕ) where

@@ -73,14 +73,14 @@ module _ (goals n : ℕ) (bytes : List ℕ) (r : List Line) (h : Pending goals n
     first-read = split .one-is
 
     pub pending-line : 16 ≤ length bytes
-    pending-line = has-line goals false bytes (split .one) first-read
+    pending-line = has-line goals false bytes (split .one) 8 (split .one-is)
 
     pub pending-part : StartsPart bytes
     pending-part = record { goals = goals; inPick = false; reads = reads goals false bytes (split .one) first-read }
 
     pub next-pending : Pending goals (n - 1 + partsBelow (lineIn bytes)) (drop 16 bytes) r
     next-pending =
-        let b = below-of (readPart goals 7) (lineIn bytes) (linesIn (drop 16 bytes)) (split .one) goals false (viewed goals false bytes (split .one) first-read) in
+        let b = below-of (readPart goals 7) (lineIn bytes) (linesIn (drop 16 bytes)) (split .one) goals false (viewed goals false bytes (split .one) 8 (split .one-is)) in
         let w = parts-within (readPart goals 7 (b .inside)) f (part-within goals 7 8 (omega arith) (b .inside) false (out (b .inside))) (partsBelow (lineIn bytes)) (linesIn (drop 16 bytes)) (b .taken) (b .read) in
         let c : n - 1 + partsBelow (lineIn bytes) ≡ partsBelow (lineIn bytes) + (n - 1) = omega arith in
         ap (λ (m : ℕ). afterParts (readParts f m (linesIn (drop 16 bytes)))) c

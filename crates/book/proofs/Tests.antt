@@ -1,6 +1,6 @@
 -- Tests in a row, and the tests on a column of a line.
 use mathlib.Core.Path.{_≡_, refl, sym, ap, _∙_}
-use mathlib.Core.Bool.{Bool, true, false, _&&_, _||_, not}
+use mathlib.Core.Bool.{Bool, true, false, _&&_, _||_, not, and-eq-true-iff}
 use Prim.Native.Nat.{ℕ, zero, suc, _+_, _*_, _≤_, _<_}
 use native.Mathlib.Omega.{arith}
 use native.Mathlib.Decide.{ℕ-discrete, decLe}
@@ -58,11 +58,7 @@ one-number x y v w e h f =
 
 module _ (x y : ℕ) where
   pub spaces : isSpace x && isSpace y ≡ true → (x ≡ 32) × (y ≡ 32)
-  spaces e = let (a, b) = both (isSpace x) (isSpace y) e in (eqb-true x 32 a, eqb-true y 32 b)
-    where
-      both : (a b : Bool) → a && b ≡ true → (a ≡ true) × (b ≡ true)
-      both true b e = (refl, e)
-      both false b e = absurd (let z : _≡_ {A = ℕ} 0 1 = cc in omega arith)
+  spaces e = let (a, b) = and-eq-true-iff (isSpace x) (isSpace y) .0 e in (eqb-true x 32 a, eqb-true y 32 b)
 
   pub no-spaces : isSpace x && isSpace y ≡ false → x ≡ 32 → y ≡ 32 → ⊥
   no-spaces e f g =

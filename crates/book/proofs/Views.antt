@@ -1,6 +1,6 @@
 -- What a part's first line says of the part that was read, and a part read under other limits.
 use mathlib.Core.Path.{_≡_, refl, sym, ap, _∙_}
-use mathlib.Core.Bool.{Bool, true, false}
+use mathlib.Core.Bool.{Bool, true, false, and-eq-true-iff}
 use mathlib.Core.Option.{Option, none, some}
 use mathlib.Core.List.{List, [], _∷_}
 use Prim.Native.Nat.{ℕ, zero, suc, _+_, _≤_, _<_}
@@ -8,6 +8,7 @@ use native.Mathlib.Nat.{suc-add}
 use native.Mathlib.Omega.{arith}
 use lib.ListN.{length}
 use lib.Dec.{eqb}
+use borrow.Author.Tests.{ltb-true, leb-true, eqb-true}
 use Rattle.definition.specs.declared.format.Line.{Line}
 use Rattle.definition.specs.Paths.{kindOf}
 use Rattle.definition.specs.Part.{Op, Pick, Part, Call, Node, UndecidedLine, Then, End}
@@ -68,6 +69,21 @@ pub data View (goals : ℕ) (p : Bool) (inner : Bool → List Line → Option Ta
       → View goals p inner l ls t
   undecided : codeOf (l .code) ≡ codes.Undecided → undecidedFits l ≡ true → undecidedTaken ls ≡ t
       → View goals p inner l ls t
+
+-- what the tests of a line that is the whole part say
+pub call-fits : (goals : ℕ) (l : Line) → callFits goals l ≡ true → (l .first < goals) × (l .second ≤ 3) × (l .third ≤ 1) × (l .fourth ≡ 0)
+call-fits goals l e =
+    let d = and-eq-true-iff _ _ .0 e in
+    let c = and-eq-true-iff _ _ .0 (d .0) in
+    let b = and-eq-true-iff _ _ .0 (c .0) in
+    (ltb-true _ _ (b .0), leb-true _ _ (b .1), leb-true _ _ (c .1), eqb-true _ _ (d .1))
+
+pub undecided-fits : (l : Line) → undecidedFits l ≡ true → (l .first ≡ 0) × (l .second ≡ 0) × (l .third ≡ 0) × (l .fourth ≡ 0)
+undecided-fits l e =
+    let d = and-eq-true-iff _ _ .0 e in
+    let c = and-eq-true-iff _ _ .0 (d .0) in
+    let b = and-eq-true-iff _ _ .0 (c .0) in
+    (eqb-true _ _ (b .0), eqb-true _ _ (b .1), eqb-true _ _ (c .1), eqb-true _ _ (d .1))
 
 abbrev takenIf : Bool → TakenPart → Option TakenPart
 takenIf b t = elim b [ true ↦ some t | false ↦ none ]

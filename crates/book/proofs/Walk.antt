@@ -1,18 +1,18 @@
 -- A part of a book is walked by its first line, and the parts below it one by one.
 use mathlib.Core.Path.{_≡_, refl, sym, ap, _∙_}
-use mathlib.Core.Bool.{Bool, true, false, _&&_}
+use mathlib.Core.Bool.{Bool, true, false}
 use mathlib.Core.Option.{Option, some}
 use mathlib.Core.List.{List}
-use Prim.Native.Nat.{ℕ, suc, _-_, _≤_, _<_}
+use Prim.Native.Nat.{ℕ, zero, suc, _-_, _≤_, _<_}
 use native.Mathlib.Omega.{arith}
 use native.Mathlib.Decide.{decLt}
+use native.Mathlib.Numerals.{sub-one}
 use lib.ListN.{length, drop}
-use lib.Dec.{eqb, leb, ltb}
-use borrow.Author.Tests.{leb-true, ltb-true}
+use lib.Dec.{eqb}
 use Rattle.definition.specs.declared.format.Line.{Line}
 use Rattle.definition.specs.Paths.{kindOf}
 use Rattle.definition.specs.Part.{Op, Pick, Part, Parts, Call, Node, UndecidedLine, Then, End}
-use Rattle.definition.specs.Reader.{TakenPart, TakenParts, readParts, readByCode, readPart}
+use Rattle.definition.specs.Reader.{TakenPart, TakenParts, readParts, readPart}
 use Rattle.book.specs.declared.code.Op as kinds
 use Rattle.book.specs.declared.code.Code.the-variants as codes
 use Rattle.book.specs.Lines.{lineIn, linesIn}
@@ -20,7 +20,7 @@ use Rattle.book.specs.Codes.{opOf, codeOf}
 use Rattle.book.specs.Parts.{partRead, takenOr, partIn, restIn, Reads, StartsPart, partsRead, takenPartsOr, partsIn, restAfter, ReadsParts}
 use Rattle.book.proofs.Lines.{lines-cons, lines-none}
 use Rattle.book.proofs.Codes.{known-digit}
-use Rattle.book.proofs.Views.{never, of-some, First, uncons, View, view, Noded, as-call, as-group, as-pick, as-undecided, not-goal, not-unknown, looser-refl, part-within}
+use Rattle.book.proofs.Views.{never, of-some, First, uncons, View, view, call-fits, Noded, as-call, as-group, as-pick, as-undecided, not-goal, not-unknown, looser-refl, part-within}
 
 -- ---- what was read
 module _ (goals : ℕ) (p : Bool) (bytes : List ℕ) (t : TakenPart) (e : partRead goals p bytes ≡ some t) where
@@ -47,26 +47,25 @@ module _ (goals : ℕ) (p : Bool) (n : ℕ) (bytes : List ℕ) (t : TakenParts) 
   reads-parts : ReadsParts goals p n bytes
   reads-parts = e ∙ λ i. some (record { parts = sym parts-are i; rest = sym after-is i })
 
--- ---- by the first line
-module _ (goals : ℕ) (p : Bool) (bytes : List ℕ) (t : TakenPart) (e : partRead goals p bytes ≡ some t) where
-  pub has-line : 16 ≤ length bytes
-  unfolding partRead
-  has-line = elim (decLt (length bytes) 16) [ yes h ↦ never (sym (ap (readPart goals 8 p) (lines-none bytes h)) ∙ e) | no h ↦ omega arith ]
+-- ---- by the first line: a part that nests at most so deep
+module _ (goals : ℕ) (p : Bool) (bytes : List ℕ) (t : TakenPart) where
+  pub has-line : (nest : ℕ) → readPart goals nest p (linesIn bytes) ≡ some t → 16 ≤ length bytes
+  has-line zero e = never e
+  has-line (suc n) e = elim (decLt (length bytes) 16) [ yes h ↦ never (sym (ap (readPart goals (suc n) p) (lines-none bytes h)) ∙ e) | no h ↦ omega arith ]
 
-  pub by-line : readByCode goals (lineIn bytes .code) p (readPart goals 7) (lineIn bytes) (linesIn (drop 16 bytes)) ≡ some t
-  unfolding partRead
-  by-line = sym (ap (readPart goals 8 p) (lines-cons bytes has-line)) ∙ e
-
-  pub viewed : View goals p (readPart goals 7) (lineIn bytes) (linesIn (drop 16 bytes)) t
-  viewed = view goals p (readPart goals 7) (lineIn bytes) (linesIn (drop 16 bytes)) t by-line
+  pub viewed : (nest : ℕ) → readPart goals nest p (linesIn bytes) ≡ some t → View goals p (readPart goals (nest - 1)) (lineIn bytes) (linesIn (drop 16 bytes)) t
+  viewed zero e = never e
+  viewed (suc n) e =
+      rw sub-one
+      (view goals p (readPart goals n) (lineIn bytes) (linesIn (drop 16 bytes)) t (sym (ap (readPart goals (suc n) p) (lines-cons bytes (has-line (suc n) e))) ∙ e))
 
 module _ (goals : ℕ) (p : Bool) (bytes : List ℕ) (l : Line) (is : l ≡ lineIn bytes) (h : Reads goals p bytes) where
   whole : TakenPart
   whole = record { part = partIn goals p bytes; rest = restIn goals p bytes }
 
   seen : View goals p (readPart goals 7) l (linesIn (drop 16 bytes)) whole
-  unfolding whole
-  seen = rw is (viewed goals p bytes whole h)
+  unfolding whole partRead
+  seen = rw is (viewed goals p bytes whole 8 h)
 
   node : (op : Op) (q : Bool) → Noded op (readPart goals 7 q) (l .first) (linesIn (drop 16 bytes)) whole
       → (partIn goals p bytes ≡ Node op (partsIn goals q (l .first) (drop 16 bytes))) × ReadsParts goals q (l .first) (drop 16 bytes)
@@ -77,8 +76,8 @@ module _ (goals : ℕ) (p : Bool) (bytes : List ℕ) (l : Line) (is : l ≡ line
   )
 
   pub a-line : 16 ≤ length bytes
-  unfolding whole
-  a-line = has-line goals p bytes whole h
+  unfolding whole partRead
+  a-line = has-line goals p bytes whole 8 h
 
   -- its code is known, and no goal's
   pub no-goal-line : codeOf (l .code) ≡ codes.Goal → ⊥
@@ -87,26 +86,14 @@ module _ (goals : ℕ) (p : Bool) (bytes : List ℕ) (l : Line) (is : l ≡ line
   pub known-code : codeOf (l .code) ≡ codes.Unknown → ⊥
   known-code = not-unknown seen
 
-  fits : codeOf (l .code) ≡ codes.Call → (l .first < goals) × ((l .second ≤ 3) × (l .third ≤ 1))
-  fits k = let t = tests (ltb (l .first) goals) (leb (l .second) 3) (leb (l .third) 1) (eqb (l .fourth) 0) (as-call seen k .0) in (ltb-true _ _ (t .0), (leb-true _ _ (t .1 .0), leb-true _ _ (t .1 .1)))
-    where
-      off : {A : Type 0} → _≡_ {A = Bool} false true → A
-      off e = let z : _≡_ {A = ℕ} 0 1 = ap (λ (b : Bool). elim b [ true ↦ 1 | false ↦ 0 ]) e in absurd (omega arith)
-
-      tests : (a b c d : Bool) → a && b && c && d ≡ true → (a ≡ true) × ((b ≡ true) × (c ≡ true))
-      tests true true true d e = (refl, (refl, refl))
-      tests true true false d e = off e
-      tests true false c d e = off e
-      tests false b c d e = off e
-
   pub is-call : codeOf (l .code) ≡ codes.Call
       → (partIn goals p bytes ≡ Call (l .first) (kindOf (l .second)) (eqb (l .third) 1)) × (l .first < goals)
   unfolding whole
-  is-call k = let v = as-call seen k in (ap (λ (t : TakenPart). t .part) (sym (v .1)), fits k .0)
+  is-call k = let v = as-call seen k in (ap (λ (t : TakenPart). t .part) (sym (v .1)), call-fits goals l (v .0) .0)
 
   -- the kind and the mark of a call have one digit
   pub has-digits : codeOf (l .code) ≡ codes.Call → (l .second ≤ 3) × (l .third ≤ 1)
-  has-digits k = fits k .1
+  has-digits k = let f = call-fits goals l (as-call seen k .0) in (f .1, f .2)
 
   pub is-group : (op : kinds.Op) → codeOf (l .code) ≡ codes.Group op
       → (partIn goals p bytes ≡ Node (opOf op) (partsIn goals p (l .first) (drop 16 bytes)))

@@ -1,6 +1,6 @@
 -- Conflicts: one line's, and the first.
 use mathlib.Core.Path.{_≡_, refl, sym, ap, ap₂, _∙_}
-use mathlib.Core.Bool.{Bool, true, false, not, _&&_}
+use mathlib.Core.Bool.{Bool, true, false, not, _&&_, and-eq-true-iff}
 use mathlib.Core.List.{List, [], _∷_}
 use mathlib.Core.Option.{Option, none, some}
 use Prim.Native.Nat.{ℕ, _^_, _≤_, _<_}
@@ -99,10 +99,6 @@ module _ (bytes : List ℕ) (accepted : IsAccepted bytes) (n : ℕ) (s : Seen) (
       ap (λ (x : Bool). by x (stepWithin (linked book (s .caller)) Inductive (stepAt n s))
       (searched (linked book (s .caller)))) e
 
-  parts : (a b : Bool) → a && b ≡ true → (a ≡ true) × (b ≡ true)
-  parts true b e = (refl, e)
-  parts false b e = let z : _≡_ {A = ℕ} 0 1 = cc in absurd (omega arith)
-
   module _ (within : Bool) (told : within ≡ s .step && stepWithin (inMask m) Inductive (stepAt 0 s)) where
     pub not-within : not within ≡ true → Given ≡ verdictOf (conflictAt book steps n s)
     not-within e = ap verdictOf (go (s .step) refl (sym told ∙ not-true within e))
@@ -114,7 +110,7 @@ module _ (bytes : List ℕ) (accepted : IsAccepted bytes) (n : ℕ) (s : Seen) (
 
     module _ (left : not within ≡ false) where
       found : (s .step ≡ true) × (stepWithin (inMask m) Inductive (stepAt 0 s) ≡ true)
-      found = parts (s .step) (stepWithin (inMask m) Inductive (stepAt 0 s)) (sym told ∙ not-false within left)
+      found = and-eq-true-iff (s .step) (stepWithin (inMask m) Inductive (stepAt 0 s)) .0 (sym told ∙ not-false within left)
 
       as-found : conflictAt book steps n s ≡ by true true (searched (inMask m))
       as-found = let f = found in as-seen (f .0) ∙ ap (λ (y : Bool). by true y (searched (inMask m))) (f .1)

@@ -19,7 +19,7 @@ use Rattle.definition.specs.declared.paths.PathKind.{PathKind}
 use Rattle.definition.specs.declared.replies.Refusal.the-variants.{Unreachable}
 use Rattle.definition.specs.declared.usages.HeadUsages.{HeadUsages}
 use Rattle.soundness.specs.Sets.{Goals, _⊆_, everyHolds, holds, someHolds}
-use Rattle.soundness.proofs.Logic.{both, not-and-left, not-and-right, not-or, of-true, or-left, or-right, outside, twice}
+use Rattle.soundness.proofs.Logic.{both, not-and-left, not-and-right, not-or, or-left, or-right, outside, twice}
 use Rattle.soundness.proofs.Support.{step}
 use Rattle.soundness.proofs.Certain.{no-holds-mono, noHolds, yes-holds-mono, yesHolds}
 use Rattle.soundness.proofs.Calls.{AllCalls, Calls}
@@ -29,8 +29,7 @@ use Rattle.soundness.proofs.Assumed.{A, A-mono, Base, Within}
 use Rattle.soundness.proofs.Inv.{After, CalledBy, State, Change}
 use Rattle.soundness.proofs.Changes.{after-from, after-map, after-then, change-nothing, change-trans}
 use Rattle.soundness.proofs.Candidates.{Untracked, can-be-ignored, enter-change, finish-change, finish-untracked, ignore-change, merged, no-candidate, tracked-since}
-use Rattle.definition.proofs.Numbers.{same→≡}
-use Rattle.soundness.proofs.Answers.{both-no, both-yes, differ, neither-no, neither-yes}
+use Rattle.soundness.proofs.Answers.{both-no, both-yes, differ, neither-no, neither-yes, same-is}
 
 -- an answer may be given of a goal, on what reads assume
 abbrev pub Claims : World → List Base → ℕ → Reads → Answer → Type 0
@@ -192,7 +191,7 @@ module _ (W : World) (xs : List Base) where
       where
         go : (g1 : Graph) (a : Answer) (d : Reads) → Change W xs g g1 d → RightAt W xs p d a → (t : Bool) → sameAnswer a No ≡ t
             → After W xs g (ForAll combined (Then p ps)) (elim t [ true ↦ Done g1 No | false ↦ evalAll evaluate G ps (combine combined a) g1 ])
-        go g1 a d s t true e = (d, s, all-stop combined p ps d (t .whenNo (same→≡ a No (of-true (sameAnswer a No) e))))
+        go g1 a d s t true e = (d, s, all-stop combined p ps d (t .whenNo (same-is a No e)))
         go g1 a d s t false e =
             after-from W xs g g1 d (ForAll combined (Then p ps)) (ForAll (combine combined a) ps) s
             (λ e′ r′ q. all-more combined a p ps d e′ r′ (differ a No e) t q)
@@ -207,7 +206,7 @@ module _ (W : World) (xs : List Base) where
       where
         go : (g1 : Graph) (a : Answer) (d : Reads) → Change W xs g g1 d → RightAt W xs p d a → (t : Bool) → sameAnswer a Yes ≡ t
             → After W xs g (ForAny combined (Then p ps)) (elim t [ true ↦ Done g1 Yes | false ↦ evalAny evaluate G ps (combine combined a) g1 ])
-        go g1 a d s t true e = (d, s, any-stop combined p ps d (t .whenYes (same→≡ a Yes (of-true (sameAnswer a Yes) e))))
+        go g1 a d s t true e = (d, s, any-stop combined p ps d (t .whenYes (same-is a Yes e)))
         go g1 a d s t false e =
             after-from W xs g g1 d (ForAny combined (Then p ps)) (ForAny (combine combined a) ps) s
             (λ e′ r′ q. any-more combined a p ps d e′ r′ (differ a Yes e) t q)
@@ -279,7 +278,7 @@ module _ (W : World) (xs : List Base) where
             (mergeUnless (not false && t) others (finishedUsages G g1)) (finishSingleCandidate g1))
         next g1 b d t q true e =
             after-map W xs g₀ (Met d) (ForPick D combined (Then p ps))
-            (λ d′ a′ m. rw (m .0, m .1) (pick-stop D combined p ps d (q .whenYes (same→≡ b Yes (of-true (sameAnswer b Yes) e)))))
+            (λ d′ a′ m. rw (m .0, m .1) (pick-stop D combined p ps d (q .whenYes (same-is b Yes e))))
             (evalPick evaluate G ps true (combine combined b) others (finishSingleCandidate g1))
             (met (combine combined b) others g₀ (finishSingleCandidate g1) _ O d (candidate-change g₀ g g1 D d (s .inv) s t) a
             (λ i k. omega (arith, f i k)) (finish-untracked (g1 .stack)))

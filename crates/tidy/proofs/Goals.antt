@@ -1,10 +1,9 @@
 -- The goals of a book, written one after the other.
 use mathlib.Core.Bool.{false}
 use mathlib.Core.List.{List, [], _∷_, _++_, append-assoc, append-nil}
-use mathlib.Core.Option.{Option, none, some}
+use mathlib.Core.Option.{some}
 use mathlib.Core.Path.{_∙_, _≡_, ap, ap₂, refl, sym}
 use Prim.Native.Nat.{_+_, _-_, _<_, _≤_, suc, ℕ}
-use native.Mathlib.Decide.{decLt}
 use native.Mathlib.Nat.{zero-add}
 use native.Mathlib.Numerals.{add-one}
 use native.Mathlib.Omega.{arith}
@@ -17,10 +16,9 @@ use Rattle.definition.proofs.Lists.{part-from}
 use Rattle.book.specs.Lines.{lineIn, linesIn}
 use Rattle.book.specs.Parts.{partRead}
 use Rattle.book.specs.Read.{bookIn}
-use Rattle.book.proofs.Bodies.{goal-part}
+use Rattle.book.proofs.Bodies.{NextGoal, goal-part, goal-room, next-goal}
 use Rattle.book.proofs.Books.{accepted-range, length-fits, read-as}
-use Rattle.book.proofs.Lines.{lines-none}
-use Rattle.book.proofs.Views.{never, of-some}
+use Rattle.book.proofs.Views.{of-some}
 use Rattle.tidy.specs.declared.part.Sizes.{Sizes}
 use Rattle.tidy.specs.Tidy.{tidyGoals, tidyPart}
 use Rattle.tidy.specs.Write.{goalsLines, headerLine, lineWith, partLines, writeLine, writeLines}
@@ -33,14 +31,10 @@ use Rattle.tidy.proofs.Steps.{bytes-append}
 use Rattle.tidy.proofs.Turns.{line-length}
 
 -- ---- a goal: its line, and its part
-pub goal-room : (goals g : ℕ) (s : List ℕ) (t : TakenPart) → readGoal goals g (linesIn s) ≡ some t → 16 ≤ length s
-goal-room goals g s t e =
-    elim (decLt (length s) 16) [ yes h ↦ never (sym (ap (readGoal goals g) (lines-none s h)) ∙ e) | no h ↦ omega arith ]
-
 part-after : (goals g : ℕ) (s : List ℕ) (t : TakenPart) → readGoal goals g (linesIn s) ≡ some t
     → readPart goals 8 false (linesIn (take (length s - 16) (drop 16 s))) ≡ some t
 unfolding partRead
-part-after goals g s t e = rw part-from (goal-part goals g s t (goal-room goals g s t e) e)
+part-after goals g s t e = rw part-from (goal-part goals g s t e)
 
 module _ (g : ℕ) (body : List ℕ) (w : StartsGoal g body) where
   pub starts-room : 16 ≤ length body
@@ -120,31 +114,6 @@ goal-more ps p =
     ∙ ap writeLines (goals-append 0 (tidyGoals ps) (tidyPart p ∷ []))
     ∙ bytes-append (goalsLines 0 (tidyGoals ps)) (goalsLines (0 + length (tidyGoals ps)) (tidyPart p ∷ []))
     ∙ ap₂ (λ n ls. goalBytes ps ++ writeLines (lineWith 1 n ∷ ls)) (zero-add (length (tidyGoals ps)) ∙ length-tidy ps) (append-nil (partLines (tidyPart p)))
-
-record NextGoal (goals g n : ℕ) (ls : List Line) (t : TakenGoals) : Type 0 where
-  one : TakenPart
-  others : TakenGoals
-  one-is : readGoal goals g ls ≡ some one
-  others-are : readGoals goals (suc g) n (one .rest) ≡ some others
-  all-are : record { parts = one .part ∷ others .parts; rest = others .rest } ≡ t
-
-abbrev goalAnd : TakenPart → Option TakenGoals → Option TakenGoals
-goalAnd p x = elim x [ none ↦ none | some ps ↦ some (record { parts = p .part ∷ ps .parts; rest = ps .rest }) ]
-
-abbrev goalsBy : ℕ → ℕ → ℕ → Option TakenPart → Option TakenGoals
-goalsBy goals g n x = elim x [ none ↦ none | some p ↦ goalAnd p (readGoals goals (suc g) n (p .rest)) ]
-
-next-goal : (goals g n : ℕ) (ls : List Line) (t : TakenGoals) → readGoals goals g (suc n) ls ≡ some t → NextGoal goals g n ls t
-next-goal goals g n ls t e = go (readGoal goals g ls) refl e
-  where
-    with-others : (p : TakenPart) → readGoal goals g ls ≡ some p → (x : Option TakenGoals) → readGoals goals (suc g) n (p .rest) ≡ x
-        → goalAnd p x ≡ some t → NextGoal goals g n ls t
-    with-others p a none b q = never q
-    with-others p a (some ps) b q = record { one = p; others = ps; one-is = a; others-are = b; all-are = of-some q }
-
-    go : (x : Option TakenPart) → readGoal goals g ls ≡ x → goalsBy goals g n x ≡ some t → NextGoal goals g n ls t
-    go none a q = never q
-    go (some p) a q = with-others p a (readGoals goals (suc g) n (p .rest)) refl q
 
 pub record Writing (bytes : List ℕ) (b : Book) (out : List ℕ) (read wrote g : ℕ) : Type 0 where
   pub done : List Part

@@ -1,28 +1,25 @@
 -- A part's first line: a node with parts below it, or a line that is the whole part.
-use mathlib.Core.Bool.{Bool, _&&_, false, true}
+use mathlib.Core.Bool.{Bool, false, true}
 use mathlib.Core.List.{List, [], _∷_}
 use mathlib.Core.Option.{Option, some}
 use mathlib.Core.Path.{_∙_, _≡_, ap, refl, sym}
-use Prim.Native.Nat.{_-_, _<_, _≤_, suc, zero, ℕ}
-use native.Mathlib.Decide.{decLt}
-use native.Mathlib.Numerals.{sub-one}
+use Prim.Native.Nat.{_<_, _≤_, suc, zero, ℕ}
 use native.Mathlib.Omega.{arith}
-use lib.Dec.{T, eqb, eqb→eq, leb, leb→le, ltb}
-use lib.ListN.{drop, length}
+use lib.Dec.{eqb}
+use lib.ListN.{length}
 use Rattle.definition.specs.Part.{Call, Node, Op, Pick, UndecidedLine}
 use Rattle.definition.specs.Paths.{kindNumber, kindOf}
-use Rattle.definition.specs.Reader.{TakenPart, TakenParts, readFirst, readPart, readParts}
+use Rattle.definition.specs.Reader.{TakenPart, TakenParts, readParts}
 use Rattle.definition.specs.declared.format.Line.{Line}
-use Rattle.definition.proofs.Tests.{and-left, and-right}
-use Rattle.soundness.proofs.Logic.{clash, of-true}
+use Rattle.soundness.proofs.Logic.{clash}
 use Rattle.book.specs.declared.code.Code.{Code}
 use Rattle.book.specs.declared.code.Code.the-variants as codes
 use Rattle.book.specs.declared.code.Op.the-variants as groups
 use Rattle.book.specs.Codes.{codeOf, opOf}
 use Rattle.book.specs.Grammar.{callFits, undecidedFits}
-use Rattle.book.specs.Lines.{lineIn, linesIn}
-use Rattle.book.proofs.Lines.{lines-cons, lines-none}
-use Rattle.book.proofs.Views.{View, call, group, never, pick, undecided, view}
+use Rattle.book.proofs.Codes.{code-number, codeNumber}
+use Rattle.book.proofs.Views.{View, call, call-fits, group, never, pick, undecided, undecided-fits}
+use Rattle.book.proofs.Walk.{has-line}
 use Rattle.tidy.specs.Rules.{isList}
 use Rattle.tidy.specs.Tidy.{tidyPart}
 use Rattle.tidy.specs.Write.{flag, opCode, partLines}
@@ -40,15 +37,17 @@ nodeOp codes.Unknown = Pick
 abbrev pub opAt : ℕ → Op
 opAt code = nodeOp (codeOf code)
 
+op-number : (c : Code) → isNode c ≡ true → opCode (nodeOp c) ≡ codeNumber c
+op-number codes.Goal e = clash (cc)
+op-number codes.Call e = clash (cc)
+op-number (codes.Group groups.All) e = refl
+op-number (codes.Group groups.Any) e = refl
+op-number codes.Pick e = refl
+op-number codes.Undecided e = clash (cc)
+op-number codes.Unknown e = clash (cc)
+
 pub op-code : (n : ℕ) → isNode (codeOf n) ≡ true → opCode (opAt n) ≡ n
-op-code zero e = clash (cc)
-op-code (suc zero) e = clash (cc)
-op-code (suc (suc zero)) e = clash (cc)
-op-code (suc (suc (suc zero))) e = refl
-op-code (suc (suc (suc (suc zero)))) e = refl
-op-code (suc (suc (suc (suc (suc zero))))) e = refl
-op-code (suc (suc (suc (suc (suc (suc zero)))))) e = clash (cc)
-op-code (suc (suc (suc (suc (suc (suc (suc n))))))) e = clash (cc)
+op-code n e = op-number (codeOf n) e ∙ code-number n (λ u. clash (cc))
 
 is-group : (c : Code) → isGroup c ≡ isList (nodeOp c)
 is-group codes.Goal = refl
@@ -61,26 +60,6 @@ is-group codes.Unknown = refl
 
 pub group-list : (n : ℕ) → isGroup (codeOf n) ≡ isList (opAt n)
 group-list n = is-group (codeOf n)
-
-call-code : (n : ℕ) → codeOf n ≡ codes.Call → 2 ≡ n
-call-code zero e = clash (cc)
-call-code (suc zero) e = clash (cc)
-call-code (suc (suc zero)) e = refl
-call-code (suc (suc (suc zero))) e = clash (cc)
-call-code (suc (suc (suc (suc zero)))) e = clash (cc)
-call-code (suc (suc (suc (suc (suc zero))))) e = clash (cc)
-call-code (suc (suc (suc (suc (suc (suc zero)))))) e = clash (cc)
-call-code (suc (suc (suc (suc (suc (suc (suc n))))))) e = clash (cc)
-
-undecided-code : (n : ℕ) → codeOf n ≡ codes.Undecided → 6 ≡ n
-undecided-code zero e = clash (cc)
-undecided-code (suc zero) e = clash (cc)
-undecided-code (suc (suc zero)) e = clash (cc)
-undecided-code (suc (suc (suc zero))) e = clash (cc)
-undecided-code (suc (suc (suc (suc zero)))) e = clash (cc)
-undecided-code (suc (suc (suc (suc (suc zero))))) e = clash (cc)
-undecided-code (suc (suc (suc (suc (suc (suc zero)))))) e = refl
-undecided-code (suc (suc (suc (suc (suc (suc (suc n))))))) e = clash (cc)
 
 -- ---- the numbers of a line that is a part
 kind-number : (n : ℕ) → n ≤ 3 → kindNumber (kindOf n) ≡ n
@@ -97,75 +76,30 @@ flag-number (suc (suc n)) l = absurd (omega arith)
 
 call-line : (goals : ℕ) (l : Line) → codeOf (l .code) ≡ codes.Call → callFits goals l ≡ true
     → partLines (Call (l .first) (kindOf (l .second)) (eqb (l .third) 1)) ≡ l ∷ []
-call-line goals l k f = λ i.
+call-line goals l k f =
+    let h = call-fits goals l f in
+    λ i.
     record {
-      code = call-code (l .code) k i;
+      code = (sym (ap codeNumber k) ∙ code-number (l .code) (λ u. clash (cc))) i;
       first = l .first;
-      second = kind-number (l .second) (leb→le (l .second) 3 (second-fits (of-true _ f))) i;
-      third = flag-number (l .third) (leb→le (l .third) 1 (third-fits (of-true _ f))) i;
-      fourth = sym (eqb→eq (l .fourth) 0 (fourth-fits (of-true _ f))) i;
+      second = kind-number (l .second) (h .1) i;
+      third = flag-number (l .third) (h .2) i;
+      fourth = sym (h .3) i;
     } ∷ []
-  where
-    Fit : Type 0
-    Fit = T (ltb (l .first) goals && leb (l .second) 3 && leb (l .third) 1 && eqb (l .fourth) 0)
-
-    second-fits : Fit → T (leb (l .second) 3)
-    second-fits t = search (and-left, and-right)
-
-    third-fits : Fit → T (leb (l .third) 1)
-    third-fits t = search (and-left, and-right)
-
-    fourth-fits : Fit → T (eqb (l .fourth) 0)
-    fourth-fits t = search (and-left, and-right)
 
 undecided-line : (l : Line) → codeOf (l .code) ≡ codes.Undecided → undecidedFits l ≡ true → partLines UndecidedLine ≡ l ∷ []
-undecided-line l k f = λ i.
+undecided-line l k f =
+    let h = undecided-fits l f in
+    λ i.
     record {
-      code = undecided-code (l .code) k i;
-      first = sym (eqb→eq (l .first) 0 (first-fits (of-true _ f))) i;
-      second = sym (eqb→eq (l .second) 0 (second-fits (of-true _ f))) i;
-      third = sym (eqb→eq (l .third) 0 (third-fits (of-true _ f))) i;
-      fourth = sym (eqb→eq (l .fourth) 0 (fourth-fits (of-true _ f))) i;
+      code = (sym (ap codeNumber k) ∙ code-number (l .code) (λ u. clash (cc))) i;
+      first = sym (h .0) i;
+      second = sym (h .1) i;
+      third = sym (h .2) i;
+      fourth = sym (h .3) i;
     } ∷ []
-  where
-    Fit : Type 0
-    Fit = T (eqb (l .first) 0 && eqb (l .second) 0 && eqb (l .third) 0 && eqb (l .fourth) 0)
 
-    first-fits : Fit → T (eqb (l .first) 0)
-    first-fits t = search (and-left, and-right)
-
-    second-fits : Fit → T (eqb (l .second) 0)
-    second-fits t = search (and-left, and-right)
-
-    third-fits : Fit → T (eqb (l .third) 0)
-    third-fits t = search (and-left, and-right)
-
-    fourth-fits : Fit → T (eqb (l .fourth) 0)
-    fourth-fits t = search (and-left, and-right)
-
--- ---- a part that was read
-module _ (goals : ℕ) (p : Bool) (s : List ℕ) (t : TakenPart) where
-  pub some-line : (nest : ℕ) → readPart goals nest p (linesIn s) ≡ some t → 16 ≤ length s
-  some-line zero e = never e
-  some-line (suc n) e =
-      elim (decLt (length s) 16) [
-        | yes h ↦ never (sym (ap (readFirst goals p (readPart goals n)) (lines-none s h)) ∙ e)
-        | no h ↦ omega arith
-      ]
-
-  pub some-nest : (nest : ℕ) → readPart goals nest p (linesIn s) ≡ some t → 0 < nest
-  some-nest zero e = never e
-  some-nest (suc n) e = omega arith
-
-  pub viewed : (nest : ℕ) → readPart goals nest p (linesIn s) ≡ some t
-      → View goals p (readPart goals (nest - 1)) (lineIn s) (linesIn (drop 16 s)) t
-  viewed zero e = never e
-  viewed (suc n) e =
-      rw sub-one
-      (view goals p (readPart goals n) (lineIn s) (linesIn (drop 16 s)) t
-      (sym (ap (readFirst goals p (readPart goals n)) (lines-cons s (some-line (suc n) e))) ∙ e))
-
--- a node's parts
+-- ---- a node's parts
 pub record NodeRead (inner : Bool → List Line → Option TakenPart) (l : Line) (ls : List Line) (t : TakenPart) : Type 0 where
   pub inside : Bool
   pub parts : TakenParts
@@ -201,7 +135,8 @@ module _ {inner : Bool → List Line → Option TakenPart} {l : Line} {ls : List
 
 -- ---- a part of some book
 pub starts-line : (nest : ℕ) (s : List ℕ) → StartsWithin nest s → 16 ≤ length s
-starts-line nest s w = some-line (w .goals) (w .inPick) s (w .taken) nest (w .reads)
+starts-line nest s w = has-line (w .goals) (w .inPick) s (w .taken) nest (w .reads)
 
 pub starts-nest : (nest : ℕ) (s : List ℕ) → StartsWithin nest s → 0 < nest
-starts-nest nest s w = some-nest (w .goals) (w .inPick) s (w .taken) nest (w .reads)
+starts-nest zero s w = never (w .reads)
+starts-nest (suc n) s w = omega arith

@@ -18,6 +18,7 @@ use Rattle.buffer.proofs.Regions.{length-overwrite, length-region}
 use Rattle.book.specs.Codes.{codeOf}
 use Rattle.book.specs.Lines.{fieldIn, lineIn, linesIn}
 use Rattle.book.proofs.Views.{First, of-some, uncons}
+use Rattle.book.proofs.Walk.{has-line, viewed}
 use Rattle.tidy.specs.declared.part.Sizes.{Sizes}
 use Rattle.tidy.specs.declared.part.Joined.{Joined}
 use Rattle.tidy.specs.Rules.{append, isList}
@@ -30,7 +31,7 @@ use Rattle.tidy.proofs.Fields.{length-lines}
 use Rattle.tidy.proofs.Written.{op-small, part-lines, parts-lines}
 use Rattle.tidy.proofs.Steps.{alone-count, bytes-append, count-append, firstCode, joined-more, kept, lines-append, node-lines, only-lines, spliced, tells}
 use Rattle.tidy.proofs.Places.{Back, lent-length, back-drop, back-length, back-region, back-same, code-in, dropped-take, first-in, headed-take, line-room, others-in}
-use Rattle.tidy.proofs.Reading.{NodeRead, group-list, leaf-read, node-read, op-code, opAt, some-line, viewed}
+use Rattle.tidy.proofs.Reading.{NodeRead, group-list, leaf-read, node-read, op-code, opAt}
 
 -- ---- the bytes of parts
 abbrev pub partsBytes : Parts → List ℕ
@@ -449,11 +450,11 @@ pub first-turn : (nest : ℕ) (part : List ℕ) (l : Line) → l ≡ lineIn part
     → Turn nest part (l .code) out 16 16 0 (l .first)
 unfolding Turn
 first-turn nest part l e n out goals p t r =
-    rw e (starts (node-read (viewed goals p part t nest r) (rw (← e) n)) (some-line goals p part t nest r))
+    rw e (starts (node-read (viewed goals p part t nest r) (rw (← e) n)) (has-line goals p part t nest r))
 
 -- a line that starts no node
 pub only-line : (nest : ℕ) (part : List ℕ) (l : Line) → l ≡ lineIn part → isNode (codeOf (l .code)) ≡ false → (out after : List ℕ)
     → 16 ≤ length out → after ≡ writeLine l ++ drop 16 out → WrotePart nest part out after (record { read = 16; wrote = 16 })
 only-line nest part l e n out after room a goals p t r =
     let v = leaf-read (viewed goals p part t nest r) (rw (← e) n) in
-    one-line part out (v .0) (v .1) (some-line goals p part t nest r) room after (rw (← e) a)
+    one-line part out (v .0) (v .1) (has-line goals p part t nest r) room after (rw (← e) a)
