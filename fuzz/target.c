@@ -229,9 +229,10 @@ static void check_left(const struct query *q, const struct query *placed, uint32
     if (code < 65536 && !same(want, &placed->work)) fail_tidy(q, code, "writes another book");
 }
 
-/* Tidies in every placement, each time with other bytes in the output: it gives this code, and `want` where the book is tidied. What
-   the library left is kept. */
-static void tidy_one(const struct bytes *book, uint32_t expected, const struct bytes *want, uint8_t *left, unsigned seed) {
+/* Tidies in every placement, each time with other bytes in the output: it gives this code, and `want` where the book is
+   tidied. What the library left is kept. */
+static void tidy_one(const struct bytes *book, uint32_t expected, const struct bytes *want, uint8_t *left,
+                     unsigned seed) {
     static uint8_t out[ROOM], none;
     struct query q = {*book, {&none, 0}, {out, want->len}, 0, 0}, placed;
     for (int how = 0; how < PLACES; how++) {

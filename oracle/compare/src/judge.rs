@@ -119,8 +119,8 @@ pub fn too_few_passes(cases: u64, all: &Tally) -> Vec<String> {
         .collect()
 }
 
-/// Of each of `tidy::KINDS`, in every `ENOUGH` cases of all classes: half of the least that any of the seeds 1 to 8 gave,
-/// rounded down.
+/// Of each of `tidy::KINDS`, in every `ENOUGH` cases of all classes: half of the least that any of the seeds 1 to 8
+/// gave, rounded down.
 const TIDIED: [u64; tidy::KINDS.len()] =
     [3_500, 7_800, 95, 65, 35, 180, 3_100, 42_000, 43_000, 32_000, 26_000];
 
