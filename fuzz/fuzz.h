@@ -68,9 +68,9 @@ unsigned tidy_refusal(const struct bytes *book, size_t out_len);
 enum { CONFLICT = 3 };
 int expected_conflict(const uint8_t *book, size_t len, uint64_t conflict[CONFLICT]);
 
-/* ---- tidy.c: a book's tidy form, decided apart from the library */
+/* ---- tidy.c: a book's plain form, decided apart from the library */
 
-/* Of a good book: writes as many bytes as it has, and returns how many of them the tidy form takes. */
+/* Of a good book: writes as many bytes as it has, and returns how many of them the plain form takes. */
 size_t expected_tidy(const uint8_t *book, size_t len, uint8_t *out);
 
 /* ---- place.c: copies of a query's buffers where a step past an end is seen */

@@ -229,37 +229,34 @@ static void check_left(const struct query *q, const struct query *placed, uint32
     if (code < 65536 && !same(want, &placed->work)) fail_tidy(q, code, "writes another book");
 }
 
-/* Tidies in every placement, each time with other bytes in the output; the length used. */
-static size_t tidy_one(const struct bytes *book, size_t out_len, struct bytes *want, unsigned seed) {
+/* Tidies in every placement, each time with other bytes in the output: it gives this code, and `want` where the book is
+   tidied. What the library left is kept. */
+static void tidy_one(const struct bytes *book, uint32_t expected, const struct bytes *want, uint8_t *left,
+                     unsigned seed) {
     static uint8_t out[ROOM], none;
-    unsigned refusal = tidy_refusal(book, out_len);
-    size_t used = refusal == 0 ? expected_tidy(book->at, book->len, want->at) : 0;
-    struct query q = {*book, {&none, 0}, {out, out_len}, 0, 0}, placed;
-    want->len = refusal == 0 ? out_len : 0;
+    struct query q = {*book, {&none, 0}, {out, want->len}, 0, 0}, placed;
     for (int how = 0; how < PLACES; how++) {
-        make_noise(seed + (unsigned)how, out, out_len);
+        make_noise(seed + (unsigned)how, out, want->len);
         place(&q, how, &placed);
         uint32_t code = search_graph_tidy(placed.book.at, placed.book.len, placed.work.at, placed.work.len);
-        if (code / 65536 != refusal) fail_tidy(&q, code, "refuses otherwise");
-        if (code % 65536 != used) fail_tidy(&q, code, "tells another length");
+        if (code / 65536 != expected / 65536) fail_tidy(&q, code, "refuses otherwise");
+        if (code != expected) fail_tidy(&q, code, "tells another length");
         check_left(&q, &placed, code, want);
+        memcpy(left, placed.work.at, want->len);
         unplace(&placed, how);
     }
-    return used;
 }
 
-/* A book, and once more what it was tidied to, which is plain. */
+/* A book; and the library's own tidy book once more, which stays as it is. */
 static void check_tidy(struct input *in, const struct bytes *book) {
-    static uint8_t once[ROOM], twice[ROOM];
-    struct bytes tidy = {once, 0}, again = {twice, 0};
-    unsigned refusal = tidy_refusal(book, book->len), seed = take(in);
-    size_t right = refusal == 0 ? expected_tidy(book->at, book->len, once) : 0;
-    size_t len = output_length(in, book->len, right);
-    size_t used = tidy.len = tidy_one(book, len, &tidy, seed);
-    tidied[refusal != 0 ? UNREADABLE : len != book->len ? OUTPUT_LENGTH : used < len ? CHANGED : PLAIN]++;
-    if (used == 0) return;
-    struct query q = {tidy, again, tidy, 0, 0};
-    if (tidy_one(&tidy, used, &again, seed) != used || !same(&tidy, &again)) fail_tidy(&q, 0, "changes a tidy book");
+    static uint8_t expected[ROOM], left[ROOM];
+    unsigned seed = take(in), unreadable = tidy_refusal(book, book->len);
+    size_t used = unreadable ? 0 : expected_tidy(book->at, book->len, expected);
+    struct bytes want = {expected, output_length(in, book->len, used)}, own = {left, used};
+    unsigned refusal = tidy_refusal(book, want.len);
+    tidy_one(book, refusal == 0 ? (uint32_t)used : 65536 * refusal, &want, left, seed);
+    tidied[unreadable ? UNREADABLE : refusal != 0 ? OUTPUT_LENGTH : used < want.len ? CHANGED : PLAIN]++;
+    if (refusal == 0) tidy_one(&own, (uint32_t)used, &own, left, seed);
 }
 
 /* One query; the cache, of the right length, is carried on where this one has it. 0 where it takes too long. */

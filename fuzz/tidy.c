@@ -1,4 +1,4 @@
-/* The tidy form of a book, decided from what include/search_graph.h and document 02 say, apart from the library. */
+/* The plain form of a book, decided from what include/search_graph.h and document 02 say, apart from the library. */
 #include "fuzz.h"
 
 #include <string.h>

@@ -15,9 +15,9 @@
 extern "C" {
 #endif
 
-/* The most bytes of the machine's stack that a call needs, for any book, cache and workspace:
-   below the caller's stack pointer, with the arguments. 4 KB of it are for the C library's
-   memset and memcpy. */
+/* The most bytes of the machine's stack that a call needs, for any book, cache, workspace and
+   output: below the caller's stack pointer, with the arguments. 4 KB of it are for the C
+   library's memset and memcpy. */
 #define SEARCH_GRAPH_STACK_LEN ((size_t)293 * 1024)
 
 /* The length in bytes of the workspace for a number of goals, 1 to 64; 0 where it is out of
@@ -96,12 +96,13 @@ uint32_t search_graph_query(const uint8_t *book, size_t book_len,
    All three are 0 where the guarantee is given, and where the book is refused. */
 uint32_t search_graph_guarantee(const uint8_t *book, size_t book_len, uint64_t *out, size_t n);
 
-/* Writes the book's plain form to out. Three rules make it, used at every level until none fits:
-   an all directly inside an all is spliced in, so that its parts take its place, and an empty one
-   disappears; likewise an any inside an any; an all or any with exactly one part becomes that
-   part. A pick stays, with its candidates and their order, even if there is only one: each of them
-   is put in its plain form by itself, nothing is spliced into a pick, and a pick into nothing. The
-   header, goal lines, calls and undecided lines stay, in their order. A plain book is copied.
+/* Writes the book's plain form to out; book is only read. Three rules make that form, used at every
+   level until none fits: an all directly inside an all is spliced in, so that its parts take its
+   place, and an empty one disappears; likewise an any inside an any; an all or any with exactly one
+   part becomes that part. A pick stays, with its candidates and their order, even if there is only
+   one: each of them is put in its plain form by itself, nothing is spliced into a pick, and a pick
+   into nothing. The header, goal lines, calls and undecided lines stay, in their order. A plain
+   book is copied.
 
    Every query with the plain book gets the answer or refusal that it gets with the book, and
    leaves the same cache and workspace, so that a cache may be kept when its book is tidied. Only
@@ -110,7 +111,7 @@ uint32_t search_graph_guarantee(const uint8_t *book, size_t book_len, uint64_t *
    Returns length used + 65536 * refusal: 0 or the first of the refusals 1 to 4 above, and then
      14  out is not as long as the book: it must be, though the plain book may be shorter
    Where refusal is 0, the length used is that of the plain book, in bytes; out holds it, and zeros
-   from there to its end. Any refusal leaves out as it was, and has length 0. book is only read. */
+   from there to its end. Any refusal leaves out as it was, and has length 0. */
 uint32_t search_graph_tidy(const uint8_t *book, size_t book_len, uint8_t *out, size_t out_len);
 
 #ifdef __cplusplus

@@ -29,6 +29,20 @@ def with_cited(source, names):
     return sorted(found)
 
 
+def copy_tidy(root, folder):
+    """Copies the definition of tidying (document 02, item 1) to folder/crates/tidy."""
+    source, target = root + "/crates/tidy", folder + "/crates/tidy"
+    os.makedirs(target + "/src")
+    with open(source + "/src/lib.rt") as f, open(target + "/src/lib.rt", "w") as out:
+        response = re.search(r"^pub enum Response \{\n(?:.*\n)*?\}\n", f.read(), re.M).group(0)
+        out.write("use definition::replies::Refusal;\n" + response)
+    os.makedirs(target + "/specs")
+    names = ["Reply", "Rules", "Tidy", "Write"]
+    for name in names:
+        shutil.copy(f"{source}/specs/{name}.antt", target + "/specs")
+    modules(target + "/specs", names)
+
+
 def copy_definition(root, folder, proofs=()):
     """Copies the definition to folder/crates/definition, with the named files of its proofs/ and what they cite."""
     source, target = root + "/crates/definition", folder + "/crates/definition"

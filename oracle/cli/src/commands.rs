@@ -5,7 +5,7 @@ use std::io::{Read, Write};
 use std::time::{Duration, Instant};
 
 use oracle_core::book::Book;
-use oracle_core::case::{Case, Expected, Query, read_cases, to_hex};
+use oracle_core::case::{Case, Expected, Query, from_hex, read_cases, to_hex};
 use oracle_core::demand3::{self, Counts, Extent, Seen};
 use oracle_core::generate::{CLASSES, class_named};
 use oracle_core::groups::wrong::{self, RIGHT};
@@ -85,7 +85,7 @@ pub fn generate(mut given: Arguments) -> Done {
     Ok(true)
 }
 
-/// Prints a book's tidy form.
+/// Prints a book's plain form.
 pub fn tidy(mut given: Arguments) -> Done {
     let name = given.need("BOOKFILE")?;
     given.end()?;
@@ -97,6 +97,22 @@ pub fn tidy(mut given: Arguments) -> Done {
     }
     let text = String::from_utf8_lossy(&out[..told.length]);
     say(text.trim_end_matches('\n'))?;
+    Ok(true)
+}
+
+/// Prints what calls that tidy a book come to: the code, and the output afterwards.
+pub fn tidied(mut given: Arguments) -> Done {
+    let reading = match given.option_word("--reading")? {
+        Some(name) => tidy::wrong::named(&name).ok_or(format!("no reading {name:?} of item 1"))?,
+        None => tidy::wrong::RIGHT,
+    };
+    given.end()?;
+    for line in read_input()?.lines() {
+        let (book, out) = line.split_once(' ').ok_or("expected a book and an output")?;
+        let (book, mut out) = (from_hex(book)?, from_hex(out)?);
+        let told = reading.call(&book, &mut out);
+        say(&format!("{} {}", told.code(), to_hex(&out)))?;
+    }
     Ok(true)
 }
 

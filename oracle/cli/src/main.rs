@@ -40,7 +40,10 @@ oracle: document 01's queries, answered by the original search graph
       greatest or either. Where the condition is broken, prints the group, its first inductive
       and its first coinductive line (the header is line 0); exit status 1.
   oracle tidy BOOKFILE
-      Prints the book in its tidy form (item 1 of document 02).
+      Prints the book in its plain form (item 1 of document 02).
+  oracle tidied [--reading NAME] < calls
+      Reads lines of a book and an output, both in hexadecimal, and prints for each what the call
+      that tidies returns, and the output afterwards. With --reading, by a wrong reading of item 1.
   oracle extensions < TABLE
       Compares a table of 1,024 numbers, as crates/pop/src/table.rt has it between `[` and
       `]`, with every set of paths extended by every set; exit status 1 if something differs.
@@ -89,6 +92,7 @@ fn run() -> Result<bool, String> {
         Some("demand3") => commands::demand3(given),
         Some("groups") => commands::groups(given),
         Some("tidy") => commands::tidy(given),
+        Some("tidied") => commands::tidied(given),
         Some("extensions") => commands::extensions(given),
         Some("recorded") => commands::recorded(given),
         Some("readings") => commands::readings(given),

@@ -83,7 +83,8 @@ pub fn never(all: &Tally, lengths: u64) -> Vec<String> {
     found
 }
 
-/// Guarantees given, broken, and books refused, in every `ENOUGH` cases of all classes: half of what they give.
+/// Guarantees given, broken, and books refused, in every `ENOUGH` cases of all classes: at most half of the least that
+/// any of the seeds 1 to 8 gave.
 const GUARANTEES: [u64; 3] = [10_000, 2_000, 400];
 
 /// Where all classes together gave too few.
@@ -107,7 +108,8 @@ pub fn too_few_entries(all: &Tally) -> Vec<String> {
     vec![format!("never more than {} entries live at once, fewer than {ENTRIES}", all.entries)]
 }
 
-/// Of each of `KINDS`, in every `ENOUGH` cases of all classes: half of what they give.
+/// Of each of `KINDS`, in every `ENOUGH` cases of all classes: at most half of the least that any of the seeds 1 to 8
+/// gave.
 const PASSES: [u64; KINDS.len()] = [2_500, 180, 95, 23, 45];
 
 /// Where all classes together gave too few.
@@ -117,7 +119,8 @@ pub fn too_few_passes(cases: u64, all: &Tally) -> Vec<String> {
         .collect()
 }
 
-/// Of each of `tidy::KINDS`, in every `ENOUGH` cases of all classes: half of what they give.
+/// Of each of `tidy::KINDS`, in every `ENOUGH` cases of all classes: half of the least that any of the seeds 1 to 8
+/// gave, rounded down.
 const TIDIED: [u64; tidy::KINDS.len()] =
     [3_500, 7_800, 95, 65, 35, 180, 3_100, 42_000, 43_000, 32_000, 26_000];
 
@@ -139,8 +142,9 @@ fn too_few<'a>(
     each.filter(|(_, seen, least)| seen < least)
 }
 
-/// Drafts that tidying changes, in every `ENOUGH` cases of their class: half of what it gives.
-const CHANGED_DRAFTS: u64 = 340;
+/// Drafts that tidying changes, in every `ENOUGH` cases of their class: half of the least that any of the seeds 1 to 40
+/// gave, rounded down.
+const CHANGED_DRAFTS: u64 = 330;
 
 /// Where a class is below its floors after so many cases.
 pub fn below_floors(class: &str, cases: u64, tally: &Tally) -> Vec<String> {

@@ -1,5 +1,6 @@
-//! The proved library and the original, side by side in one process, on generated cases: answers, refusals, every byte of
-//! cache and workspace, and guard bytes around what is lent; whether the guarantee of mixed books applies; and tidy books.
+//! The proved library and the original, side by side in one process, on generated cases: answers, refusals, every byte
+//! of cache and workspace, and guard bytes around what is lent; whether the guarantee of mixed books applies; and tidy
+//! books.
 
 mod guarantee;
 mod guarded;

@@ -18,27 +18,34 @@ pub enum Rule {
 pub const RULES: [Rule; 3] = [Rule::AllInAll, Rule::AnyInAny, Rule::OnlyPart];
 
 impl Rule {
-    /// Applies the rule once, to the part itself and not inside of it; false where it does not fit.
-    pub fn apply(self, part: &mut Part) -> bool {
-        match (self, &mut *part) {
-            (Rule::AllInAll, Part::All(parts)) => splice(parts, |p| matches!(p, Part::All(_))),
-            (Rule::AnyInAny, Part::Any(parts)) => splice(parts, |p| matches!(p, Part::Any(_))),
-            (Rule::OnlyPart, Part::All(parts) | Part::Any(parts)) if parts.len() == 1 => {
-                *part = parts.remove(0);
-                true
-            }
-            _ => false,
+    /// Where the rule fits the part itself, and not inside of it: by the numbers of its parts.
+    pub fn places(self, part: &Part) -> Vec<usize> {
+        let parts = part.children();
+        let fits = |inner: &Part| match self {
+            Rule::AllInAll => matches!((part, inner), (Part::All(_), Part::All(_))),
+            Rule::AnyInAny => matches!((part, inner), (Part::Any(_), Part::Any(_))),
+            Rule::OnlyPart => matches!(part, Part::All(_) | Part::Any(_)) && parts.len() == 1,
+        };
+        (0..parts.len()).filter(|at| fits(&parts[*at])).collect()
+    }
+
+    /// Applies the rule once, at a place where it fits.
+    pub fn apply_at(self, part: &mut Part, at: usize) {
+        match (self, part.children_mut()) {
+            (Rule::AllInAll | Rule::AnyInAny, Some(parts)) => splice_at(parts, at),
+            (Rule::OnlyPart, Some(parts)) => *part = parts.remove(at),
+            (_, None) => unreachable!("it fits nowhere"),
         }
+    }
+
+    /// Applies the rule once, at the first place where it fits; false where there is none.
+    pub fn apply(self, part: &mut Part) -> bool {
+        let place = self.places(part).into_iter().next();
+        place.inspect(|at| self.apply_at(part, *at)).is_some()
     }
 }
 
-/// The first of such parts gives way to its own parts.
-fn splice(parts: &mut Vec<Part>, such: impl Fn(&Part) -> bool) -> bool {
-    let Some(at) = parts.iter().position(such) else { return false };
-    splice_at(parts, at);
-    true
-}
-
+/// The part gives way to its own parts.
 fn splice_at(parts: &mut Vec<Part>, at: usize) {
     let inner = parts[at].children().to_vec();
     parts.splice(at..=at, inner);

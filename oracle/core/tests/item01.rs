@@ -200,8 +200,9 @@ fn drafts(count: u64) -> Vec<Case> {
 fn ways(part: &Part) -> Vec<Part> {
     let mut found = Vec::new();
     for rule in RULES {
-        let mut here = part.clone();
-        if rule.apply(&mut here) {
+        for at in rule.places(part) {
+            let mut here = part.clone();
+            rule.apply_at(&mut here, at);
             found.push(here);
         }
     }
@@ -213,6 +214,19 @@ fn ways(part: &Part) -> Vec<Part> {
         }
     }
     found
+}
+
+#[test]
+fn each_part_that_fits_is_a_way() {
+    let [a, b, c, _] = leaves();
+    let (first, second) = (all(&[a.clone()]), all(&[b.clone(), c.clone()]));
+    let found = ways(&all(&[first.clone(), second.clone()]));
+    let tidied = [
+        all(&[a.clone(), second.clone()]),
+        all(&[first, b, c]),
+        all(&[a, second]), // the first part becomes its only part
+    ];
+    assert_eq!(found, tidied);
 }
 
 /// Whichever rule is applied next, and wherever, the end is the same.
