@@ -20,7 +20,7 @@ use Rattle.book.specs.Grammar.{afterPart, afterBytes}
 use Rattle.book.specs.Parts.{partRead, partIn, Reads}
 use Rattle.book.specs.Read.{Started, noLine, wholeBody, StartedBy}
 use Rattle.book.proofs.Lines.{lines-cons, lines-none}
-use Rattle.book.proofs.Sizes.{after-some}
+use Rattle.book.proofs.Sizes.{after-some, goal-short, ifGoal, goal-line}
 use Rattle.book.proofs.Views.{never, of-some}
 use Rattle.book.proofs.Walk.{part-is, reads}
 
@@ -90,19 +90,16 @@ no-goal : (x : Option TakenPart) → none ≡ afterPart x → x ≡ none
 no-goal none e = refl
 no-goal (some t) e = never e
 
-abbrev ifGoal : ℕ → List ℕ → Bool → Option TakenPart
-ifGoal goals s b = elim b [ true ↦ readPart goals 8 false (linesIn (drop 16 s)) | false ↦ none ]
-
 -- its part is read after its line
 module _ (goals g : ℕ) (s : List ℕ) (t : TakenPart) (e : readGoal goals g (linesIn s) ≡ some t) where
   pub goal-room : 16 ≤ length s
-  goal-room = elim (decLt (length s) 16) [ yes h ↦ never (sym (ap (readGoal goals g) (lines-none s h)) ∙ e) | no h ↦ omega arith ]
+  goal-room = elim (decLt (length s) 16) [ yes h ↦ never (goal-short goals g s h ∙ ap afterPart e) | no h ↦ omega arith ]
 
   pub goal-part : partRead goals false (drop 16 s) ≡ some t
   unfolding partRead
-  goal-part = go (isGoalLine g (lineIn s)) (sym (ap (readGoal goals g) (lines-cons s goal-room)) ∙ e)
+  goal-part = go (isGoalLine g (lineIn s)) (sym (goal-line goals g s goal-room) ∙ e)
     where
-      go : (b : Bool) → ifGoal goals s b ≡ some t → readPart goals 8 false (linesIn (drop 16 s)) ≡ some t
+      go : (b : Bool) → ifGoal goals g s goal-room b ≡ some t → readPart goals 8 false (linesIn (drop 16 s)) ≡ some t
       go true q = q
       go false q = never q
 

@@ -214,10 +214,10 @@ module _ (goals g : ℕ) (s : List ℕ) where
   goal-short h = sym (ap (λ (ls : List Line). afterPart (readGoal goals g ls)) (lines-none s h))
 
   module _ (room : 16 ≤ length s) where
-    abbrev ifGoal : Bool → Option TakenPart
+    abbrev pub ifGoal : Bool → Option TakenPart
     ifGoal b = elim b [ true ↦ readPart goals 8 false (linesIn (drop 16 s)) | false ↦ none ]
 
-    goal-line : readGoal goals g (linesIn s) ≡ ifGoal (isGoalLine g (lineIn s))
+    pub goal-line : readGoal goals g (linesIn s) ≡ ifGoal (isGoalLine g (lineIn s))
     goal-line = ap (readGoal goals g) (lines-cons s room)
 
     pub goal-wrong : (b : Bool) → b ≡ isGoalLine g (lineIn s) → not b ≡ true → none ≡ afterPart (readGoal goals g (linesIn s))
