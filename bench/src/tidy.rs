@@ -56,7 +56,8 @@ fn drafts() -> [(&'static str, Book); 4] {
 /// Microseconds and thousands of instructions a call; an error where the two tidy otherwise.
 pub fn table(rounds: usize) -> Result<(), String> {
     println!(
-        "Tidying a book of 1,000 lines. Reading alone: an output that is a byte short, so that the book is read and 14 given.\n"
+        "Tidying a book of 1,000 lines. Reading alone: an output that is a byte short, so that the book is read \
+         and 14 given.\n"
     );
     println!(
         "| book | lines when tidy | microseconds: library | reading alone | oracle | oracle / library \

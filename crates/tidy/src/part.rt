@@ -102,7 +102,8 @@ fn head(out: &mut [u8], n: usize, code: u16, count: u16) -> usize
 
 // Writes the plain form of the part that the bytes start with.
 pub fn write(part: &[u8], out: &mut [u8], nest: u8) -> Sizes
-    requires { ⌜ StartsWithin nest (now part) × ((length (now part) ≤ length (now out)) × (length (now part) < 16000)) ⌝ }
+    requires { ⌜ StartsWithin nest (now part)
+        × ((length (now part) ≤ length (now out)) × (length (now part) < 16000)) ⌝ }
     ensures { λ r. ⌜ WrotePart nest (now (part .entry)) (now (out .entry)) (now (out .exit)) r ⌝ }
 {
     let l = book::line::first(part);
