@@ -359,91 +359,106 @@ one-line {ls} {rest} {l} part out e r h k after a =
     }
 
 -- ---- a turn, of whatever book it is a part
+pub record Turned (part out : List ℕ) (read wrote : ℕ) : Type 0 where
+  pub within : read ≤ length part
+  pub less : wrote ≤ read
+  pub line : 16 ≤ wrote
+  pub fits : wrote ≤ length out
+
+-- behind what was written
+abbrev pub behind : List ℕ → ℕ → List ℕ
+behind out wrote = take (length out - wrote) (drop wrote out)
+
+-- one more part stands there
+pub record PartWritten (part out : List ℕ) (read wrote : ℕ) (sub : List ℕ) (s : Sizes) : Type 0 where
+  pub within : s .read ≤ length part - read
+  pub line : 16 ≤ s .wrote
+  pub room : s .wrote ≤ length (behind (Back out wrote sub) wrote)
+  pub fits : wrote ≤ length (Back out wrote sub)
+
+-- and is joined with those before it
+pub record TurnTaken (nest : ℕ) (part : List ℕ) (code : ℕ) (before after : List ℕ) (read wrote n left : ℕ) : Type 0 where
+  pub turn : Turn nest part code after read wrote n left
+  pub same-length : length after ≡ length before
+  pub few-bytes : wrote < 16000
+  pub few-parts : n < 1000
+
 module _ (nest : ℕ) (part : List ℕ) (code : ℕ) (out : List ℕ) (read wrote n left : ℕ) (w : StartsWithin nest part)
-    (turn : Turn nest part code out read wrote n left) where
+    (room : length part ≤ length out) (turn : Turn nest part code out read wrote n left) where
   here : Going (w .goals) nest part code (w .taken) out read wrote n left
   unfolding Turn
   here = turn (w .goals) (w .inPick) (w .taken) (w .reads)
 
-  pub read-within : read ≤ length part
-  read-within = here .within
+  fits : wrote ≤ length out
+  fits = omega (arith, here .not-more, here .within)
 
-  pub less-written : wrote ≤ read
-  less-written = here .not-more
-
-  pub some-written : 16 ≤ wrote
-  some-written = line-before here
+  pub turned : Turned part out read wrote
+  turned = record { within = here .within; less = here .not-more; line = line-before here; fits = fits }
 
   module _ (pos : 0 < left) where
-    pub part-starts : StartsWithin (nest - 1) (take (length part - read) (drop read part))
+    pub part-starts : StartsWithin (nest - 1) (behind part read)
     part-starts = next-starts here pos
 
-    module _ (room : length part ≤ length out) (few : length part < 16000) (sub : List ℕ) (s : Sizes)
-        (wr : WrotePart (nest - 1) (take (length part - read) (drop read part)) (take (length out - wrote) (drop wrote out)) sub s) where
-      fits : wrote ≤ length out
-      fits = omega (arith, less-written, read-within)
+    module _ (few : length part < 16000) (sub : List ℕ) (s : Sizes) (wr : WrotePart (nest - 1) (behind part read) (behind out wrote) sub s) where
+      abbrev out₁′ : List ℕ
+      out₁′ = Back out wrote sub
 
-      pub part-line : 16 ≤ s .wrote
-      part-line = line-written here pos room few sub s wr
+      sub-long : length sub ≡ length out - wrote
+      sub-long = sub-length here pos room few sub s wr
 
-      pub part-room : s .wrote ≤ length sub
-      part-room = wrote-room here pos room few sub s wr
+      same-room : length out₁′ ≡ length out
+      same-room = back-length out wrote fits sub sub-long
 
-      pub part-within : s .read ≤ length part - read
-      part-within = read-room here pos room few sub s wr
+      behind-length : length (behind out₁′ wrote) ≡ length sub
+      behind-length = ap length (part-from wrote out₁′ ∙ back-drop out wrote fits sub)
 
-      pub same-room : length (Back out wrote sub) ≡ length out
-      same-room = back-length out wrote fits sub (sub-length here pos room few sub s wr)
-
-      abbrev behind : List ℕ
-      behind = take (length (Back out wrote sub) - wrote) (drop wrote (Back out wrote sub))
-
-      pub behind-length : length behind ≡ length sub
-      behind-length = ap length (part-from wrote (Back out wrote sub) ∙ back-drop out wrote fits sub)
+      pub part-written : PartWritten part out read wrote sub s
+      part-written =
+          record {
+            within = read-room here pos room few sub s wr;
+            line = line-written here pos room few sub s wr;
+            room = omega (arith, behind-length, wrote-room here pos room few sub s wr);
+            fits = omega (arith, same-room, fits);
+          }
 
       module _ (isn : isNode (codeOf code) ≡ true) (sub₂ : List ℕ) (j : Joined)
-          (js : (j ≡ joinedIf (isSpliced code behind) (s .wrote) behind) × (sub₂ ≡ droppedIf (isSpliced code behind) (s .wrote) behind)) where
-        fits₂ : wrote ≤ length (Back out wrote sub)
-        fits₂ = omega (arith, same-room, fits)
-
-        pub next-turn : Turn nest part code (Back (Back out wrote sub) wrote sub₂) (read + s .read) (wrote + j .bytes) (n + j .count) (left - 1)
-        unfolding Turn
-        next-turn goals p t e = goes-on (turn goals p t e) pos room few sub s wr isn sub₂ j js
-
-        next-here : Going (w .goals) nest part code (w .taken) (Back (Back out wrote sub) wrote sub₂) (read + s .read) (wrote + j .bytes) (n + j .count) (left - 1)
+          (js : (j ≡ joinedIf (isSpliced code (behind out₁′ wrote)) (s .wrote) (behind out₁′ wrote))
+          × (sub₂ ≡ droppedIf (isSpliced code (behind out₁′ wrote)) (s .wrote) (behind out₁′ wrote))) where
+        next-here : Going (w .goals) nest part code (w .taken) (Back out₁′ wrote sub₂) (read + s .read) (wrote + j .bytes) (n + j .count) (left - 1)
         next-here = goes-on here pos room few sub s wr isn sub₂ j js
 
-        pub next-bytes : wrote + j .bytes < 16000
+        next-bytes : wrote + j .bytes < 16000
         next-bytes = omega (arith, next-here .not-more, next-here .within, few)
 
-        pub next-count : n + j .count < 1000
-        next-count = omega (arith, few-parts next-here, next-bytes)
-
         joined-length : length sub₂ ≡ length sub
-        joined-length = ap length (js .1) ∙ go (isSpliced code behind) ∙ behind-length
+        joined-length = ap length (js .1) ∙ go (isSpliced code (behind out₁′ wrote)) ∙ behind-length
           where
-            go : (b : Bool) → length (droppedIf b (s .wrote) behind) ≡ length behind
-            go true = dropped-length (s .wrote) behind part-line (omega (arith, behind-length, part-room))
+            go : (b : Bool) → length (droppedIf b (s .wrote) (behind out₁′ wrote)) ≡ length (behind out₁′ wrote)
+            go true = dropped-length (s .wrote) (behind out₁′ wrote) (part-written .line) (part-written .room)
             go false = refl
 
-        pub next-room : length (Back (Back out wrote sub) wrote sub₂) ≡ length out
-        next-room =
-            back-length (Back out wrote sub) wrote fits₂ sub₂
-            (omega (arith, joined-length, same-room, sub-length here pos room few sub s wr))
-            ∙ same-room
+        pub turn-taken : TurnTaken nest part code out (Back out₁′ wrote sub₂) (read + s .read) (wrote + j .bytes) (n + j .count) (left - 1)
+        unfolding Turn
+        turn-taken =
+            record {
+              turn = λ goals p t e. goes-on (turn goals p t e) pos room few sub s wr isn sub₂ j js;
+              same-length = back-length out₁′ wrote (part-written .fits) sub₂ (omega (arith, joined-length, same-room, sub-long)) ∙ same-room;
+              few-bytes = next-bytes;
+              few-parts = omega (arith, few-parts next-here, next-bytes);
+            }
 
-  module _ (z : left ≤ 0) (isn : isNode (codeOf code) ≡ true) (room : wrote ≤ length out) where
+  module _ (z : left ≤ 0) (isn : isNode (codeOf code) ≡ true) where
     pub last-turn : (first after : List ℕ) → length out ≡ length first → (r : ℕ) → r ≡ headedLength (isOnly code n) wrote
         → after ≡ headed (isOnly code n) code n wrote out → WrotePart nest part first after (record { read = read; wrote = r })
     unfolding Turn
-    last-turn first after keeps r e f goals p t q = ends (turn goals p t q) z isn room first after keeps r e f
+    last-turn first after keeps r e f goals p t q = ends (turn goals p t q) z isn fits first after keeps r e f
 
     pub last-length : (after : List ℕ) → after ≡ headed (isOnly code n) code n wrote out → length after ≡ length out
     last-length after f = ap length f ∙ go (isOnly code n)
       where
         go : (b : Bool) → length (headed b code n wrote out) ≡ length out
-        go true = dropped-length wrote out some-written room
-        go false = line-length (lineWith code n) out (omega (arith, some-written))
+        go true = dropped-length wrote out (line-before here) fits
+        go false = line-length (lineWith code n) out (omega (arith, line-before here, fits))
 
 -- the first turn
 pub first-turn : (nest : ℕ) (part : List ℕ) (l : Line) → l ≡ lineIn part → isNode (codeOf (l .code)) ≡ true → (out : List ℕ)
