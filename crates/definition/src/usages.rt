@@ -3,7 +3,7 @@ use crate::paths::PathKind;
 ghost use mathlib.Core.Path.{_≡_};
 ghost use mathlib.Core.Bool.{_&&_};
 ghost use lib.Dec.{eqb};
-ghost use Rattle.definition.specs.Usages.{addCounter, subtractCounter, counterCovers, atMostOne, noUsages, oneUsage, addUsages, addUsage, addUsagesFromNested, ignoreUsages, usagesCover, isEmpty, isSingle};
+ghost use Rattle.definition.specs.Usages.{addCounter, subtractCounter, counterCovers, noUsages, oneUsage, addUsages, ignoreUsages, usagesCover, isEmpty, isSingle};
 
 // How often a cycle head was used, by the kind of the cycle.
 pub struct HeadUsages {
@@ -68,10 +68,14 @@ fn no_usage(a: u64, b: u64, c: u64) -> bool
     a | b | c == 0
 }
 
-fn at_most_one(n: u64) -> u64
-    ensures { λ r. ⌜ r ≡ atMostOne n ⌝ }
+// One more; a counter at the limit keeps its value.
+pub fn count_one(a: u64) -> u64
+    ensures { λ r. ⌜ r ≡ addCounter a 1 ⌝ }
 {
-    if n == 0 { 0 } else { 1 }
+    if LIMIT <= a {
+        return a;
+    }
+    a + 1
 }
 
 impl HeadUsages {
@@ -100,13 +104,6 @@ impl HeadUsages {
         usages
     }
 
-    // One usage more, of a kind.
-    pub fn add_usage(self, kind: PathKind) -> HeadUsages
-        ensures { λ r. ⌜ r ≡ addUsage self kind ⌝ }
-    {
-        self.add_usages(HeadUsages::one(kind))
-    }
-
     pub fn add_usages(self, other: HeadUsages) -> HeadUsages
         ensures { λ r. ⌜ r ≡ addUsages self other ⌝ }
     {
@@ -116,20 +113,6 @@ impl HeadUsages {
             coinductive: add(self.coinductive, other.coinductive),
             forced: add(self.forced, other.forced),
         }
-    }
-
-    // The usages of a nested goal, at most 1 of each kind: whether it used the head counts,
-    // not how often. Counters are there so that the usages of a candidate can be ignored
-    // again, and a goal that is evaluated in it adds as much to the frame as to the candidate.
-    pub fn add_usages_from_nested(self, nested: HeadUsages) -> HeadUsages
-        ensures { λ r. ⌜ r ≡ addUsagesFromNested self nested ⌝ }
-    {
-        self.add_usages(HeadUsages {
-            inductive: at_most_one(nested.inductive),
-            unknown: at_most_one(nested.unknown),
-            coinductive: at_most_one(nested.coinductive),
-            forced: at_most_one(nested.forced),
-        })
     }
 
     pub fn ignore_usages(self, other: HeadUsages) -> HeadUsages

@@ -49,6 +49,14 @@ pub fn slot_at(cache: &[u8], goals: usize, top: usize, goal: usize, slot: usize)
     &cache[a..e]
 }
 
+// A goal's overflow slots, one behind the other.
+pub fn overflow_slots(cache: &[u8], goals: usize, top: usize, goal: usize) -> &[u8]
+{
+    let a = (goal * (top + 2) + 1) * (goals + slot::FIELDS);
+    let e = (goal + 1) * (top + 2) * (goals + slot::FIELDS);
+    &cache[a..e]
+}
+
 // The slot that a result belongs to.
 fn slot_for(overflow: bool, required: usize) -> usize
     requires { ⌜ required ≤ 63 ⌝ }

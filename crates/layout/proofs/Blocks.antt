@@ -91,22 +91,37 @@ module _ {A : Type 0} (dec : List ℕ → A) (absent : A) (size : ℕ) where
     same-mask : region 0 8 half ≡ region 0 8 bs
     same-mask = region-before bs (8 + i * size) ys fits 0 8 (omega arith)
 
+    flag-half : (j : ℕ) → flagAt half j ≡ flagAt bs j
+    unfolding flagAt
+    flag-half j = ap (λ (r : List ℕ). getD (flags 64 (numberOf r)) j false) same-mask
+
+    other : (j : ℕ) → (j ≡ i → ⊥) → region (8 + j * size) size half ≡ region (8 + j * size) size bs
+    other j ne = ap (λ (x : ℕ). region (8 + j * size) size (overwrite bs x ys)) (sym (add-zero (8 + i * size))) ∙ record-other (λ r. r) size 8 bs i 0 ys (omega arith) room j ne
+
+    flag-put : flags 64 m ≡ set (flags 64 (numberOf (region 0 8 half))) i true → flagAt full i ≡ true
+    flag-put e = flag-written half m small long i ∙ ap (λ (fs : List Bool). getD fs i false) e ∙ getD-set-same (flags 64 (numberOf (region 0 8 half))) i true false (rw length-flags (omega arith))
+
     pub block-put : flags 64 m ≡ set (flags 64 (numberOf (region 0 8 half))) i true → listUp (keptAt dec absent size full) goals ≡ set (listUp (keptAt dec absent size bs) goals) i (dec ys)
     unfolding flagAt
     block-put e =
         up-set (keptAt dec absent size bs) (keptAt dec absent size full) goals i lt
         (λ j l ne.
         new-mask half m small long j (ap (λ (fs : List Bool). getD fs j false) e ∙ getD-set-other (flags 64 (numberOf (region 0 8 half))) i j true false ne)
-        ∙ kept-same half bs j (ap (λ (r : List ℕ). getD (flags 64 (numberOf r)) j false) same-mask) (other j ne))
-        ∙ ap (set (listUp (keptAt dec absent size bs) goals) i) (kept-set full i set-now ∙ ap dec (record-stays half m small long (8 + i * size) size (omega arith) ∙ record-whole (λ r. r) size 8 bs i ys whole room))
-      where
-        other : (j : ℕ) → (j ≡ i → ⊥) → region (8 + j * size) size half ≡ region (8 + j * size) size bs
-        other j ne = ap (λ (x : ℕ). region (8 + j * size) size (overwrite bs x ys)) (sym (add-zero (8 + i * size))) ∙ record-other (λ r. r) size 8 bs i 0 ys (omega arith) room j ne
+        ∙ kept-same half bs j (flag-half j) (other j ne))
+        ∙ ap (set (listUp (keptAt dec absent size bs) goals) i) (kept-set full i (flag-put e) ∙ ap dec (record-stays half m small long (8 + i * size) size (omega arith) ∙ record-whole (λ r. r) size 8 bs i ys whole room))
 
-        set-now : flagAt full i ≡ true
-        set-now = flag-written half m small long i ∙ ap (λ (fs : List Bool). getD fs i false) e ∙ getD-set-same (flags 64 (numberOf (region 0 8 half))) i true false (rw length-flags (omega arith))
+    -- where its flag was set already
+    pub block-record : flagAt bs i ≡ true → listUp (keptAt dec absent size half) goals ≡ set (listUp (keptAt dec absent size bs) goals) i (dec ys)
+    block-record e =
+        up-set (keptAt dec absent size bs) (keptAt dec absent size half) goals i lt (λ j l ne. kept-same half bs j (flag-half j) (other j ne))
+        ∙ ap (set (listUp (keptAt dec absent size bs) goals) i) (kept-set half i (flag-half i ∙ e) ∙ ap dec (record-whole (λ r. r) size 8 bs i ys whole room))
 
     -- by what the calls say
+    pub flag-set-by : (b1 b2 : List ℕ) (n : ℕ) → b1 ≡ half → n ≡ numberOf (region 0 8 b1) → flags 64 m ≡ set (flags 64 n) i true → b2 ≡ overwrite b1 0 (bytesOf 8 m) → flagAt b2 i ≡ true
+    flag-set-by b1 b2 n e1 en ef e2 =
+        ap (λ (l : List ℕ). flagAt l i) (e2 ∙ ap (λ (l : List ℕ). overwrite l 0 (bytesOf 8 m)) e1)
+        ∙ flag-put (ef ∙ ap (λ (k : ℕ). set (flags 64 k) i true) (en ∙ ap (λ (l : List ℕ). numberOf (region 0 8 l)) e1))
+
     pub block-written : (b1 b2 : List ℕ) (n : ℕ) → b1 ≡ half → n ≡ numberOf (region 0 8 b1) → flags 64 m ≡ set (flags 64 n) i true → b2 ≡ overwrite b1 0 (bytesOf 8 m)
         → listUp (keptAt dec absent size b2) goals ≡ set (listUp (keptAt dec absent size bs) goals) i (dec ys)
     block-written b1 b2 n e1 en ef e2 =

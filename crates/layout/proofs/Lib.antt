@@ -7,5 +7,7 @@ pub mod Marks
 pub mod NestedExtended
 pub mod NestedPaths
 pub mod Present
+pub mod Copied
+pub mod Counted
 pub mod Counts
 pub mod Written

@@ -1,17 +1,25 @@
--- The loop of `extend_from_child`.
+-- The loops of `extend_from_child` and `extend_within`.
 use mathlib.Core.Path.{_≡_, refl, sym, ap, ap₂, _∙_}
-use mathlib.Core.List.{[], _∷_, _++_, append-nil}
-use Prim.Native.Nat.{ℕ, zero, suc, _+_, _≤_, _<_, min}
+use mathlib.Core.Bool.{_&&_}
+use mathlib.Core.List.{List, [], _∷_, _++_, append-nil}
+use Prim.Native.Nat.{ℕ, zero, suc, _+_, _-_, _^_, _≤_, _<_, min}
+use native.Mathlib.Nat.{zero-add, suc-add}
 use native.Mathlib.Numerals.{add-one}
 use native.Mathlib.Omega.{arith}
 use native.Mathlib.Decide.{decLt}
 use lib.Bits.{bitOr, or-zero-r}
-use lib.ListN.{length, getD, set, take, drop, drop-of-length-le, take-append-drop}
-use lib.Seq.{take-all}
+use lib.Dec.{eqb, leb}
+use lib.ListN.{length, getD, set, take, drop, drop-of-length-le, take-append-drop, length-set}
+use lib.Seq.{take-all, getD-take, getD-drop, length-take-le, set-append-left}
 use Rattle.definition.specs.declared.paths.PathKind.{PathKind}
 use Rattle.definition.specs.declared.paths.PathKind.the-variants.{Inductive, Unknown, Coinductive, ForcedAmbiguity}
-use Rattle.definition.specs.Paths.{extendWith}
+use Rattle.definition.specs.Paths.{weakerFlags, flagOf, extendWith}
 use Rattle.definition.specs.Nested.{NestedGoals, extendFromChild}
+use Rattle.definition.specs.CacheForm.{allAtMost}
+use Rattle.buffer.specs.Regions.{region, overwrite}
+use Rattle.buffer.proofs.Regions.{length-region, region-inside, byte-after, overwrite-one, overwrite-back}
+use Rattle.layout.specs.Copied.{Extended}
+use Rattle.layout.proofs.NestedPaths.{flags-first, flags-more, flags-all, leb-zero, empty-flags}
 
 -- what is extended from place i on
 abbrev pub extendedFrom : ℕ → NestedGoals → PathKind → NestedGoals → NestedGoals
@@ -59,3 +67,92 @@ extend-all ns k cs whole n i rest least h =
           let all : length ns ≤ i = omega arith in
           sym (ap₂ (λ (l m : NestedGoals). l ++ extendFromChild m k (drop i cs)) (take-all i ns all) (drop-of-length-le ns {i = i} all) ∙ append-nil ns) ∙ rest
     ]
+
+-- ---- the same inside a buffer
+set-right : (p q : List ℕ) (i v : ℕ) → set (p ++ q) (length p + i) v ≡ p ++ set q i v
+set-right [] q i v = ap (λ (n : ℕ). set q n v) (zero-add i)
+set-right (x ∷ p) q i v = ap (λ (n : ℕ). set (x ∷ (p ++ q)) n v) (suc-add (length p) i) ∙ ap (λ (l : List ℕ). x ∷ l) (set-right p q i v)
+
+set-inside : (bs : List ℕ) (a : ℕ) (ys : List ℕ) (i v : ℕ) → a ≤ length bs → i < length ys → set (overwrite bs a ys) (a + i) v ≡ overwrite bs a (set ys i v)
+set-inside bs a ys i v fits lt =
+    let front : length (take a bs) ≡ a = length-take-le a bs fits in
+    let rest : List ℕ = drop (length ys) (drop a bs) in
+    ap (λ (n : ℕ). set (take a bs ++ (ys ++ rest)) (n + i) v) (sym front)
+    ∙ set-right (take a bs) (ys ++ rest) i v
+    ∙ ap (λ (l : List ℕ). take a bs ++ l) (set-append-left ys rest i v lt ∙ ap (λ (n : ℕ). set ys i v ++ drop n (drop a bs)) (sym (length-set ys i v)))
+
+byte-at : (a n : ℕ) (bs : List ℕ) (i : ℕ) → i < n → getD (region a n bs) i 0 ≡ getD bs (a + i) 0
+byte-at a n bs i lt = getD-take n (drop a bs) i 0 lt ∙ getD-drop a bs i 0
+
+pub record Extending (s₀ : List ℕ) (to from n weaker flag : ℕ) (s : List ℕ) (all i : ℕ) : Type 0 where
+  pub low : i ≤ n
+  pub long : length s ≡ length s₀
+  pub others : s ≡ overwrite s₀ to (region to n s)
+  pub extended : (k : PathKind) → weaker ≡ weakerFlags k → flag ≡ flagOf k
+      → extendedFrom i (region to n s) k (region from n s₀) ≡ extendFromChild (region to n s₀) k (region from n s₀)
+  pub flags : (k : ℕ) → (leb all (2 ^ k - 1) && allAtMost (2 ^ k - 1) (drop i (region from n s₀))) ≡ allAtMost (2 ^ k - 1) (region from n s₀)
+
+module _ (s₀ : List ℕ) (to from n : ℕ) (below : to + n ≤ from) (room : from + n ≤ length s₀) (weaker flag : ℕ) where
+  pub extending-start : Extending s₀ to from n weaker flag s₀ 0 0
+  extending-start =
+      record {
+        low = omega arith;
+        long = refl;
+        others = sym (overwrite-back s₀ to n (omega arith));
+        extended = λ k a b. refl;
+        flags = flags-first (region from n s₀);
+      }
+
+  module _ (s : List ℕ) (all i : ℕ) (so-far : Extending s₀ to from n weaker flag s all i) (lt : i < n) where
+    parent : length (region to n s) ≡ n
+    parent = length-region to n s (omega (arith, so-far .long))
+
+    child : length (region from n s₀) ≡ n
+    child = length-region from n s₀ room
+
+    -- the child's bytes are as they were
+    pub child-byte : getD s (from + i) 0 ≡ getD (region from n s₀) i 0
+    child-byte =
+        ap (λ (l : List ℕ). getD l (from + i) 0) (so-far .others)
+        ∙ byte-after s₀ to (region to n s) (omega (arith, parent)) (from + i) (omega (arith, parent))
+        ∙ sym (byte-at from n s₀ i lt)
+
+    pub extending-turn : (v : ℕ) → ((k : PathKind) → weaker ≡ weakerFlags k → flag ≡ flagOf k → v ≡ bitOr (getD s (to + i) 0) (extendWith (getD s (from + i) 0) k))
+        → Extending s₀ to from n weaker flag (set s (to + i) v) (bitOr all (getD s (from + i) 0)) (i + 1)
+    extending-turn v is =
+        let written : region to n (set s (to + i) v) ≡ set (region to n s) i v =
+        ap (region to n) (sym (overwrite-one s (to + i) v (omega (arith, so-far .long))))
+        ∙ region-inside s to n i (v ∷ []) (omega arith) (omega (arith, so-far .long))
+        ∙ overwrite-one (region to n s) i v (omega (arith, parent)) in
+        record {
+          low = omega arith;
+          long = length-set s (to + i) v ∙ so-far .long;
+          others =
+              ap (λ (l : List ℕ). set l (to + i) v) (so-far .others)
+              ∙ set-inside s₀ to (region to n s) i v (omega arith) (omega (arith, parent))
+              ∙ ap (overwrite s₀ to) (sym written);
+          extended = λ k a b.
+              ap (λ (l : List ℕ). extendedFrom (i + 1) l k (region from n s₀)) written
+              ∙ extend-more (region to n s) k (region from n s₀) (extendFromChild (region to n s₀) k (region from n s₀)) i v (getD s (from + i) 0)
+              (so-far .extended k a b) (omega (arith, parent)) child-byte
+              (is k a b ∙ ap (λ (x : ℕ). bitOr x (extendWith (getD s (from + i) 0) k)) (sym (byte-at to n s i lt)));
+          flags = λ k.
+              ap (λ (x : ℕ). leb (bitOr all x) (2 ^ k - 1) && allAtMost (2 ^ k - 1) (drop (i + 1) (region from n s₀))) child-byte
+              ∙ flags-more (region from n s₀) all i (so-far .flags) (omega (arith, child)) k;
+        }
+
+  pub extending-done : (s : List ℕ) (all i : ℕ) → Extending s₀ to from n weaker flag s all i → n ≤ i
+      → (step : PathKind) → weaker ≡ weakerFlags step → flag ≡ flagOf step → Extended to from n step s₀ s (eqb all 0)
+  extending-done s all i so-far over step a b =
+      let parent : length (region to n s) ≡ n = length-region to n s (omega (arith, so-far .long)) in
+      let child : length (region from n s₀) ≡ n = length-region from n s₀ room in
+      record {
+        goals =
+            so-far .others
+            ∙ ap (overwrite s₀ to)
+            (extend-all (region to n s) step (region from n s₀) (extendFromChild (region to n s₀) step (region from n s₀)) n i (so-far .extended step a b) (omega (arith, parent, child)) over);
+        empty =
+            sym (leb-zero all)
+            ∙ flags-all (region from n s₀) all i (so-far .flags) (omega (arith, child)) 0
+            ∙ empty-flags (region from n s₀);
+      }

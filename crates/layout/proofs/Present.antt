@@ -7,7 +7,7 @@ use Prim.Native.Nat.{ℕ, zero, suc, _+_, _*_, _^_, _≤_, _<_}
 use native.Mathlib.Omega.{arith}
 use native.Mathlib.Decide.{ℕ-discrete}
 use borrow.Author.Tests.{eq-eqb, ne-eqb}
-use lib.Dec.{eqb}
+use lib.Dec.{eqb, lit<}
 use lib.ListN.{length, getD, set, take, replicate}
 use Rattle.definition.specs.declared.usages.HeadUsages.{HeadUsages}
 use Rattle.definition.specs.declared.heads.CycleHead.{CycleHead}
@@ -16,11 +16,11 @@ use Rattle.bits.specs.Masks.{flags, firstPlace, lastPlace, nextPlace, placeOr}
 use Rattle.bits.proofs.Flags.{length-flags, flags-zero}
 use Rattle.bits.proofs.Places.{last-more, last-none, last-some}
 use Rattle.buffer.specs.Numbers.{numberOf}
-use Rattle.buffer.specs.Regions.{region}
+use Rattle.buffer.specs.Regions.{region, overwrite}
 use Rattle.buffer.specs.Tables.{listUp}
 use Rattle.buffer.proofs.Tables.{up-at}
 use Rattle.layout.specs.Blocks.{flagAt, headOf, headAt, headsOf, present}
-use Rattle.layout.proofs.Blocks.{kept-set, kept-clear}
+use Rattle.layout.proofs.Blocks.{kept-set, kept-clear, block-record}
 
 -- a list's first flags
 firsts : (xs : List Bool) (n : ℕ) → n ≤ length xs → take n xs ≡ listUp (λ i. getD xs i false) n
@@ -120,11 +120,15 @@ module _ (goals : ℕ) (bs : List ℕ) (i : ℕ) (lt : i < goals) where
       go true f = let k = head-known f in cc
       go false f = let k = head-unknown f in let z : _≡_ {A = ℕ} 0 1 = cc in absurd (omega arith)
 
-  -- `insert`
-  pub insert-known : (p : ℕ) (u : HeadUsages) (h j : CycleHead) → getD (present (headsOf goals bs)) i false ≡ true → h ≡ headOf (region (8 + i * 33) 33 bs) → j ≡ joinHead (some h) p u
-      → set (headsOf goals bs) i (some j) ≡ insertHead (headsOf goals bs) i p u
-  insert-known p u h j t e f =
-      ap (λ (x : CycleHead). set (headsOf goals bs) i (some x)) (f ∙ ap (λ (x : CycleHead). joinHead (some x) p u) e ∙ ap (λ (o : Option CycleHead). joinHead o p u) (sym (head-known t)))
+  -- `insert`: the record of a known head is written
+  pub head-inserted : (ys : List ℕ) (p : ℕ) (u : HeadUsages) → goals ≤ 64 → 8 + i * 33 + 33 ≤ length bs → length ys ≡ 33 → getD (present (headsOf goals bs)) i false ≡ true
+      → (b1 : List ℕ) → b1 ≡ overwrite bs (8 + i * 33) ys → headOf ys ≡ joinHead (some (headOf (region (8 + i * 33) 33 bs))) p u
+      → headsOf goals b1 ≡ insertHead (headsOf goals bs) i p u
+  unfolding headsOf
+  head-inserted ys p u few room whole t b1 e1 e =
+      ap (headsOf goals) e1
+      ∙ block-record (λ r. some (headOf r)) none 33 bs goals i ys 0 few lt room whole (lit< tt) (sym (present-at goals bs i lt) ∙ t)
+      ∙ ap (λ (x : CycleHead). set (headsOf goals bs) i (some x)) (e ∙ ap (λ (o : Option CycleHead). joinHead o p u) (sym (head-known t)))
 
   pub insert-unknown : (p : ℕ) (u : HeadUsages) → getD (present (headsOf goals bs)) i false ≡ false → set (headsOf goals bs) i (some (record { paths = p; usages = u })) ≡ insertHead (headsOf goals bs) i p u
   insert-unknown p u t = ap (λ (o : Option CycleHead). set (headsOf goals bs) i (some (joinHead o p u))) (sym (head-unknown t))

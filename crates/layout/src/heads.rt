@@ -1,17 +1,20 @@
 // A block of cycle heads.
 use crate::records;
 use definition::heads::CycleHead;
+use definition::paths::PathKind;
 use definition::usages::HeadUsages;
 ghost use mathlib.Core.Path.{_≡_};
 ghost use mathlib.Core.Bool.{false};
 ghost use mathlib.Core.List.{_++_};
 ghost use mathlib.Core.Option.{some};
-ghost use Prim.Native.Nat.{_+_, _-_, _*_, _<_};
-ghost use lib.ListN.{getD, set, replicate};
+ghost use Prim.Native.Nat.{_+_, _-_, _*_, _≤_, _<_};
+ghost use lib.ListN.{length, getD, set, replicate};
 ghost use Rattle.bits.specs.Masks.{flags};
 ghost use Rattle.buffer.specs.Regions.{region};
+ghost use Rattle.definition.specs.Usages.{oneUsage};
 ghost use Rattle.definition.specs.Heads.{noHeads, headsEmpty, highestIndex, usagesAt, pathsAt, removeHead, insertHead};
 ghost use Rattle.layout.specs.Blocks.{HeadsBlock, headOf, headsOf, present};
+ghost use Rattle.layout.specs.Copied.{BlocksApart, RecordCopied, HeadsCopied};
 ghost use Rattle.layout.specs.AtIndex.{ignoreAt};
 
 // The indices that have a head.
@@ -67,16 +70,32 @@ pub fn has(b: &[u8], goals: usize, i: usize) -> bool
     bits::has(buffer::read_u64(b, 0), i)
 }
 
-// CycleHeads::insert
+// CycleHeads::insert; of a head that is known, only what changes is written
 pub fn insert(b: &mut [u8], goals: usize, i: usize, paths: u8, usages: HeadUsages)
     requires { ⌜ HeadsBlock goals (now b) × (i < goals) ⌝ }
     ensures { λ _. ⌜ headsOf goals (now (b .exit)) ≡ insertHead (headsOf goals (now (b .entry))) i paths usages ⌝ }
 {
     if has(b, goals, i) {
-        let head = record(b, goals, i);
-        put(b, goals, i, head.joined(paths, usages));
+        let a = 8 + i * 33;
+        let end = a + 33;
+        records::join_head(&mut b[a..end], paths, usages);
         return;
     }
+    put(b, goals, i, CycleHead { paths, usages });
+}
+
+// The same of a head that is used once.
+pub fn insert_used(b: &mut [u8], goals: usize, i: usize, paths: u8, kind: PathKind)
+    requires { ⌜ HeadsBlock goals (now b) × (i < goals) ⌝ }
+    ensures { λ _. ⌜ headsOf goals (now (b .exit)) ≡ insertHead (headsOf goals (now (b .entry))) i paths (oneUsage kind) ⌝ }
+{
+    if has(b, goals, i) {
+        let a = 8 + i * 33;
+        let end = a + 33;
+        records::count_head(&mut b[a..end], paths, kind);
+        return;
+    }
+    let usages = HeadUsages::one(kind);
     put(b, goals, i, CycleHead { paths, usages });
 }
 
@@ -133,4 +152,32 @@ pub fn ignore(b: &mut [u8], goals: usize, i: usize, u: HeadUsages)
     let usages = before.ignore_usages(u);
     let ignored = CycleHead { paths, usages };
     put(b, goals, i, ignored);
+}
+
+// The record at `from` goes to `to` as well.
+fn copy_record(s: &mut [u8], from: usize, to: usize)
+    requires { ⌜ (from + 33 ≤ length (now s)) × (to + 33 ≤ length (now s)) ⌝ }
+    ensures { λ _. ⌜ RecordCopied from to (now (s .entry)) (now (s .exit)) ⌝ }
+{
+    let from_end = from + 33;
+    let head = records::read_head(&s[from..from_end]);
+    let to_end = to + 33;
+    records::write_head(&mut s[to..to_end], head);
+}
+
+// The block at `from` goes to `to` as well: its mask, and the records that the mask names.
+pub fn copy(s: &mut [u8], goals: usize, from: usize, to: usize)
+    requires { ⌜ BlocksApart goals from to (now s) ⌝ }
+    ensures { λ _. ⌜ HeadsCopied goals from to (now (s .entry)) (now (s .exit)) ⌝ }
+{
+    let end = from + 8 + goals * 33;
+    let m = mask(&s[from..end], goals);
+    buffer::write_u64(s, to, m);
+    let mut left = m;
+    while 0 < left {
+        let i = bits::lowest(left);
+        let a = 8 + i * 33;
+        copy_record(s, from + a, to + a);
+        left = bits::without_lowest(left);
+    }
 }

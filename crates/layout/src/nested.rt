@@ -3,10 +3,12 @@ use buffer::scalars;
 use definition::paths;
 use definition::paths::PathKind;
 ghost use mathlib.Core.Path.{_≡_};
-ghost use Prim.Native.Nat.{ℕ, _-_, _^_};
+ghost use Prim.Native.Nat.{ℕ, _+_, _-_, _^_, _≤_};
 ghost use lib.Dec.{leb};
+ghost use lib.ListN.{length};
 ghost use Rattle.definition.specs.Nested.{nestedEmpty, insertNested, extendFromChild};
 ghost use Rattle.definition.specs.CacheForm.{allAtMost};
+ghost use Rattle.layout.specs.Copied.{Extended};
 
 // Paths to a goal.
 pub fn insert(nested: &mut [u8], goal: usize, paths: u8)
@@ -30,6 +32,26 @@ pub fn extend_from_child(nested: &mut [u8], step: PathKind, child: &[u8])
         nested[i] = nested[i] | through;
         i = i + 1;
     }
+}
+
+// The same in one buffer: the n goals from `to` on, with those of a child from `from` on. Whether
+// the child has none.
+pub fn extend_within(s: &mut [u8], to: usize, from: usize, n: usize, step: PathKind) -> bool
+    requires { ⌜ (to + n ≤ from) × (from + n ≤ length (now s)) ⌝ }
+    ensures { λ r. ⌜ Extended to from n step (now (s .entry)) (now (s .exit)) r ⌝ }
+{
+    let weaker = step.weaker_flags();
+    let flag = step.flag();
+    let mut all: u8 = 0;
+    let mut i: usize = 0;
+    while i < n {
+        let paths = s[from + i];
+        let through = paths::replace_weaker(paths, weaker, flag);
+        s[to + i] = s[to + i] | through;
+        all = all | paths;
+        i = i + 1;
+    }
+    all == 0
 }
 
 // The paths to all of them together: they tell the bound 2 ^ k - 1 of every byte.

@@ -4,7 +4,6 @@ use buffer::scalars;
 use definition::answers::Answer;
 use definition::format::Header;
 use definition::paths::PathKind;
-use definition::usages::HeadUsages;
 use global_cache::slot;
 use layout::nested;
 use provisional_cache::entry;
@@ -218,8 +217,7 @@ fn close_cycle(
         (now (graph .entry)) (now (graph .exit)) r ⌝ }
 {
     let kind = stack::cycle_path_kind(graph, h.goals, height, step, head);
-    let usages = HeadUsages::none().add_usage(kind);
-    parent::update_from_cycle(graph, h.goals, height, step, head, usages, goal, available);
+    parent::update_from_cycle(graph, h.goals, height, step, head, kind, goal, available);
     cycle_result(provisional, kind)
 }
 

@@ -1,9 +1,8 @@
 // update_parent_goal of mod.rs. The parent is the frame on top of the stack.
 use definition::heads::CycleHead;
 use definition::paths::PathKind;
-use definition::paths::PathsToNested;
-use definition::usages::HeadUsages;
 use layout::heads;
+use layout::nested;
 use layout::offsets;
 use stack::frame::child;
 ghost use mathlib.Core.Bool.{false};
@@ -26,6 +25,16 @@ fn add_head(graph: &mut [u8], goals: usize, own: usize, step: PathKind, i: usize
     let start = offsets::frame_start(goals, own);
     let end = start + offsets::frame_size(goals);
     child::add_head(&mut graph[start..end], goals, own, step, i, head);
+}
+
+// A goal on the stack, at index i, by a cycle of a kind.
+fn count_head(graph: &mut [u8], goals: usize, own: usize, step: PathKind, i: usize, kind: PathKind)
+    requires { ⌜ GraphBytes goals (now graph) × ((own < goals) × (i < goals)) ⌝ }
+    ensures { λ _. ⌜ TopChanged goals own (addHeadAt step own i (cycleHead step kind)) (now (graph .entry)) (now (graph .exit)) ⌝ }
+{
+    let start = offsets::frame_start(goals, own);
+    let end = start + offsets::frame_size(goals);
+    child::count_head(&mut graph[start..end], goals, own, step, i, kind);
 }
 
 // The heads of the nested goal, in the block at `start` of the graph, behind the frame.
@@ -157,44 +166,52 @@ pub fn update_from_cycle(
     height: usize,
     step: PathKind,
     head: usize,
-    usages: HeadUsages,
+    kind: PathKind,
     goal: usize,
     reached: usize,
 )
     requires { ⌜ GraphBytes goals (now graph) × ((height ≤ goals) × (head < height)) ⌝ }
-    ensures { λ _. ⌜ Updated goals height step (insertHead (noHeads goals) head (flagOf step) usages) false
+    ensures { λ _. ⌜ Updated goals height step (insertHead (noHeads goals) head (flagOf step) (oneUsage kind)) false
         (CycleOnStack goal) reached (now (graph .entry)) (now (graph .exit)) ⌝ }
 {
     if height == 0 {
         return;
     }
-    let paths = PathsToNested::from_kind(step);
-    let cycle = CycleHead {
-        paths: paths.bits,
-        usages,
-    };
-    add_head(graph, goals, height - 1, step, head, cycle);
+    count_head(graph, goals, height - 1, step, head, kind);
     add_cycle(graph, goals, height - 1, step, goal, reached);
 }
 
-// After the goal whose frame stood above the parent, with that frame's nested goals.
+// The nested goals of the frame at index `own`, with those of the frame above it.
+fn extend_nested(graph: &mut [u8], goals: usize, own: usize, step: PathKind) -> bool
+{
+    let to = offsets::frame_start(goals, own) + offsets::nested_start(goals);
+    let from = to + offsets::frame_size(goals);
+    nested::extend_within(graph, to, from, goals, step)
+}
+
+// The rest
+fn add_evaluated(graph: &mut [u8], goals: usize, own: usize, overflow: bool, some: bool, reached: usize)
+{
+    let start = offsets::frame_start(goals, own);
+    let end = start + offsets::frame_size(goals);
+    child::add_evaluated(&mut graph[start..end], goals, overflow, some, reached);
+}
+
+// After the goal whose frame stood above the parent.
 pub fn update_from_frame(
     graph: &mut [u8],
     goals: usize,
     height: usize,
     step: PathKind,
     overflow: bool,
-    child: &[u8],
     reached: usize,
 )
-    requires { ⌜ GraphBytes goals (now graph) × (height < goals) ⌝ }
-    ensures { λ _. ⌜ Updated goals height step ((frameAt goals height (now (graph .entry))) .heads) overflow
-        (Ordinary (now (child .entry))) reached (now (graph .entry)) (now (graph .exit)) ⌝ }
 {
     if height == 0 {
         return;
     }
     let start = offsets::frame_start(goals, height) + offsets::FRAME_HEADS;
     add_heads(graph, goals, height - 1, step, start);
-    add_ordinary(graph, goals, height - 1, step, overflow, child, reached);
+    let some = extend_nested(graph, goals, height - 1, step);
+    add_evaluated(graph, goals, height - 1, overflow, some, reached);
 }

@@ -1,4 +1,5 @@
 // Entries that are kept move to the front.
+use layout::heads;
 use layout::offsets;
 ghost use mathlib.Core.Path.{_≡_};
 ghost use Prim.Native.Nat.{_*_, _≤_, _<_};
@@ -19,7 +20,13 @@ fn move_entry(bytes: &mut [u8], goals: usize, base: usize, from: usize, to: usiz
     }
     let a = offsets::entry_start_from(goals, base, from);
     let b = offsets::entry_start_from(goals, base, to);
-    buffer::copy_within(bytes, a, b, offsets::entry_size(goals));
+    buffer::copy_within(bytes, a, b, offsets::ENTRY_HEADS);
+    heads::copy(
+        bytes,
+        goals,
+        a + offsets::ENTRY_HEADS,
+        b + offsets::ENTRY_HEADS,
+    );
 }
 
 // Entry i is put after the `kept` first ones, where it is to be kept: how many these are

@@ -180,18 +180,6 @@ pub fn any_applies(
     false
 }
 
-// Copies n bytes to a place behind them.
-fn copy_up(s: &mut [u8], from: usize, to: usize, n: usize)
-    requires { ⌜ (from + n ≤ to) × (to + n ≤ length (now s)) ⌝ }
-    ensures { λ _. ⌜ now (s .exit) ≡ overwrite (now (s .entry)) to (region from n (now (s .entry))) ⌝ }
-{
-    let mut i: usize = 0;
-    while i < n {
-        s[to + i] = s[from + i];
-        i = i + 1;
-    }
-}
-
 // The heads of the frame at index `height` become those of entry i.
 fn copy_heads(graph: &mut [u8], goals: usize, height: usize, i: usize)
     requires { ⌜ GraphBytes goals (now graph) × ((height < goals) × (i < 2 * goals)) ⌝ }
@@ -201,7 +189,7 @@ fn copy_heads(graph: &mut [u8], goals: usize, height: usize, i: usize)
 {
     let a = offsets::frame_start(goals, height) + offsets::FRAME_HEADS;
     let b = offsets::entry_start(goals, i) + offsets::ENTRY_HEADS;
-    copy_up(graph, a, b, offsets::heads_size(goals));
+    heads::copy(graph, goals, a, b);
 }
 
 // Entry i becomes a new one, with the heads of the frame at index `height`.

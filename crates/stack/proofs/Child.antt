@@ -1,18 +1,20 @@
--- What the writes of `track`, `join`, `use_itself`, `reach` and of nested goals make of a frame.
+-- What the writes of heads, of usages, of `reach` and of nested goals make of a frame.
 use mathlib.Core.Path.{_≡_, refl, sym, ap, ap₂, _∙_}
 use mathlib.Core.Bool.{Bool, true, false, not, _||_, true≢false}
+use mathlib.Core.Logic.{_≢_}
 use mathlib.Core.Option.{Option, none, some}
 use mathlib.Core.List.{List}
 use Prim.Native.Nat.{ℕ, zero, suc, _+_, _-_, _≤_, _<_, min}
 use native.Mathlib.Omega.{arith}
 use borrow.Author.Tests.{lt-ltb, le-ltb, eq-eqb, ne-eqb}
 use lib.ListN.{length, getD, set, length-set}
-use lib.Seq.{getD-set-other}
+use lib.Seq.{getD-set-same, getD-set-other}
 use Rattle.definition.specs.declared.paths.PathKind.{PathKind}
+use Rattle.definition.specs.declared.paths.PathKind.the-variants.{Inductive, Unknown, Coinductive, ForcedAmbiguity}
 use Rattle.definition.specs.declared.usages.HeadUsages.{HeadUsages}
 use Rattle.definition.specs.declared.heads.CycleHead.{CycleHead}
 use Rattle.definition.specs.Paths.{extendWith, emptyPath, flagOf}
-use Rattle.definition.specs.Usages.{addUsagesFromNested}
+use Rattle.definition.specs.Usages.{noUsages, addUsagesFromNested}
 use Rattle.definition.specs.Heads.{insertHead}
 use Rattle.definition.specs.Nested.{NestedGoals, nestedEmpty, insertNested, extendFromChild}
 use Rattle.definition.specs.Stack.{Frame, withReached, withHeads, withOverflow, withUsages, withCandidateUsages, withNestedGoals}
@@ -21,11 +23,11 @@ use Rattle.buffer.specs.Regions.{region, overwrite}
 use Rattle.buffer.proofs.Regions.{length-overwrite, region-same}
 use Rattle.layout.specs.Blocks.{usagesOf, headsSize, headsOf, blockSize, candidateOf}
 use Rattle.layout.specs.Frame.{frameOverflow, frameTracks, candidateStart, nestedStart, frameSize, truth, whenSet, frameOf}
-use Rattle.layout.proofs.Frames.{frame-reached, frame-overflow, frame-has-usages, frame-usages, frame-heads, frame-candidate, frame-nested}
+use Rattle.layout.proofs.Frames.{set-after, frame-reached, frame-overflow, frame-has-usages, frame-usages, frame-heads, frame-candidate, frame-nested}
 use Rattle.stack.specs.Results.{isSome}
 use Rattle.stack.proofs.Parts.{part, returned, part-length, part-back}
 use Rattle.layout.specs.AtIndex.{addFromNestedAt}
-use Rattle.stack.specs.Child.{trackedAt, joined, used, trackAt, joinAt, useOwn, addHeadAt, reachFrame, insertOwn}
+use Rattle.stack.specs.Child.{HeadBegun, trackedAt, joined, used, trackAt, joinAt, useOwn, addHeadAt, reachFrame, insertOwn}
 
 -- ---- `track`
 tracked-none : (o : Option (List HeadUsages)) (i : ℕ) (u : HeadUsages) → isSome o ≡ false → o ≡ trackedAt o i u
@@ -66,18 +68,68 @@ join-frame goals bs ys e i p step c long is-e is-p kept is-y =
     ∙ frame-heads goals bs long ys n
     ∙ ap (withHeads (frameOf goals bs)) is
 
--- ---- `use_itself`
-pub use-frame : (goals : ℕ) (bs ys : List ℕ) (before x u : HeadUsages) → length bs ≡ frameSize goals → before ≡ orNoUsages ((frameOf goals bs) .usages) → x ≡ addUsagesFromNested before u
-    → length ys ≡ length (part bs 8 40) → usagesOf ys ≡ x → frameOf goals (set (returned bs 8 40 ys) 6 1) ≡ useOwn u (frameOf goals bs)
-use-frame goals bs ys before x u long is-b is-x kept is-y =
+-- ---- `become_head`
+set-some : (n : ℕ) (u : HeadUsages) → isSome (whenSet n u) ≡ true → n ≢ 0
+set-some zero u e = absurd (true≢false (sym e))
+set-some (suc n) u e = λ q. omega arith
+
+some-is : (n : ℕ) (u : HeadUsages) → n ≢ 0 → whenSet n u ≡ some u
+some-is zero u ne = absurd (ne refl)
+some-is (suc n) u ne = refl
+
+none-is : (o : Option HeadUsages) → isSome o ≡ false → orNoUsages o ≡ noUsages
+none-is none e = refl
+none-is (some u) e = absurd (true≢false e)
+
+pub head-already : (goals : ℕ) (bs : List ℕ) (t : Bool) → t ≡ isSome ((frameOf goals bs) .usages) → t ≡ true → HeadBegun goals bs bs
+unfolding frameOf
+head-already goals bs t is e =
+    let ne = set-some (getD bs 6 0) (usagesOf (region 8 32 bs)) (sym is ∙ e) in
+    record {
+      marked = ne;
+      usages = sym (ap orNoUsages (some-is (getD bs 6 0) (usagesOf (region 8 32 bs)) ne));
+      others = λ u. refl;
+    }
+
+pub head-new : (goals : ℕ) (bs ys : List ℕ) (t : Bool) (x : HeadUsages) → length bs ≡ frameSize goals → t ≡ isSome ((frameOf goals bs) .usages) → t ≡ false
+    → x ≡ noUsages → length ys ≡ length (part bs 8 40) → usagesOf ys ≡ x → HeadBegun goals bs (set (returned bs 8 40 ys) 6 1)
+head-new goals bs ys t x long is e is-x kept is-y =
     let n : length ys ≡ 32 = omega (arith, part-length bs 8 40 ys (omega arith) (omega arith) kept) in
     let o : List ℕ = overwrite bs 8 ys in
+    let back : returned bs 8 40 ys ≡ o = part-back bs 8 40 ys (omega arith) (omega arith) kept in
     let lo : length o ≡ frameSize goals = length-overwrite bs 8 ys (omega arith) ∙ long in
     let there : region 8 32 o ≡ ys = ap (λ (m : ℕ). region 8 m o) (sym n) ∙ region-same bs 8 ys (omega arith) in
-    let is : usagesOf (region 8 32 o) ≡ addUsagesFromNested (orNoUsages ((frameOf goals bs) .usages)) u = ap usagesOf there ∙ is-y ∙ is-x ∙ ap (λ (b : HeadUsages). addUsagesFromNested b u) is-b in
-    ap (λ (l : List ℕ). frameOf goals (set l 6 1)) (part-back bs 8 40 ys (omega arith) (omega arith) kept)
-    ∙ frame-has-usages goals o lo 1
-    ∙ ap₂ (λ (f : Frame) (v : HeadUsages). withUsages f (some v)) (frame-usages goals bs long ys n) is
+    let one : getD (set o 6 1) 6 0 ≡ 1 = getD-set-same o 6 1 0 (omega arith) in
+    record {
+      marked = λ q. let z : _≡_ {A = ℕ} 1 0 = sym one ∙ ap (λ (l : List ℕ). getD (set l 6 1) 6 0) (sym back) ∙ q in omega arith;
+      usages =
+          ap (λ (l : List ℕ). usagesOf (region 8 32 (set l 6 1))) back
+          ∙ ap usagesOf (set-after o 6 1 (omega arith) 8 32 (omega arith) ∙ there) ∙ is-y ∙ is-x
+          ∙ sym (none-is ((frameOf goals bs) .usages) (sym is ∙ e));
+      others = λ u.
+          ap (λ (l : List ℕ). withUsages (frameOf goals (set l 6 1)) u) back
+          ∙ ap (λ (f : Frame). withUsages f u) (frame-has-usages goals o lo 1)
+          ∙ ap (λ (f : Frame). withUsages f u) (frame-usages goals bs long ys n);
+    }
+
+-- ---- `use_itself` and `count_itself`
+pub use-frame : (goals : ℕ) (old bs ys : List ℕ) (u : HeadUsages) → length bs ≡ frameSize goals → HeadBegun goals old bs
+    → length ys ≡ length (part bs 8 40) → usagesOf ys ≡ addUsagesFromNested (usagesOf (part bs 8 40)) u
+    → frameOf goals (returned bs 8 40 ys) ≡ useOwn u (frameOf goals old)
+use-frame goals old bs ys u long begun kept is-y =
+    let n : length ys ≡ 32 = omega (arith, part-length bs 8 40 ys (omega arith) (omega arith) kept) in
+    ap (frameOf goals) (part-back bs 8 40 ys (omega arith) (omega arith) kept)
+    ∙ frame-usages goals bs long ys n
+    ∙ ap (withUsages (frameOf goals bs)) (some-is (getD bs 6 0) (usagesOf ys) (begun .marked))
+    ∙ begun .others (some (usagesOf ys))
+    ∙ ap (λ (x : HeadUsages). withUsages (frameOf goals old) (some x)) (is-y ∙ ap (λ (x : HeadUsages). addUsagesFromNested x u) (begun .usages))
+
+-- ---- `count_joined`: the step's own path is the same one step further
+pub flag-extended : (k : PathKind) → flagOf k ≡ extendWith (flagOf k) k
+flag-extended Inductive = refl
+flag-extended Unknown = refl
+flag-extended Coinductive = refl
+flag-extended ForcedAmbiguity = refl
 
 -- ---- `add_head`
 module _ (step : PathKind) (own i : ℕ) (c : CycleHead) (f g h : Frame) (first : g ≡ trackAt i (c .usages) f) where

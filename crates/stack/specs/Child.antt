@@ -3,16 +3,22 @@ use Prim.Native.Nat.{ℕ, min}
 use mathlib.Core.Bool.{Bool, true, false, _||_}
 use mathlib.Core.Option.{Option, none, some}
 use mathlib.Core.List.{List}
+use mathlib.Core.Path.{_≡_}
+use mathlib.Core.Logic.{_≢_}
 use lib.Dec.{eqb, ltb}
+use lib.ListN.{getD}
 use Rattle.definition.specs.declared.paths.PathKind.{PathKind}
 use Rattle.definition.specs.declared.usages.HeadUsages.{HeadUsages}
 use Rattle.definition.specs.declared.heads.CycleHead.{CycleHead}
-use Rattle.definition.specs.Paths.{extendWith, emptyPath}
-use Rattle.definition.specs.Usages.{addUsagesFromNested}
+use Rattle.definition.specs.Paths.{flagOf, extendWith, emptyPath}
+use Rattle.definition.specs.Usages.{oneUsage, addUsagesFromNested}
 use Rattle.definition.specs.Heads.{CycleHeads, insertHead}
 use Rattle.definition.specs.Nested.{NestedGoals, insertNested, extendFromChild}
 use Rattle.definition.specs.Stack.{Frame, withReached, withHeads, withOverflow, withUsages, withCandidateUsages, withNestedGoals}
 use Rattle.definition.specs.Parent.{orNoUsages}
+use Rattle.buffer.specs.Regions.{region}
+use Rattle.layout.specs.Blocks.{usagesSize, usagesOf}
+use Rattle.layout.specs.Frame.{frameIsHead, usagesStart, frameOf}
 use Rattle.layout.specs.AtIndex.{addFromNestedAt}
 
 -- the usages of a candidate, where one is tracked, with those of a nested goal at index i
@@ -46,6 +52,16 @@ addHeadAt step own i c f =
     (elim (eqb i own) [ true ↦ used (c .usages) (f .usages) | false ↦ f .usages ]))
     (trackedAt (f .candidateUsages) i (c .usages))
 
+-- the head of a cycle: reached by the last step alone, and used once, in the kind of the whole cycle
+abbrev pub cycleHead : PathKind → PathKind → CycleHead
+cycleHead step kind = record { paths = flagOf step; usages = oneUsage kind }
+
+-- the frame is a head: its usages stand in its bytes, and nothing else is another
+pub record HeadBegun (goals : ℕ) (old new : List ℕ) : Type 0 where
+  pub marked : getD new frameIsHead 0 ≢ 0
+  pub usages : usagesOf (region usagesStart usagesSize new) ≡ orNoUsages ((frameOf goals old) .usages)
+  pub others : (u : Option HeadUsages) → withUsages (frameOf goals new) u ≡ withUsages (frameOf goals old) u
+
 -- overflow, and the depth reached
 abbrev pub reachFrame : Bool → ℕ → Frame → Frame
 reachFrame overflow reached f =
@@ -60,3 +76,8 @@ insertOwn f = insertGoal (f .input) emptyPath f
 
 abbrev pub extendNested : PathKind → NestedGoals → Frame → Frame
 extendNested step child f = withNestedGoals f (extendFromChild (f .nestedGoals) step child)
+
+-- the rest after a goal whose nested goals are among the frame's already; `none`: it has none
+abbrev pub finishNested : Bool → Bool → ℕ → Frame → Frame
+finishNested overflow true reached f = reachFrame overflow reached f
+finishNested overflow false reached f = insertOwn (reachFrame overflow reached f)

@@ -107,46 +107,6 @@ pub fn end_iteration(
 
 // ---- after the last iteration; the goal's frame stood at index `height`
 
-// Copies all bytes.
-fn copy(to: &mut [u8], from: &[u8])
-    requires { ⌜ length (now to) ≡ length (now from) ⌝ }
-    ensures { λ _. ⌜ now (to .exit) ≡ now (from .entry) ⌝ }
-{
-    let mut i: usize = 0;
-    while i < from.len() {
-        to[i] = from[i];
-        i = i + 1;
-    }
-}
-
-// The parent learns what the goal came to.
-fn update_parent(
-    graph: &mut [u8],
-    goals: usize,
-    height: usize,
-    step: PathKind,
-    overflow: bool,
-    reached: usize,
-)
-    requires { ⌜ GraphBytes goals (now graph) × (height < goals) ⌝ }
-    ensures { λ _. ⌜ ParentUpdated goals height step overflow reached (now (graph .entry)) (now (graph .exit)) ⌝ }
-{
-    let mut nested = [0u8; 64];
-    copy(
-        &mut nested[0..goals],
-        insert::nested_at(graph, goals, height),
-    );
-    parent::update_from_frame(
-        graph,
-        goals,
-        height,
-        step,
-        overflow,
-        &nested[0..goals],
-        reached,
-    );
-}
-
 // The goal was evaluated: the parent is updated and the result kept.
 pub fn finish(
     ran: Ran,
@@ -169,7 +129,7 @@ pub fn finish(
             let goals = h.goals;
             let required = frame::required_depth(stack::frame_at(graph, goals, height), goals);
             let reached = scalars::minus(available, required);
-            update_parent(graph, goals, height, step, overflow, reached);
+            parent::update_from_frame(graph, goals, height, step, overflow, reached);
             insert::result(
                 cache,
                 graph,

@@ -14,10 +14,12 @@ use layout::records;
 ghost use mathlib.Core.Path.{_≡_};
 ghost use mathlib.Core.Bool.{false, _||_};
 ghost use Prim.Native.Nat.{_<_, min};
+ghost use Rattle.definition.specs.Usages.{oneUsage};
 ghost use Rattle.definition.specs.Parent.{addRest, Ordinary, CycleOnStack, ProvisionalCacheHit};
 ghost use Rattle.layout.specs.Frame.{truth};
 ghost use Rattle.stack.specs.Bytes.{FrameBytes, FrameChanged};
-ghost use Rattle.stack.specs.Child.{trackAt, joinAt, useOwn, addHeadAt, reachFrame, insertGoal, insertOwn, extendNested};
+ghost use Rattle.stack.specs.Child.{trackAt, joinAt, HeadBegun, useOwn, addHeadAt, cycleHead};
+ghost use Rattle.stack.specs.Child.{reachFrame, insertGoal, insertOwn, extendNested, finishNested};
 
 // ---- heads
 
@@ -52,17 +54,31 @@ fn join(frame: &mut [u8], goals: usize, step: PathKind, i: usize, head: CycleHea
     );
 }
 
+// The parent is a head; its usages start at none where it was none before.
+fn become_head(frame: &mut [u8], goals: usize)
+    requires { ⌜ FrameBytes goals (now frame) ⌝ }
+    ensures { λ _. ⌜ HeadBegun goals (now (frame .entry)) (now (frame .exit)) ⌝ }
+{
+    if frame::is_head(frame, goals) {
+        return;
+    }
+    records::write_usages(
+        &mut frame[offsets::FRAME_USAGES..offsets::FRAME_HEADS],
+        HeadUsages::none(),
+    );
+    frame[offsets::FRAME_IS_HEAD] = 1;
+}
+
 // The parent itself is used as a head.
 fn use_itself(frame: &mut [u8], goals: usize, usages: HeadUsages)
     requires { ⌜ FrameBytes goals (now frame) ⌝ }
     ensures { λ _. ⌜ FrameChanged goals (useOwn usages) (now (frame .entry)) (now (frame .exit)) ⌝ }
 {
-    let before = frame::own_usages(frame, goals);
-    records::write_usages(
+    become_head(frame, goals);
+    records::count_nested(
         &mut frame[offsets::FRAME_USAGES..offsets::FRAME_HEADS],
-        before.add_usages_from_nested(usages),
+        usages,
     );
-    frame[offsets::FRAME_IS_HEAD] = 1;
 }
 
 // A head of the nested goal, at index i; the parent's own index is `own`.
@@ -85,6 +101,69 @@ pub fn add_head(
     }
     if i == own {
         use_itself(frame, goals, usages);
+    }
+}
+
+// ---- a head that is used once, by a cycle of a kind: one counter is touched
+
+fn count_tracked(frame: &mut [u8], goals: usize, i: usize, kind: PathKind)
+    requires { ⌜ FrameBytes goals (now frame) × (i < goals) ⌝ }
+    ensures { λ _. ⌜ FrameChanged goals (trackAt i (oneUsage kind)) (now (frame .entry)) (now (frame .exit)) ⌝ }
+{
+    if !frame::tracks(frame, goals) {
+        return;
+    }
+    let start = offsets::candidate_start(goals);
+    let end = offsets::nested_start(goals);
+    candidate::count(&mut frame[start..end], goals, i, kind);
+}
+
+fn count_joined(frame: &mut [u8], goals: usize, step: PathKind, i: usize, kind: PathKind)
+    requires { ⌜ FrameBytes goals (now frame) × (i < goals) ⌝ }
+    ensures { λ _. ⌜ FrameChanged goals (joinAt step i (cycleHead step kind)) (now (frame .entry))
+        (now (frame .exit)) ⌝ }
+{
+    let end = offsets::candidate_start(goals);
+    heads::insert_used(
+        &mut frame[offsets::FRAME_HEADS..end],
+        goals,
+        i,
+        step.flag(),
+        kind,
+    );
+}
+
+fn count_itself(frame: &mut [u8], goals: usize, kind: PathKind)
+    requires { ⌜ FrameBytes goals (now frame) ⌝ }
+    ensures { λ _. ⌜ FrameChanged goals (useOwn (oneUsage kind)) (now (frame .entry)) (now (frame .exit)) ⌝ }
+{
+    become_head(frame, goals);
+    records::count_usage(
+        &mut frame[offsets::FRAME_USAGES..offsets::FRAME_HEADS],
+        kind,
+    );
+}
+
+// A goal on the stack, at index i, by a cycle of a kind.
+pub fn count_head(
+    frame: &mut [u8],
+    goals: usize,
+    own: usize,
+    step: PathKind,
+    i: usize,
+    kind: PathKind,
+)
+    requires { ⌜ FrameBytes goals (now frame) × (i < goals) ⌝ }
+    ensures { λ _. ⌜ FrameChanged goals (addHeadAt step own i (cycleHead step kind)) (now (frame .entry))
+        (now (frame .exit)) ⌝ }
+{
+    count_tracked(frame, goals, i, kind);
+    if i < own {
+        count_joined(frame, goals, step, i, kind);
+        return;
+    }
+    if i == own {
+        count_itself(frame, goals, kind);
     }
 }
 
@@ -165,6 +244,20 @@ pub fn add_ordinary(
     reach(frame, goals, overflow, reached);
     extend(frame, goals, step, child);
     if nested::is_empty(child) {
+        return;
+    }
+    insert_itself(frame, goals);
+}
+
+// Beside the heads and the nested goals, after a goal that was evaluated; `none`: it has no nested
+// goals.
+pub fn add_evaluated(frame: &mut [u8], goals: usize, overflow: bool, none: bool, reached: usize)
+    requires { ⌜ FrameBytes goals (now frame) ⌝ }
+    ensures { λ _. ⌜ FrameChanged goals (finishNested overflow none reached) (now (frame .entry))
+        (now (frame .exit)) ⌝ }
+{
+    reach(frame, goals, overflow, reached);
+    if none {
         return;
     }
     insert_itself(frame, goals);

@@ -17,7 +17,7 @@ same-length : tie.Need-same-length
 same-length c = search needs
 
 returns : tie.Need-returns
-returns c = let a = c .before .before .before .before .before .before .before .before .args in add-block (candidateOf (a .goals) (a .b .now)) (candidateOf (a .goals) (c .before .before .put .last .0)) (a .i) (a .u) (c .before .before .before .before .before .usages .result) (c .before .before .before .add-usages .result) (c .before .before .before .before .before .usages .ensures) (c .before .before .before .add-usages .ensures) (c .before .before .put .ensures)
+returns c = let a = c .before .before .before .before .before .before .before .before .args in add-block (candidateOf (a .goals) (a .b .now)) (candidateOf (a .goals) (c .before .before .put .last .0)) (a .i) (a .u) (c .before .before .before .before .before .usages .result) (c .before .before .before .add-usages .result) (c .before .before .before .before .before .usages .ensures) (c .before .before .before .add-usages .ensures) (c .before .before .put .ensures .0)
 
 pub add-spec : {M : Type 1} → statement M
 add-spec =

@@ -1,28 +1,86 @@
-use mathlib.Core.Path.{ap, _∙_}
-use lib.ListN.{set}
+use mathlib.Core.Path.{_≡_, refl, sym, ap, _∙_}
+use Prim.Native.Nat.{ℕ, _+_, _*_, _-_, _^_, _≤_, _<_}
+use mathlib.Core.Bool.{Bool, true, false}
+use mathlib.Core.List.{List, _++_}
+use mathlib.Core.Option.{none, some}
+use native.Mathlib.Omega.{arith}
+use lib.ListN.{length, getD, set, take, drop}
+use lib.Seq.{set-getD}
+use Rattle.bits.specs.Masks.{flags}
+use Rattle.buffer.specs.Numbers.{numberOf}
+use Rattle.buffer.specs.Regions.{region, overwrite}
+use Rattle.buffer.proofs.Regions.{overwrite-part, length-region, region-before, region-after, region-same}
+use Rattle.buffer.proofs.Tables.{up-at}
 use Rattle.definition.specs.declared.usages.HeadUsages.{HeadUsages}
-use Rattle.definition.specs.Usages.{addUsagesFromNested}
-use Rattle.layout.specs.Blocks.{candidateOf}
+use Rattle.definition.specs.declared.heads.CycleHead.{CycleHead}
+use Rattle.definition.specs.Usages.{noUsages, oneUsage, addUsagesFromNested}
+use Rattle.definition.specs.Heads.{joinHead}
+use Rattle.layout.specs.Blocks.{usagesOf, headOf, headsOf, headsSize, flagAt, usagesIn, candidateOf, present}
+use Rattle.layout.specs.AtIndex.{addFromNestedAt}
+use Rattle.layout.proofs.Blocks.{kept-set, kept-clear, block-record}
+use Rattle.definition.specs.Usages.{addUsage}
+use Rattle.layout.proofs.Counted.{one-more, usages-added}
 use borrow.Author.Needs.{needs}
 use Rattle.layout.proofs.candidate.add_from_nested.Statement.{statement}
 use Rattle.layout.proofs.candidate.add_from_nested.Tie as tie
+use Rattle.layout.proofs.candidate.add_from_nested.Reads as reads
+use Rattle.layout.proofs.candidate.add_from_nested.Lts as lts
+use Rattle.layout.proofs.candidate.start.Reads as start-reads
+use Rattle.layout.proofs.records.count_nested.Reads as count-nested-reads
 
-usages-requires : tie.Need-usages-requires
-usages-requires c κs = search needs
+start-requires : tie.Need-start-requires
+start-requires c κs = search needs
 
-add-usages-from-nested-requires : tie.Need-add-usages-from-nested-requires
-add-usages-from-nested-requires c κs = search needs
+mul-a : tie.Need-mul-a
+mul-a c = search needs
 
-put-requires : tie.Need-put-requires
-put-requires c κs = search needs
+add-a : tie.Need-add-a
+add-a c = search needs
+
+add-end : tie.Need-add-end
+add-end c = search needs
+
+sub-count-nested : tie.Need-sub-count-nested
+sub-count-nested c = search needs
+
+part-count-nested-start : tie.Need-part-count-nested-start
+part-count-nested-start c = search needs
+
+part-count-nested-end : tie.Need-part-count-nested-end
+part-count-nested-end c = search needs
+
+count-nested-requires : tie.Need-count-nested-requires
+count-nested-requires c κs = search needs
 
 same-length : tie.Need-same-length
 same-length c = search needs
 
 returns : tie.Need-returns
-returns c = let a = c .before .before .before .before .before .before .before .before .args in c .before .before .put .ensures ∙ ap (λ (u : HeadUsages). set (candidateOf (a .goals) (a .b .now)) (a .i) u) (c .before .before .before .add-usages-from-nested .ensures ∙ ap (λ (u : HeadUsages). addUsagesFromNested u (a .u)) (c .before .before .before .before .before .usages .ensures))
-
+returns c =
+    let s = c .before .before .before .before .before .before .before .before .before in
+    let bs : List ℕ = c .before .before .before .before .before .before .start .last .0 in
+    let at : ℕ = 8 + s .args .i * 32 in
+    let ys : List ℕ = c .before .before .count-nested .last .0 in
+    let long : length bs ≡ length (s .args .b .now) = c .before .before .before .before .before .before .start .kept .0 in
+    let room : at + 32 ≤ length bs = omega (arith, s .pre .0 .long) in
+    let e : at + 32 - at ≡ 32 = omega arith in
+    let here : region at (at + 32 - at) bs ≡ region at 32 bs = ap (λ (n : ℕ). region at n bs) e in
+    let whole : length ys ≡ 32 = c .before .before .count-nested .kept .0 ∙ ap length here ∙ length-region at 32 bs room in
+    usages-added (s .args .goals) (s .args .b .now) bs (s .args .i) ys (s .args .u) (s .pre .0 .few) (s .pre .1) room whole
+    (c .before .before .before .before .before .before .start .ensures .1) (c .before .before .before .before .before .before .start .ensures .0)
+    (take at bs ++ (ys ++ drop (at + 32 - at) (drop at bs))) (overwrite-part bs at (at + 32) ys (whole ∙ sym e))
+    (c .before .before .count-nested .ensures ∙ ap (λ (l : List ℕ). addUsagesFromNested (usagesOf l) (s .args .u)) here)
 pub add-from-nested-spec : {M : Type 1} → statement M
 add-from-nested-spec =
     tie.close
-    (tie.spec usages-requires add-usages-from-nested-requires put-requires same-length returns)
+    (tie.spec
+    start-requires
+    mul-a
+    add-a
+    add-end
+    sub-count-nested
+    part-count-nested-start
+    part-count-nested-end
+    count-nested-requires
+    same-length
+    returns)
