@@ -1,12 +1,13 @@
 -- What a write of bytes at an offset does to a region, once, over offset and size.
-use mathlib.Core.Path.{_≡_, refl, sym, ap, _∙_}
+use mathlib.Core.Path.{_≡_, refl, sym, ap, _∙_, subst}
 use mathlib.Core.List.{List, [], _∷_, _++_, append-assoc, append-nil}
 use Prim.Native.Nat.{ℕ, zero, suc, _+_, _-_, _≤_, _<_}
 use native.Mathlib.Nat.{zero-add, suc-add}
 use native.Mathlib.Numerals.{add-one}
+use native.Mathlib.Decide.{decLt}
 use native.Mathlib.Omega.{arith}
 use lib.ListN.{length, getD, take, drop, set, length-append, length-drop, List·getD-append, take-append-drop, drop-of-length-le}
-use lib.Seq.{getD-take, getD-drop, take-nil, drop-at, drop-drop, drop-cons, take-suc, take-append-le, take-take, take-append-seam, take-append-add, append-snoc, length-take-le, set-at, set-split}
+use lib.Seq.{ext-getD, getD-take, getD-drop, take-nil, drop-at, drop-drop, drop-cons, take-suc, take-append-le, take-take, take-append-seam, take-append-add, append-snoc, length-take-le, set-at, set-split}
 use Rattle.buffer.specs.Regions.{region, overwrite}
 
 pub drop-take : (b n : ℕ) (l : List ℕ) → drop b (take (b + n) l) ≡ take n (drop b l)
@@ -25,6 +26,10 @@ region-region a m b n bs h =
     ∙ ap (drop b) (take-take (b + n) m (drop a bs) h)
     ∙ drop-take b n (drop a bs)
     ∙ ap (take n) (drop-drop b a bs)
+
+-- a byte of a region
+pub byte-at : (a n : ℕ) (bs : List ℕ) (i : ℕ) → i < n → getD (region a n bs) i 0 ≡ getD bs (a + i) 0
+byte-at a n bs i lt = getD-take n (drop a bs) i 0 lt ∙ getD-drop a bs i 0
 
 -- one byte more
 pub region-snoc : (a n : ℕ) (bs : List ℕ) → a + n < length bs → region a (suc n) bs ≡ region a n bs ++ (getD bs (a + n) 0 ∷ [])
@@ -119,6 +124,43 @@ take-overwrite (suc k) (suc n) (b ∷ bs) ys inner h = ap (λ (l : List ℕ). b 
 -- a write inside a region is a write in the region
 pub region-inside : (bs : List ℕ) (a n k : ℕ) (ys : List ℕ) → k + length ys ≤ n → a + n ≤ length bs → region a n (overwrite bs (a + k) ys) ≡ overwrite (region a n bs) k ys
 region-inside bs a n k ys inner outer = ap (take n) (drop-overwrite a k bs ys (omega arith)) ∙ take-overwrite k n (drop a bs) ys inner (rw length-drop (omega arith))
+
+-- a write inside a region is a write of the whole region
+pub overwrite-inside : (bs : List ℕ) (a n k : ℕ) (zs : List ℕ) → k + length zs ≤ n → a + n ≤ length bs
+    → overwrite bs (a + k) zs ≡ overwrite bs a (overwrite (region a n bs) k zs)
+overwrite-inside bs a n k zs inner outer =
+    ext-getD 0 (overwrite bs (a + k) zs) (overwrite bs a ys) (length-overwrite bs (a + k) zs (omega arith) ∙ sym (length-overwrite bs a ys fits)) (λ i l. at i)
+  where
+    ys : List ℕ
+    ys = overwrite (region a n bs) k zs
+
+    here : length (region a n bs) ≡ n
+    here = length-region a n bs outer
+
+    whole : length ys ≡ n
+    whole = length-overwrite (region a n bs) k zs (omega (arith, here)) ∙ here
+
+    fits : a + length ys ≤ length bs
+    fits = omega (arith, whole)
+
+    within : (j : ℕ) → j < n → getD (overwrite bs (a + k) zs) (a + j) 0 ≡ getD (overwrite bs a ys) (a + j) 0
+    within j lt =
+        sym (byte-at a n (overwrite bs (a + k) zs) j lt)
+        ∙ ap (λ (l : List ℕ). getD l j 0) (region-inside bs a n k zs inner outer)
+        ∙ sym (byte-in bs a ys fits j (omega (arith, whole)))
+
+    at : (i : ℕ) → getD (overwrite bs (a + k) zs) i 0 ≡ getD (overwrite bs a ys) i 0
+    at i =
+        elim (decLt i a) [
+          | yes below ↦ byte-before bs (a + k) zs (omega arith) i (omega arith) ∙ sym (byte-before bs a ys fits i below)
+          | no above ↦
+              elim (decLt i (a + n)) [
+                | yes inside ↦
+                    let e : a + (i - a) ≡ i = omega arith in
+                    subst (λ (x : ℕ). getD (overwrite bs (a + k) zs) x 0 ≡ getD (overwrite bs a ys) x 0) e (within (i - a) (omega arith))
+                | no past ↦ byte-after bs (a + k) zs (omega arith) i (omega arith) ∙ sym (byte-after bs a ys fits i (omega (arith, whole)))
+              ]
+        ]
 
 -- a write of one byte
 pub overwrite-one : (bs : List ℕ) (i v : ℕ) → i < length bs → overwrite bs i (v ∷ []) ≡ set bs i v

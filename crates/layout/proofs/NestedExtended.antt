@@ -10,20 +10,25 @@ use native.Mathlib.Decide.{decLt}
 use lib.Bits.{bitOr, or-zero-r}
 use lib.Dec.{eqb, leb}
 use lib.ListN.{length, getD, set, take, drop, drop-of-length-le, take-append-drop, length-set}
-use lib.Seq.{take-all, getD-take, getD-drop, length-take-le, set-append-left}
+use lib.Seq.{take-all, length-take-le, set-append-left}
 use Rattle.definition.specs.declared.paths.PathKind.{PathKind}
 use Rattle.definition.specs.declared.paths.PathKind.the-variants.{Inductive, Unknown, Coinductive, ForcedAmbiguity}
 use Rattle.definition.specs.Paths.{weakerFlags, flagOf, extendWith}
 use Rattle.definition.specs.Nested.{NestedGoals, extendFromChild}
 use Rattle.definition.specs.CacheForm.{allAtMost}
 use Rattle.buffer.specs.Regions.{region, overwrite}
-use Rattle.buffer.proofs.Regions.{length-region, region-inside, byte-after, overwrite-one, overwrite-back}
+use Rattle.buffer.proofs.Regions.{length-region, region-inside, byte-at, byte-after, overwrite-one, overwrite-back}
 use Rattle.layout.specs.Copied.{Extended}
 use Rattle.layout.proofs.NestedPaths.{flags-first, flags-more, flags-all, leb-zero, empty-flags}
 
 -- what is extended from place i on
 abbrev pub extendedFrom : ℕ → NestedGoals → PathKind → NestedGoals → NestedGoals
 extendedFrom i ns k cs = take i ns ++ extendFromChild (drop i ns) k (drop i cs)
+
+pub length-extended : (ns : NestedGoals) (k : PathKind) (cs : NestedGoals) → length (extendFromChild ns k cs) ≡ length ns
+length-extended [] k cs = refl
+length-extended (p ∷ ps) k [] = refl
+length-extended (p ∷ ps) k (c ∷ cs) = ap suc (length-extended ps k cs)
 
 -- no child
 extend-none : (ns : NestedGoals) (k : PathKind) → extendFromChild ns k [] ≡ ns
@@ -80,9 +85,6 @@ set-inside bs a ys i v fits lt =
     ap (λ (n : ℕ). set (take a bs ++ (ys ++ rest)) (n + i) v) (sym front)
     ∙ set-right (take a bs) (ys ++ rest) i v
     ∙ ap (λ (l : List ℕ). take a bs ++ l) (set-append-left ys rest i v lt ∙ ap (λ (n : ℕ). set ys i v ++ drop n (drop a bs)) (sym (length-set ys i v)))
-
-byte-at : (a n : ℕ) (bs : List ℕ) (i : ℕ) → i < n → getD (region a n bs) i 0 ≡ getD bs (a + i) 0
-byte-at a n bs i lt = getD-take n (drop a bs) i 0 lt ∙ getD-drop a bs i 0
 
 pub record Extending (s₀ : List ℕ) (to from n weaker flag : ℕ) (s : List ℕ) (all i : ℕ) : Type 0 where
   pub low : i ≤ n

@@ -1,3 +1,4 @@
 pub mod Heads
 pub mod Top
 pub mod Update
+pub mod Nested

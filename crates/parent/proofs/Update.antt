@@ -164,18 +164,17 @@ update-entry goals height i start bs mid out step o r pos e w v =
     update-both goals height bs step hs o ProvisionalCacheHit r mid out pos
     (top-same goals (height - 1) (addHeads step (height - 1) was f) bs mid w (addHeads step (height - 1) hs f) (ap (λ (l : CycleHeads). addHeads step (height - 1) l f) same)) v
 
-pub update-cycle : (goals height head goal p : ℕ) (bs mid out : List ℕ) (step : PathKind) (u : HeadUsages) (r : ℕ) → head < height → height ≤ goals → p ≡ flagOf step
-    → TopWritten goals (height - 1) (addHeadAt step (height - 1) head (record { paths = p; usages = u }) (frameAt goals (height - 1) bs)) bs mid
+pub update-cycle : (goals height head goal : ℕ) (bs mid out : List ℕ) (step : PathKind) (u : HeadUsages) (r : ℕ) → head < height → height ≤ goals
+    → TopWritten goals (height - 1) (addHeadAt step (height - 1) head (record { paths = flagOf step; usages = u }) (frameAt goals (height - 1) bs)) bs mid
     → TopWritten goals (height - 1) (addRest step false (CycleOnStack goal) r (frameAt goals (height - 1) mid)) mid out
     → Updated goals height step (insertHead (noHeads goals) head (flagOf step) u) false (CycleOnStack goal) r bs out
-update-cycle goals height head goal p bs mid out step u r lt le e w v =
+update-cycle goals height head goal bs mid out step u r lt le w v =
     let f : Frame = frameAt goals (height - 1) bs in
-    let c : CycleHead = record { paths = p; usages = u } in
+    let c : CycleHead = record { paths = flagOf step; usages = u } in
     let hs : CycleHeads = insertHead (noHeads goals) head (flagOf step) u in
-    let is : c ≡ record { paths = flagOf step; usages = u } = λ t. record { paths = e t; usages = u } in
     let inside : head < goals = omega arith in
     update-both goals height bs step hs false (CycleOnStack goal) r mid out (omega arith)
-    (top-same goals (height - 1) (addHeadAt step (height - 1) head c f) bs mid w (addHeads step (height - 1) hs f) (cycle-heads goals head inside step (height - 1) c f (flagOf step) u is)) v
+    (top-same goals (height - 1) (addHeadAt step (height - 1) head c f) bs mid w (addHeads step (height - 1) hs f) (cycle-heads goals head inside step (height - 1) c f (flagOf step) u refl)) v
 
 -- ---- the heads of the frame above
 pub frame-heads-at : (goals : ℕ) (bs : List ℕ) (i : ℕ) → headsOf goals (region (frameStart goals i + 40) (headsSize goals) bs) ≡ (frameAt goals i bs) .heads

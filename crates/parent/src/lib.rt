@@ -6,14 +6,15 @@ use layout::nested;
 use layout::offsets;
 use stack::frame::child;
 ghost use mathlib.Core.Bool.{false};
-ghost use Prim.Native.Nat.{_*_, _<_, _≤_};
+ghost use Prim.Native.Nat.{_+_, _*_, _<_, _≤_};
 ghost use Rattle.definition.specs.Paths.{flagOf};
+ghost use Rattle.definition.specs.Usages.{oneUsage};
 ghost use Rattle.definition.specs.Heads.{noHeads, insertHead};
 ghost use Rattle.definition.specs.Parent.{addHeads, addRest, Ordinary, CycleOnStack, ProvisionalCacheHit};
 ghost use Rattle.stack.specs.Bytes.{GraphBytes, frameAt};
-ghost use Rattle.stack.specs.Child.{addHeadAt};
+ghost use Rattle.stack.specs.Child.{addHeadAt, cycleHead, finishNested};
 ghost use Rattle.stack.specs.Written.{TopChanged};
-ghost use Rattle.parent.specs.Updated.{HeadsAbove, headsIn, entryHeads, Updated};
+ghost use Rattle.parent.specs.Updated.{HeadsAbove, headsIn, entryHeads, nestedAt, NestedJoined, Updated};
 
 // ---- the frame at index `own`, on top
 
@@ -27,10 +28,11 @@ fn add_head(graph: &mut [u8], goals: usize, own: usize, step: PathKind, i: usize
     child::add_head(&mut graph[start..end], goals, own, step, i, head);
 }
 
-// A goal on the stack, at index i, by a cycle of a kind.
+// A goal on the stack, at index i, used once by a cycle of a kind.
 fn count_head(graph: &mut [u8], goals: usize, own: usize, step: PathKind, i: usize, kind: PathKind)
     requires { ⌜ GraphBytes goals (now graph) × ((own < goals) × (i < goals)) ⌝ }
-    ensures { λ _. ⌜ TopChanged goals own (addHeadAt step own i (cycleHead step kind)) (now (graph .entry)) (now (graph .exit)) ⌝ }
+    ensures { λ _. ⌜ TopChanged goals own (addHeadAt step own i (cycleHead step kind)) (now (graph .entry))
+        (now (graph .exit)) ⌝ }
 {
     let start = offsets::frame_start(goals, own);
     let end = start + offsets::frame_size(goals);
@@ -115,6 +117,35 @@ fn add_cycle(
     child::add_cycle(&mut graph[start..end], goals, step, goal, reached);
 }
 
+// The nested goals, with those of the frame above; whether that frame has none.
+fn extend_nested(graph: &mut [u8], goals: usize, own: usize, step: PathKind) -> bool
+    requires { ⌜ GraphBytes goals (now graph) × (own + 1 < goals) ⌝ }
+    ensures { λ r. ⌜ NestedJoined goals own step (now (graph .entry)) (now (graph .exit)) r ⌝ }
+{
+    let start = offsets::frame_start(goals, own);
+    let to = start + offsets::nested_start(goals);
+    let from = to + offsets::frame_size(goals);
+    nested::extend_within(graph, to, from, goals, step)
+}
+
+// The rest, after the goal whose nested goals these are.
+fn add_evaluated(
+    graph: &mut [u8],
+    goals: usize,
+    own: usize,
+    overflow: bool,
+    none: bool,
+    reached: usize,
+)
+    requires { ⌜ GraphBytes goals (now graph) × (own < goals) ⌝ }
+    ensures { λ _. ⌜ TopChanged goals own (finishNested overflow none reached) (now (graph .entry))
+        (now (graph .exit)) ⌝ }
+{
+    let start = offsets::frame_start(goals, own);
+    let end = start + offsets::frame_size(goals);
+    child::add_evaluated(&mut graph[start..end], goals, overflow, none, reached);
+}
+
 // ---- the parent
 
 // After a goal that was found in the global cache.
@@ -181,23 +212,7 @@ pub fn update_from_cycle(
     add_cycle(graph, goals, height - 1, step, goal, reached);
 }
 
-// The nested goals of the frame at index `own`, with those of the frame above it.
-fn extend_nested(graph: &mut [u8], goals: usize, own: usize, step: PathKind) -> bool
-{
-    let to = offsets::frame_start(goals, own) + offsets::nested_start(goals);
-    let from = to + offsets::frame_size(goals);
-    nested::extend_within(graph, to, from, goals, step)
-}
-
-// The rest
-fn add_evaluated(graph: &mut [u8], goals: usize, own: usize, overflow: bool, some: bool, reached: usize)
-{
-    let start = offsets::frame_start(goals, own);
-    let end = start + offsets::frame_size(goals);
-    child::add_evaluated(&mut graph[start..end], goals, overflow, some, reached);
-}
-
-// After the goal whose frame stood above the parent.
+// After the goal whose frame stood above the parent, with that frame's heads and nested goals.
 pub fn update_from_frame(
     graph: &mut [u8],
     goals: usize,
@@ -206,12 +221,15 @@ pub fn update_from_frame(
     overflow: bool,
     reached: usize,
 )
+    requires { ⌜ GraphBytes goals (now graph) × (height < goals) ⌝ }
+    ensures { λ _. ⌜ Updated goals height step ((frameAt goals height (now (graph .entry))) .heads) overflow
+        (Ordinary (nestedAt goals height (now (graph .entry)))) reached (now (graph .entry)) (now (graph .exit)) ⌝ }
 {
     if height == 0 {
         return;
     }
     let start = offsets::frame_start(goals, height) + offsets::FRAME_HEADS;
     add_heads(graph, goals, height - 1, step, start);
-    let some = extend_nested(graph, goals, height - 1, step);
-    add_evaluated(graph, goals, height - 1, overflow, some, reached);
+    let none = extend_nested(graph, goals, height - 1, step);
+    add_evaluated(graph, goals, height - 1, overflow, none, reached);
 }

@@ -14,7 +14,7 @@ use Rattle.buffer.specs.Regions.{region, overwrite}
 use Rattle.buffer.specs.Tables.{recordAt}
 use Rattle.buffer.proofs.Regions.{length-region, region-before, region-region, region-inside, region-snoc, byte-before, overwrite-snoc, length-overwrite}
 use Rattle.buffer.proofs.Tables.{apart, down-same}
-use Rattle.layout.specs.Blocks.{headsSize}
+use Rattle.layout.specs.Copied.{HeadsCopied}
 use Rattle.layout.specs.Entry.{entryHeadsStart, entrySize, entryOf}
 use Rattle.layout.specs.Frame.{headsStart, frameSize, frameOf}
 use Rattle.layout.specs.Work.{entriesStart, entryStartFrom, entryStart, entriesLength, frameStart, stackOf, entriesOf}
@@ -25,6 +25,7 @@ use Rattle.stack.proofs.Parts.{part, returned}
 use Rattle.provisional_cache.specs.Entries.{EntriesBytes, entryBytes, entryAt, entryOn, withFields, FramesKept}
 use Rattle.provisional_cache.specs.Inserts.{Appended}
 use Rattle.provisional_cache.proofs.Entries.{graph-entries, part-is, entry-back, entry-whole}
+use Rattle.provisional_cache.proofs.Copies.{entries-low, entry-heads-there, frame-heads-there}
 use Rattle.provisional_cache.proofs.Loops.{frames-then, graph-bytes}
 
 -- the bytes of a frame are among those that are kept
@@ -61,80 +62,23 @@ module _ (goals base : ℕ) (bs : List ℕ) (long : length bs ≡ base + entries
   pub below-whole : (k : ℕ) (ys : List ℕ) → k < 2 * goals → length ys ≡ entrySize goals → region 0 base (overwrite bs (entryStartFrom goals base k) ys) ≡ region 0 base bs
   below-whole k ys lt whole = region-before bs (entryStartFrom goals base k) ys (fits-whole goals base bs long k ys lt whole) 0 base (omega arith)
 
--- ---- `copy_up`
-pub copy-up-more : (bs s : List ℕ) (from to n i : ℕ) → s ≡ overwrite bs to (region from i bs) → from + n ≤ to → to + n ≤ length bs → i < n
-    → set s (to + i) (getD s (from + i) 0) ≡ overwrite bs to (region from (i + 1) bs)
-copy-up-more bs s from to n i e up room lt =
-    let len = length-region from i bs (omega arith) in
-    let fits : to + length (region from i bs) ≤ length bs = omega arith in
-    let kept : getD s (from + i) 0 ≡ getD bs (from + i) 0 = ap (λ (l : List ℕ). getD l (from + i) 0) e ∙ byte-before bs to (region from i bs) fits (from + i) (omega arith) in
-    ap₂ (λ (l : List ℕ) (m : ℕ). set l (to + m) (getD s (from + i) 0)) e (sym len)
-    ∙ overwrite-snoc bs to (region from i bs) fits (getD s (from + i) 0) (omega arith)
-    ∙ ap (λ (v : ℕ). overwrite bs to (region from i bs ++ (v ∷ []))) kept
-    ∙ ap (overwrite bs to) (sym (region-snoc from i bs (omega arith)) ∙ ap (λ (m : ℕ). region from m bs) (sym (add-one i)))
-
--- ---- `copy_heads`: n bytes from a on go to b
-copy-order : (f s size h x : ℕ) → h + s ≤ f → 40 + size ≤ s → h + 40 + size ≤ f + x + entryHeadsStart
-copy-order f s size h x p q = omega arith
-
-pub copy-room : (goals height i a b n : ℕ) (bs : List ℕ) → GraphBytes goals bs → height < goals → i < 2 * goals → a ≡ frameStart goals height + 40 → b ≡ entryStart goals i + entryHeadsStart → n ≡ headsSize goals
-    → (a + n ≤ b) × (b + n ≤ length bs)
-copy-room goals height i a b n bs g under lt is-a is-b is-n =
-    let size : ℕ = headsSize goals in
-    let wide : 40 + size ≤ frameSize goals = omega arith in
-    let inner : entryHeadsStart + size ≤ entrySize goals = omega arith in
-    let first = copy-order (entriesStart goals) (frameSize goals) size (frameStart goals height) (i * entrySize goals) (apart height goals (frameSize goals) under) wide in
-    let second = into-fits (entryStart goals i) entryHeadsStart size inner (entry-room goals (entriesStart goals) bs (g .long) i lt) in (
-      subst (λ (x : ℕ). x ≤ b) (sym (ap₂ (λ (x y : ℕ). x + y) is-a is-n)) (subst (λ (x : ℕ). frameStart goals height + 40 + size ≤ x) (sym is-b) first),
-      subst (λ (x : ℕ). x ≤ length bs) (sym (ap₂ (λ (x y : ℕ). x + y) is-b is-n)) second,
-    )
-
-pub copy-is : (goals height i a b n : ℕ) (bs new : List ℕ) → a ≡ frameStart goals height + 40 → b ≡ entryStart goals i + entryHeadsStart → n ≡ headsSize goals
-    → new ≡ overwrite bs b (region a n bs) → new ≡ overwrite bs (entryStart goals i + entryHeadsStart) (region headsStart (headsSize goals) (frameBytes goals height bs))
-copy-is goals height i a b n bs new is-a is-b is-n is =
-    is
-    ∙ ap₂ (λ (k : ℕ) (l : List ℕ). overwrite bs k l) is-b
-    (ap₂ (λ (k m : ℕ). region k m bs) is-a is-n ∙ sym (region-region (frameStart goals height) (frameSize goals) headsStart (headsSize goals) bs (omega arith)))
-
 -- ---- `append`: the heads are copied, then the small fields are written in entry k, at a, of n bytes
-module _ (goals height k : ℕ) (bs mid : List ℕ) (g : GraphBytes goals bs) (under : height < goals) (lt : k < 2 * goals)
-    (is-mid : mid ≡ overwrite bs (entryStart goals k + entryHeadsStart) (region headsStart (headsSize goals) (frameBytes goals height bs))) where
-  abbrev hs : List ℕ
-  hs = region headsStart (headsSize goals) (frameBytes goals height bs)
-
-  wide-frame : length (frameBytes goals height bs) ≡ frameSize goals
-  wide-frame = length-region (frameStart goals height) (frameSize goals) bs (frame-room goals bs (g .long) height under)
-
-  wide-entry : length (entryBytes goals k bs) ≡ entrySize goals
-  wide-entry = length-region (entryStart goals k) (entrySize goals) bs (entry-room goals (entriesStart goals) bs (g .long) k lt)
-
-  wide-heads : length hs ≡ headsSize goals
-  wide-heads = length-region headsStart (headsSize goals) (frameBytes goals height bs) (subst (λ (x : ℕ). headsStart + headsSize goals ≤ x) (sym wide-frame) (omega arith))
-
-  inner : entryHeadsStart + length hs ≤ entrySize goals
-  inner = subst (λ (x : ℕ). entryHeadsStart + x ≤ entrySize goals) (sym wide-heads) (omega arith)
-
-  pub mid-length : length mid ≡ length bs
-  mid-length = ap length is-mid ∙ length-overwrite bs (entryStart goals k + entryHeadsStart) hs (fits-entry goals (entriesStart goals) bs (g .long) k entryHeadsStart hs lt inner)
-
+module _ (goals height k : ℕ) (bs mid : List ℕ) (g : GraphBytes goals bs) (lt : k < 2 * goals) (same : length mid ≡ length bs)
+    (copied : HeadsCopied goals (frameStart goals height + headsStart) (entryStart goals k + entryHeadsStart) bs mid) where
   pub mid-bytes : GraphBytes goals mid
-  mid-bytes = graph-bytes goals bs mid g mid-length
+  mid-bytes = graph-bytes goals bs mid g same
 
   pub mid-entries-bytes : EntriesBytes goals (entriesStart goals) mid
   mid-entries-bytes = graph-entries goals mid mid-bytes
 
   mid-frames : FramesKept goals bs mid
-  mid-frames = frames-of goals bs mid (ap (region 0 (entriesStart goals)) is-mid ∙ below-inside goals (entriesStart goals) bs (g .long) k entryHeadsStart hs lt inner)
+  mid-frames = frames-of goals bs mid (copied .others .before 0 (entriesStart goals) (omega arith))
 
   mid-entries : entriesOf goals k mid ≡ entriesOf goals k bs
-  mid-entries = ap (entriesOf goals k) is-mid ∙ entries-under goals (entriesStart goals) bs (g .long) k entryHeadsStart hs lt inner k (omega arith)
+  mid-entries = entries-low goals (entriesStart goals) k bs mid (λ b m h. copied .others .before b m (omega arith)) k (omega arith)
 
   mid-heads : (entryAt goals k mid) .heads ≡ (frameAt goals height bs) .heads
-  unfolding frameOf
-  mid-heads =
-      ap (λ (l : List ℕ). (entryOf goals l) .heads)
-      (ap (region (entryStart goals k) (entrySize goals)) is-mid ∙ region-inside bs (entryStart goals k) (entrySize goals) entryHeadsStart hs inner (entry-room goals (entriesStart goals) bs (g .long) k lt))
-      ∙ ap (λ (e : Entry). e .heads) (entry-heads goals (entryBytes goals k bs) wide-entry hs wide-heads)
+  mid-heads = sym (entry-heads-there goals (entriesStart goals) k mid) ∙ copied .heads ∙ frame-heads-there goals height bs
 
   module _ (a n : ℕ) (is-a : a ≡ entryStart goals k) (is-n : n ≡ entrySize goals) (ys : List ℕ) (kept : length ys ≡ length (part mid a (a + n))) where
     back : returned mid a (a + n) ys ≡ overwrite mid (entryStart goals k) ys

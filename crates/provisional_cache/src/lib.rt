@@ -8,16 +8,14 @@ use layout::offsets;
 use stack::frame;
 ghost use mathlib.Core.Path.{_≡_};
 ghost use Prim.Native.Nat.{_+_, _*_, _≤_, _<_};
-ghost use lib.ListN.{length};
-ghost use Rattle.buffer.specs.Regions.{region, overwrite};
 ghost use Rattle.definition.specs.Lookup.{noneOrAbove, entryMatches, entryApplies, anyEntryApplies};
-ghost use Rattle.layout.specs.Blocks.{headsSize};
+ghost use Rattle.layout.specs.Copied.{HeadsCopied};
 ghost use Rattle.layout.specs.Frame.{headsStart};
 ghost use Rattle.layout.specs.Entry.{entryHeadsStart, entryOf};
-ghost use Rattle.layout.specs.Work.{entryStart, stackOf, entriesOf};
-ghost use Rattle.stack.specs.Bytes.{GraphBytes, StackBytes, frameBytes, frameAt};
+ghost use Rattle.layout.specs.Work.{frameStart, entryStart, stackOf, entriesOf};
+ghost use Rattle.stack.specs.Bytes.{GraphBytes, StackBytes, frameAt};
 ghost use Rattle.provisional_cache.specs.Entries.{EntryBytes, EntriesBytes, entryBytesFrom, entryBytes, entryOn};
-ghost use Rattle.provisional_cache.specs.Matches.{lowestHead, hidden, FirstMatch};
+ghost use Rattle.provisional_cache.specs.Matches.{lowestHead, hidden, NextOf, FirstMatch};
 ghost use Rattle.provisional_cache.specs.Inserts.{pathFromHighest, Appended, Inserted};
 
 pub mod entry;
@@ -102,6 +100,23 @@ fn is_match(
     path.same(stack::cycle_path_kind(graph, goals, height, step, head))
 }
 
+// The first entry of the goal from entry `from` on, or the number of entries where there is none.
+// Most entries are of other goals: this loop reads one byte of each and no more.
+fn next_of(graph: &[u8], goals: usize, entries: usize, goal: usize, from: usize) -> usize
+    requires { ⌜ GraphBytes goals (now graph) × ((entries ≤ 2 * goals) × (from ≤ entries)) ⌝ }
+    ensures { λ r. ⌜ NextOf goals entries goal from (now (graph .entry)) r ⌝ }
+{
+    let mut i = from;
+    while i < entries {
+        let entry = entry_at(graph, goals, i);
+        if entry::input(entry, goals) == goal {
+            return i;
+        }
+        i = i + 1;
+    }
+    entries
+}
+
 // The first of the entries that answers the goal, or their number where none does. Entries
 // of one goal under different heads may all fit; which one is taken decides what the parent
 // learns, so it is the one that was inserted first, as in mod.rs.
@@ -116,13 +131,13 @@ pub fn first_match(
     requires { ⌜ StackBytes goals height (now graph) × (entries ≤ 2 * goals) ⌝ }
     ensures { λ r. ⌜ FirstMatch goals height entries goal step (now (graph .entry)) r ⌝ }
 {
-    let mut i: usize = 0;
+    let mut i = next_of(graph, goals, entries, goal, 0);
     while i < entries {
         let entry = entry_at(graph, goals, i);
         if is_match(entry, graph, goals, height, goal, step) {
             return i;
         }
-        i = i + 1;
+        i = next_of(graph, goals, entries, goal, i + 1);
     }
     entries
 }
@@ -183,9 +198,8 @@ pub fn any_applies(
 // The heads of the frame at index `height` become those of entry i.
 fn copy_heads(graph: &mut [u8], goals: usize, height: usize, i: usize)
     requires { ⌜ GraphBytes goals (now graph) × ((height < goals) × (i < 2 * goals)) ⌝ }
-    ensures { λ _. ⌜ now (graph .exit)
-        ≡ overwrite (now (graph .entry)) (entryStart goals i + entryHeadsStart)
-        (region headsStart (headsSize goals) (frameBytes goals height (now (graph .entry)))) ⌝ }
+    ensures { λ _. ⌜ HeadsCopied goals (frameStart goals height + headsStart) (entryStart goals i + entryHeadsStart)
+        (now (graph .entry)) (now (graph .exit)) ⌝ }
 {
     let a = offsets::frame_start(goals, height) + offsets::FRAME_HEADS;
     let b = offsets::entry_start(goals, i) + offsets::ENTRY_HEADS;

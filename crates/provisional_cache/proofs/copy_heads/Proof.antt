@@ -1,10 +1,17 @@
-use mathlib.Core.Path.{ap}
+use mathlib.Core.Path.{ap, subst}
 use Prim.Native.Nat.{ℕ, _+_}
+use Rattle.layout.specs.Copied.{HeadsCopied}
 use Rattle.layout.specs.Entry.{entryHeadsStart}
-use Rattle.provisional_cache.proofs.Writes.{copy-room, copy-is}
+use Rattle.layout.specs.Work.{entryStart}
+use Rattle.provisional_cache.proofs.Copies.{copy-apart}
 use borrow.Author.Needs.{needs}
 use Rattle.provisional_cache.proofs.copy_heads.Statement.{statement}
 use Rattle.provisional_cache.proofs.copy_heads.Tie as tie
+use Rattle.provisional_cache.proofs.copy_heads.Reads as reads
+use Rattle.provisional_cache.proofs.copy_heads.Lts as lts
+use Rattle.layout.proofs.heads.copy.Reads as copy-reads
+use Rattle.layout.proofs.offsets.entry_start.Reads as entry-start-reads
+use Rattle.layout.proofs.offsets.frame_start.Reads as frame-start-reads
 
 frame-start-requires : tie.Need-frame-start-requires
 frame-start-requires c κs = search needs
@@ -18,33 +25,16 @@ entry-start-requires c κs = search needs
 add-b : tie.Need-add-b
 add-b c = search needs
 
-heads-size-requires : tie.Need-heads-size-requires
-heads-size-requires c κs = search needs
-
-copy-up-requires : tie.Need-copy-up-requires
-copy-up-requires c κs =
-    let s = c .before .before .before .before .before in
-    let frame-start = c .before .before .before .frame-start in
-    let entry-start = c .before .before .entry-start in
-    let heads-size = c .heads-size in
-    copy-room (s .args .goals) (s .args .height) (s .args .i) (frame-start .result + 40) (entry-start .result + entryHeadsStart) (heads-size .result)
-    (s .args .graph .now) (s .pre .0) (s .pre .1 .0) (s .pre .1 .1) (ap (λ (x : ℕ). x + 40) (frame-start .ensures .0))
-    (ap (λ (x : ℕ). x + entryHeadsStart) (entry-start .ensures .0)) (heads-size .ensures)
-
+copy-requires : tie.Need-copy-requires
+copy-requires c κs = let s = c .before .before .before .before in copy-apart (s .args .goals) (s .args .height) (s .args .i) (c .before .before .frame-start .result + 40) (c .before .entry-start .result + entryHeadsStart) (s .args .graph .now) (s .pre .0) (s .pre .1 .0) (s .pre .1 .1) (ap (λ (x : ℕ). x + 40) (c .before .before .frame-start .ensures .0)) (ap (λ (x : ℕ). x + entryHeadsStart) (c .before .entry-start .ensures .0))
 same-length : tie.Need-same-length
 same-length c = search needs
 
 returns : tie.Need-returns
 returns c =
-    let s = c .before .before .before .before .before .before .before .before in
-    let frame-start = c .before .before .before .before .before .before .frame-start in
-    let entry-start = c .before .before .before .before .before .entry-start in
-    let heads-size = c .before .before .before .heads-size in
-    let copy-up = c .before .before .copy-up in
-    copy-is (s .args .goals) (s .args .height) (s .args .i) (frame-start .result + 40) (entry-start .result + entryHeadsStart) (heads-size .result)
-    (s .args .graph .now) (copy-up .last .0) (ap (λ (x : ℕ). x + 40) (frame-start .ensures .0))
-    (ap (λ (x : ℕ). x + entryHeadsStart) (entry-start .ensures .0)) (heads-size .ensures) (copy-up .ensures)
-
+    let s = c .before .before .before .before .before .before .before in
+    subst (λ (a : ℕ). HeadsCopied (s .args .goals) a (entryStart (s .args .goals) (s .args .i) + entryHeadsStart) (s .args .graph .now) (c .before .before .copy .last .0)) (ap (λ (x : ℕ). x + 40) (c .before .before .before .before .before .frame-start .ensures .0))
+    (subst (λ (b : ℕ). HeadsCopied (s .args .goals) (c .before .before .before .before .before .frame-start .result + 40) b (s .args .graph .now) (c .before .before .copy .last .0)) (ap (λ (x : ℕ). x + entryHeadsStart) (c .before .before .before .before .entry-start .ensures .0)) (c .before .before .copy .ensures))
 pub copy-heads-spec : {M : Type 1} → statement M
 copy-heads-spec =
     tie.close
@@ -53,7 +43,6 @@ copy-heads-spec =
     add-a
     entry-start-requires
     add-b
-    heads-size-requires
-    copy-up-requires
+    copy-requires
     same-length
     returns)

@@ -19,15 +19,20 @@ Inv-loop graph goals height entries goal step i₀ i =
 abbrev μ-loop : tie.MeasureT-loop
 μ-loop graph goals height entries goal step i₀ i = entries - i
 
+next-of-requires : tie.Need-next-of-requires Inv-loop μ-loop
+next-of-requires c κs = let s = c .before in (s .pre .0 .bytes, (s .pre .1, omega arith))
+
 loop-holds : tie.Need-loop-holds Inv-loop μ-loop
-loop-holds c = (omega arith, refl)
+loop-holds c =
+    let s = c .before .before in
+    (c .next-of .ensures .few, c .next-of .ensures .is (stackOf (s .args .goals) (s .args .height) (s .args .graph .now)) (s .args .step))
 
 entry-at-requires : tie.Need-entry-at-requires Inv-loop μ-loop
-entry-at-requires c κs = let s = c .before .before .before in (s .pre .0 .bytes, omega arith)
+entry-at-requires c κs = let s = c .before .before .before .before in (s .pre .0 .bytes, omega arith)
 
 is-match-requires : tie.Need-is-match-requires Inv-loop μ-loop
 is-match-requires c κs =
-    let s = c .before .before .before .before in
+    let s = c .before .before .before .before .before in
     let lt : c .before .before .loop .i < 2 * s .args .goals = omega arith in
     let entry-at = c .entry-at in (
       entry-at-bytes (s .args .goals) (s .args .graph .now) (entry-at .result .now) (c .before .before .loop .i) (s .pre .0 .bytes) lt
@@ -37,7 +42,7 @@ is-match-requires c κs =
 
 returns : tie.Need-returns Inv-loop μ-loop
 returns c =
-    let s = c .before .before .before .before .before .before in
+    let s = c .before .before .before .before .before .before .before in
     let l = c .before .before .before .before .loop in
     let loop-test = c .before .before .before .loop-test in
     let entry-at = c .before .before .entry-at in
@@ -56,33 +61,35 @@ returns c =
           ∙ c .if1 .taken);
     }
 
-add-i : tie.Need-add-i Inv-loop μ-loop
-add-i c = omega arith
+add-next-of : tie.Need-add-next-of Inv-loop μ-loop
+add-next-of c = omega arith
+
+next-of-requires-2 : tie.Need-next-of-requires-2 Inv-loop μ-loop
+next-of-requires-2 c κs = let s = c .before .before .before .before .before .before .before in (s .pre .0 .bytes, (s .pre .1, omega arith))
 
 loop-less : tie.Need-loop-less Inv-loop μ-loop
-loop-less c = omega arith
+loop-less c = let up = c .next-of2 .ensures .least in omega arith
 
 loop-again : tie.Need-loop-again Inv-loop μ-loop
 loop-again c =
-    let s = c .before .before .before .before .before .before in
-    let l = c .before .before .before .before .loop in
-    let loop-test = c .before .before .before .loop-test in
-    let entry-at = c .before .before .entry-at in (
-      omega arith,
-      match-next (s .args .goals) (s .args .graph .now) (s .args .entries) (l .i)
-          (stackOf (s .args .goals) (s .args .height) (s .args .graph .now)) (s .args .goal) (s .args .step)
-          (firstMatch (stackOf (s .args .goals) (s .args .height) (s .args .graph .now)) (s .args .goal) (s .args .step)
-          (entriesOf (s .args .goals) (s .args .entries) (s .args .graph .now))) (l .inv .1) (loop-test .taken)
+    let s = c .before .before .before .before .before .before .before .before in
+    let l = c .before .before .before .before .before .loop in
+    let loop-test = c .before .before .before .before .loop-test in
+    let entry-at = c .before .before .before .entry-at in
+    let st = stackOf (s .args .goals) (s .args .height) (s .args .graph .now) in (
+      c .next-of2 .ensures .few,
+      c .next-of2 .ensures .is st (s .args .step)
+          ∙ match-next (s .args .goals) (s .args .graph .now) (s .args .entries) (l .i) st (s .args .goal) (s .args .step)
+          (firstMatch st (s .args .goal) (s .args .step) (entriesOf (s .args .goals) (s .args .entries) (s .args .graph .now))) (l .inv .1) (loop-test .taken)
           (sym
-          (c .before .is-match .ensures
-          ∙ read-at {A = Bool} (entryMatches (stackOf (s .args .goals) (s .args .height) (s .args .graph .now)) (s .args .goal) (s .args .step))
-          (s .args .goals) (s .args .graph .now) (l .i) (entry-at .result .now) (entry-at .ensures))
-          ∙ c .if1 .left),
+          (c .before .before .is-match .ensures
+          ∙ read-at {A = Bool} (entryMatches st (s .args .goal) (s .args .step)) (s .args .goals) (s .args .graph .now) (l .i) (entry-at .result .now) (entry-at .ensures))
+          ∙ c .before .if1 .left),
     )
 
 returns-2 : tie.Need-returns-2 Inv-loop μ-loop
 returns-2 c =
-    let s = c .before .before .before in
+    let s = c .before .before .before .before in
     let l = c .before .loop in
     record {
       few = omega arith;
@@ -99,11 +106,13 @@ first-match-spec =
     (tie.spec
     Inv-loop
     μ-loop
+    next-of-requires
     loop-holds
     entry-at-requires
     is-match-requires
     returns
-    add-i
+    add-next-of
+    next-of-requires-2
     loop-less
     loop-again
     returns-2)

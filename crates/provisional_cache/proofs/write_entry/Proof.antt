@@ -30,8 +30,8 @@ part-start-end c =
     let entry-start = c .before .entry-start in
     let entry-size = c .entry-size in
     part-room (s .args .goals) (entriesStart (s .args .goals)) (copy-heads .last .0) (s .args .i) (entry-start .result) (entry-size .result)
-    (mid-entries-bytes (s .args .goals) (s .args .height) (s .args .i) (s .args .graph .now) (copy-heads .last .0) (s .pre .0) (s .pre .1 .0)
-    (s .pre .1 .1 .0) (copy-heads .ensures)) (s .pre .1 .1 .0) (entry-start .ensures .0) (entry-size .ensures)
+    (mid-entries-bytes (s .args .goals) (s .args .height) (s .args .i) (s .args .graph .now) (copy-heads .last .0) (s .pre .0)
+    (s .pre .1 .1 .0) (copy-heads .kept .0) (copy-heads .ensures)) (s .pre .1 .1 .0) (entry-start .ensures .0) (entry-size .ensures)
 
 start-requires : tie.Need-start-requires
 start-requires c κs = search needs
@@ -47,8 +47,8 @@ returns c =
     let copy-heads = c8 .copy-heads in
     let entry-start = c5 .entry-start in
     let entry-size = c4 .entry-size in
-    appended (s .args .goals) (s .args .height) (s .args .i) (s .args .graph .now) (copy-heads .last .0) (s .pre .0) (s .pre .1 .0)
-    (s .pre .1 .1 .0) (copy-heads .ensures) (entry-start .result) (entry-size .result) (entry-start .ensures .0) (entry-size .ensures)
+    appended (s .args .goals) (s .args .height) (s .args .i) (s .args .graph .now) (copy-heads .last .0) (s .pre .0)
+    (s .pre .1 .1 .0) (copy-heads .kept .0) (copy-heads .ensures) (entry-start .result) (entry-size .result) (entry-start .ensures .0) (entry-size .ensures)
     (b .last .0) (b .kept .0) (s .args .goal) (s .args .overflow) (s .args .path) (s .args .answer) (b .ensures)
 
 pub write-entry-spec : {M : Type 1} → statement M
