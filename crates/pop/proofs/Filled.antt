@@ -4,20 +4,18 @@ use mathlib.Core.List.{List}
 use Prim.Native.Nat.{ℕ, _+_, _≤_, _<_}
 use native.Mathlib.Omega.{arith}
 use native.Mathlib.Decide.{decLt}
-use lib.ListN.{length, set, replicate, length-set, length-replicate, getD-replicate}
+use lib.ListN.{length, getD, set, replicate, length-set, length-replicate, getD-replicate}
 use lib.Seq.{getD-set-same, getD-set-other}
 use Rattle.definition.specs.declared.paths.PathKind.{PathKind}
-use Rattle.definition.specs.Paths.{kindNumber, kindOf}
+use Rattle.definition.specs.Paths.{kindNumber}
 use Rattle.definition.specs.Stack.{Stack, cyclePathKind}
-use Rattle.definition.proofs.Numbers.{kind-back}
-use Rattle.pop.specs.Popped.{pathAt}
 
 -- those below i, and the step at the others
 pub record Filling (s : Stack) (step : PathKind) (popped : ℕ) (paths : List ℕ) (i : ℕ) : Type 0 where
   pub few : i ≤ popped
   pub long : length paths ≡ 64
-  pub below : (j : ℕ) → j < i → pathAt paths j ≡ cyclePathKind s step j
-  pub above : (j : ℕ) → i ≤ j → j < 64 → pathAt paths j ≡ step
+  pub below : (j : ℕ) → j < i → getD paths j 0 ≡ kindNumber (cyclePathKind s step j)
+  pub above : (j : ℕ) → i ≤ j → j < 64 → getD paths j 0 ≡ kindNumber step
 
 module _ (s : Stack) (step : PathKind) (popped : ℕ) where
   pub filling-start : (n : ℕ) → n ≡ kindNumber step → Filling s step popped (replicate 64 n) 0
@@ -26,7 +24,7 @@ module _ (s : Stack) (step : PathKind) (popped : ℕ) where
         few = omega arith;
         long = length-replicate 64 n;
         below = λ j lt. absurd (omega arith);
-        above = λ j up lt. ap kindOf (getD-replicate 64 j n 0 lt ∙ is) ∙ kind-back step;
+        above = λ j up lt. getD-replicate 64 j n 0 lt ∙ is;
       }
 
   pub filling-next : (paths : List ℕ) (i n : ℕ) (kind : PathKind) → Filling s step popped paths i → i < popped
@@ -39,22 +37,21 @@ module _ (s : Stack) (step : PathKind) (popped : ℕ) where
         long = length-set paths i n ∙ inv .long;
         below = λ j h.
             elim (decLt j i) [
-              | yes lo ↦ ap kindOf (getD-set-other paths i j n 0 (λ e. omega arith)) ∙ inv .below j lo
+              | yes lo ↦ getD-set-other paths i j n 0 (λ e. omega arith) ∙ inv .below j lo
               | no hi ↦
                   let e : j ≡ i = omega arith in
-                  ap (pathAt (set paths i n)) e ∙ ap kindOf (getD-set-same paths i n 0 (omega arith) ∙ is-n)
-                  ∙ kind-back kind ∙ is-kind
-                  ∙ ap (cyclePathKind s step) (sym e)
+                  ap (λ (m : ℕ). getD (set paths i n) m 0) e ∙ getD-set-same paths i n 0 (omega arith) ∙ is-n
+                  ∙ ap kindNumber (is-kind ∙ ap (cyclePathKind s step) (sym e))
             ];
-        above = λ j up h. ap kindOf (getD-set-other paths i j n 0 (λ e. omega arith)) ∙ inv .above j (omega arith) h;
+        above = λ j up h. getD-set-other paths i j n 0 (λ e. omega arith) ∙ inv .above j (omega arith) h;
       }
 
   -- the frames end at `popped`: from there on no path is longer than the step
   pub filling-done : ((j : ℕ) → popped ≤ j → step ≡ cyclePathKind s step j) → (paths : List ℕ) (i : ℕ)
       → Filling s step popped paths i → popped ≤ i
-      → (j : ℕ) → j < 64 → pathAt paths j ≡ cyclePathKind s step j
+      → (j : ℕ) → j < 64 → getD paths j 0 ≡ kindNumber (cyclePathKind s step j)
   filling-done outside paths i inv end j lt =
       elim (decLt j i) [
         | yes h ↦ inv .below j h
-        | no h ↦ inv .above j (omega arith) lt ∙ outside j (omega arith)
+        | no h ↦ inv .above j (omega arith) lt ∙ ap kindNumber (outside j (omega arith))
       ]

@@ -2,6 +2,7 @@ pub mod Tests
 pub mod Kept
 pub mod Writes
 pub mod Filled
+pub mod Bounds
 pub mod Loops
 pub mod Entries
 pub mod Rounds

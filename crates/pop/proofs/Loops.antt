@@ -1,16 +1,15 @@
 -- The turns of the loops over the heads of the popped frame.
 use mathlib.Core.Path.{_≡_, refl, sym, ap, ap₂, _∙_}
-use mathlib.Core.Bool.{Bool, true, false, not, _&&_}
+use mathlib.Core.Bool.{Bool, true, false, _&&_, and-true, and-assoc}
 use mathlib.Core.Option.{none, some, Option·none-ne-some, Option·some-ne-none}
 use mathlib.Core.List.{List, [], _∷_, _++_}
-use Prim.Native.Nat.{ℕ, zero, suc, _+_, _^_, _≤_, _<_}
+use Prim.Native.Nat.{ℕ, zero, suc, _+_, _^_, _≤_, _<_, min, max}
 use native.Mathlib.Nat.{zero-add, add-zero}
 use native.Mathlib.Omega.{arith}
-use borrow.Author.Tests.{not-true, not-false}
 use lib.ListN.{length, getD, set, replicate}
 use Rattle.definition.specs.declared.paths.PathKind.{PathKind}
 use Rattle.definition.specs.declared.heads.CycleHead.{CycleHead}
-use Rattle.definition.specs.Paths.{extend, iterPaths}
+use Rattle.definition.specs.Paths.{kindNumber, extend, iterPaths}
 use Rattle.definition.specs.Heads.{CycleHeads, joinHead, forEachHead}
 use Rattle.definition.specs.Stack.{Stack, Frame, cyclePathKind}
 use Rattle.definition.specs.Graph.{Entry, withEntryHeads}
@@ -22,12 +21,13 @@ use Rattle.layout.proofs.Marks.{turn-within, end-none, each-one, each-clear}
 use Rattle.layout.specs.Frame.{frameSize}
 use Rattle.layout.specs.Work.{entryFrom}
 use Rattle.provisional_cache.specs.Entries.{withJoinedHead}
-use Rattle.pop.specs.Popped.{poppedFrame, PoppedHead}
+use Rattle.pop.specs.Popped.{poppedFrame, PoppedHead, boundKeeps, lowestOf}
 use Rattle.pop.specs.Heads.{gainedHead, gainHead, gainedEntry}
 use Rattle.pop.specs.Rebased.{OthersKept, EntryWritten}
+use Rattle.pop.proofs.Bounds.{bound-highest, bound-both, ph-bound}
 use Rattle.pop.proofs.Writes.{others-same, others-then, frame-after, popped-length}
 
--- ---- `paths_keep_kind`
+-- ---- `lowest_cycle`
 and-swap : (a b c : Bool) → (a && (b && c)) ≡ (b && (a && c))
 and-swap true b c = refl
 and-swap false true c = refl
@@ -38,14 +38,6 @@ module _ (s : Stack) (step path : PathKind) (ep : ℕ) where
   abbrev keepsAt : ℕ → CycleHead → Bool
   keepsAt i c =
       everyPhKeeps (cyclePathKind s step i) (extend (cyclePathKind s step i) path) (iterPaths ep) (iterPaths (c .paths))
-
-  pub head-keeps-is : (i : ℕ) (c h : CycleHead) → h ≡ c → (hp : PathKind) → hp ≡ cyclePathKind s step i
-      → (he : PathKind) → he ≡ extend hp path
-      → (r : Bool) → r ≡ everyPhKeeps hp he (iterPaths ep) (iterPaths (h .paths)) → r ≡ keepsAt i c
-  head-keeps-is i c h is-h hp is-hp he is-he r is-r =
-      is-r
-      ∙ ap₂ (λ (x : PathKind) (y : CycleHead). everyPhKeeps hp x (iterPaths ep) (iterPaths (y .paths))) is-he is-h
-      ∙ ap (λ (x : PathKind). everyPhKeeps x (extend x path) (iterPaths ep) (iterPaths (c .paths))) is-hp
 
   -- one head c of the heads ms
   keep-one : (ms : CycleHeads) (j i : ℕ) (c : CycleHead) → getD ms i none ≡ some c
@@ -70,53 +62,75 @@ module _ (s : Stack) (step path : PathKind) (ep : ℕ) where
   keep-clear (some c ∷ ms) j h = absurd (Option·some-ne-none c (h 0))
 
 -- of every stack that Left allows
-module _ (Left : Stack → Type 0) (step path : PathKind) (ep : ℕ) (cs : CycleHeads) where
-  -- the heads that are left make the whole
-  pub record Keeping (left : ℕ) : Type 0 where
+module _ (Left : Stack → Type 0) (step : PathKind) (cs : CycleHeads) where
+  -- the bound so far, and the heads that are left, make the whole
+  pub record Lowering (lowest left : ℕ) : Type 0 where
     pub small : left < 2 ^ 64
     pub within : Within left cs
-    pub rest : (s : Stack) → Left s
-        → pathsKeepKind s step path ep 0 (keep (flags 64 left) cs) ≡ pathsKeepKind s step path ep 0 cs
+    pub rest : (s : Stack) → Left s → (path : PathKind) (ep : ℕ)
+        → (boundKeeps lowest path (iterPaths ep) && pathsKeepKind s step path ep 0 (keep (flags 64 left) cs))
+        ≡ pathsKeepKind s step path ep 0 cs
 
-  pub keeping-start : (left n : ℕ) → left < 2 ^ 64 → flags 64 left ≡ present cs ++ replicate n false → Keeping left
-  keeping-start left n small is =
-      record { small = small; within = start-within cs left n is; rest = λ s m. ap (pathsKeepKind s step path ep 0) (start-all cs left n is) }
+  pub lowering-start : (left n : ℕ) → left < 2 ^ 64 → flags 64 left ≡ present cs ++ replicate n false → Lowering 3 left
+  lowering-start left n small is =
+      record {
+        small = small;
+        within = start-within cs left n is;
+        rest = λ s m path ep.
+            ap₂ (λ (x : Bool) (hs : CycleHeads). x && pathsKeepKind s step path ep 0 hs)
+            (bound-highest path 3 (omega arith) (iterPaths ep)) (start-all cs left n is);
+      }
 
-  module _ (left i : ℕ) (inv : Keeping left) (pos : 0 < left) (is : i ≡ placeOr 64 (firstPlace (flags 64 left)))
-      (r : Bool)
-      (is-r : (s : Stack) → Left s → (c : CycleHead) → getD cs i none ≡ some c → r ≡ keepsAt s step path ep i c) where
-    keeping-open : (s : Stack) → Left s
-        → (r && pathsKeepKind s step path ep 0 (set (keep (flags 64 left) cs) i none)) ≡ pathsKeepKind s step path ep
-        0 cs
-    keeping-open s m =
-        let t = turn-head cs left i pos (inv .small) (inv .within) is in
-        let ms : CycleHeads = keep (flags 64 left) cs in
-        ap (λ (x : Bool). x && pathsKeepKind s step path ep 0 (set ms i none))
-        (is-r s m (t .0) (t .1) ∙ ap (λ (k : ℕ). keepsAt s step path ep k (t .0)) (sym (zero-add i)))
-        ∙ sym (keep-one s step path ep ms 0 i (t .0) (turn-kept cs left i pos (inv .small) (inv .within) is ∙ t .1))
-        ∙ inv .rest s m
+  pub lowering-next : (lowest left i : ℕ) → Lowering lowest left → 0 < left
+      → i ≡ placeOr 64 (firstPlace (flags 64 left))
+      → (hp : ℕ) → ((s : Stack) → Left s → hp ≡ kindNumber (cyclePathKind s step i))
+      → (head : CycleHead) → ((c : CycleHead) → getD cs i none ≡ some c → head ≡ c)
+      → (lowest′ : ℕ) → lowest′ ≡ min lowest (max (lowestOf (iterPaths (head .paths))) hp)
+      → (left′ : ℕ) → flags 64 left′ ≡ set (flags 64 left) (placeOr 64 (firstPlace (flags 64 left))) false → left′ < left
+      → Lowering lowest′ left′
+  lowering-next lowest left i inv pos is hp is-hp head is-head lowest′ is-lowest left′ is-left less =
+      let old = inv .small in
+      record {
+        small = omega arith;
+        within = turn-within cs left i pos (inv .small) (inv .within) is left′ is-left;
+        rest = λ s m path ep.
+            ap₂ (λ (b : ℕ) (hs : CycleHeads). boundKeeps b path (iterPaths ep) && pathsKeepKind s step path ep 0 hs) is-lowest
+            (turn-rest cs left i pos (inv .small) (inv .within) is left′ is-left)
+            ∙ opened s m path ep ∙ inv .rest s m path ep;
+      }
+    where
+      kind : ℕ
+      kind = max (lowestOf (iterPaths (head .paths))) hp
 
-    pub keeping-fails : not r ≡ true → (s : Stack) → Left s → false ≡ pathsKeepKind s step path ep 0 cs
-    keeping-fails e s m =
-        sym (ap (λ (x : Bool). x && pathsKeepKind s step path ep 0 (set (keep (flags 64 left) cs) i none)) (not-true r e)) ∙ keeping-open s m
+      ms : CycleHeads
+      ms = keep (flags 64 left) cs
 
-    pub keeping-next : not r ≡ false → (left′ : ℕ)
-        → flags 64 left′ ≡ set (flags 64 left) (placeOr 64 (firstPlace (flags 64 left))) false → left′ < left
-        → Keeping left′
-    keeping-next e left′ is-left less =
-        let old = inv .small in
-        record {
-          small = omega arith;
-          within = turn-within cs left i pos (inv .small) (inv .within) is left′ is-left;
-          rest = λ s m.
-              ap (pathsKeepKind s step path ep 0) (turn-rest cs left i pos (inv .small) (inv .within) is left′ is-left)
-              ∙ sym (ap (λ (x : Bool). x && pathsKeepKind s step path ep 0 (set (keep (flags 64 left) cs) i none)) (not-false r e)) ∙ keeping-open s m;
-        }
+      -- the bound of the head at i stands for whether its paths keep their kind
+      opened : (s : Stack) → Left s → (path : PathKind) (ep : ℕ)
+          → (boundKeeps (min lowest kind) path (iterPaths ep) && pathsKeepKind s step path ep 0 (set ms i none))
+          ≡ (boundKeeps lowest path (iterPaths ep) && pathsKeepKind s step path ep 0 ms)
+      opened s m path ep =
+          let t = turn-head cs left i pos (inv .small) (inv .within) is in
+          let eps : List PathKind = iterPaths ep in
+          let rest : Bool = pathsKeepKind s step path ep 0 (set ms i none) in
+          let one : boundKeeps kind path eps ≡ keepsAt s step path ep (0 + i) (t .0) =
+          ap₂ (λ (h : CycleHead) (n : ℕ). boundKeeps (max (lowestOf (iterPaths (h .paths))) n) path eps) (is-head (t .0) (t .1))
+          (is-hp s m)
+          ∙ sym (ph-bound path (cyclePathKind s step i) eps (iterPaths (t .0 .paths)))
+          ∙ ap (λ (k : ℕ). keepsAt s step path ep k (t .0)) (sym (zero-add i)) in
+          ap (λ (x : Bool). x && rest) (bound-both path lowest kind eps)
+          ∙ and-assoc (boundKeeps lowest path eps) (boundKeeps kind path eps) rest
+          ∙ ap (λ (x : Bool). boundKeeps lowest path eps && x)
+          (ap (λ (x : Bool). x && rest) one
+          ∙ sym (keep-one s step path ep ms 0 i (t .0) (turn-kept cs left i pos (inv .small) (inv .within) is ∙ t .1)))
 
-  pub keeping-done : (left : ℕ) → Keeping left → left ≤ 0 → (s : Stack) → Left s
-      → true ≡ pathsKeepKind s step path ep 0 cs
-  keeping-done left inv h s m =
-      sym (keep-clear s step path ep (keep (flags 64 left) cs) 0 (end-none cs left h)) ∙ inv .rest s m
+  pub lowering-done : (lowest left : ℕ) → Lowering lowest left → left ≤ 0 → (s : Stack) → Left s
+      → (path : PathKind) (ep : ℕ) → pathsKeepKind s step path ep 0 cs ≡ boundKeeps lowest path (iterPaths ep)
+  lowering-done lowest left inv h s m path ep =
+      sym (inv .rest s m path ep)
+      ∙ ap (λ (x : Bool). boundKeeps lowest path (iterPaths ep) && x)
+      (keep-clear s step path ep (keep (flags 64 left) cs) 0 (end-none cs left h))
+      ∙ and-true (boundKeeps lowest path (iterPaths ep))
 
 -- ---- `gain_heads`
 module _ (goals base k : ℕ) (used : Bool) (ep : ℕ) (old : List ℕ) where

@@ -34,7 +34,7 @@ use Rattle.provisional_cache.proofs.Writes.{frames-of}
 use Rattle.pop.proofs.Kept.{Compacting, Whole, compact-start, compact-next, whole-start, whole-next, whole-done}
 use Rattle.pop.proofs.Kept.{kept-in-place}
 use Rattle.pop.proofs.Entries.{entry-other}
-use Rattle.pop.specs.Popped.{RestBytes, poppedFrame, PathsFrom, MayBeLeft}
+use Rattle.pop.specs.Popped.{RestBytes, poppedFrame, PathsFrom, Decides, MayBeLeft}
 use Rattle.pop.specs.Rebased.{keptEntry, EntryRebased, StayBefore, RestRebased, reasonOf, Rebased}
 
 -- one entry of the rest
@@ -50,14 +50,14 @@ kept-first s p reason e n keep is es = start keep ∙ ap (first s p reason es) i
     start true = refl
     start false = refl
 
-module _ (goals base popped : ℕ) (paths : List ℕ) (reason : RebaseReason) (count : ℕ) (old : List ℕ) where
+module _ (goals base popped : ℕ) (paths : List ℕ) (lowest : ℕ) (reason : RebaseReason) (count : ℕ) (old : List ℕ) where
   abbrev p : Frame
   p = poppedFrame goals old
 
   -- the entries so far, and those that are left, make the whole
   pub record Rebasing (new : List ℕ) (kept k : ℕ) : Type 0 where
     pub compacting : Compacting base count old new kept k
-    pub whole : (s : Stack) → MayBeLeft goals popped old paths s
+    pub whole : (s : Stack) → MayBeLeft goals popped old paths lowest s
         → Whole (rebaseEntries s (poppedFrame goals old) reason) goals base count old new kept k
 
   pub rebasing-start : (i : ℕ) → StayBefore goals base popped count old i → Rebasing old i i
@@ -69,7 +69,7 @@ module _ (goals base popped : ℕ) (paths : List ℕ) (reason : RebaseReason) (c
 
   pub rebasing-next : (now mid new : List ℕ) (kept k r : ℕ) (keep : Bool) → Rebasing now kept k → k < count
       → poppedFrame goals now ≡ p
-      → EntryRebased goals base k (MayBeLeft goals popped now paths) (λ s p e. rebaseEntry s p reason e) keep now mid
+      → EntryRebased goals base k (MayBeLeft goals popped now paths lowest) (λ s p e. rebaseEntry s p reason e) keep now mid
       → length mid ≡ length now
       → Compacted goals base k kept keep mid new r → length new ≡ length mid → Rebasing new r (k + 1)
   rebasing-next now mid new kept k r keep inv lt is-p is len1 made len2 =
@@ -81,13 +81,13 @@ module _ (goals base popped : ℕ) (paths : List ℕ) (reason : RebaseReason) (c
             whole-next (rebaseEntries s p reason) goals base count old now mid new kept k r keep (inv .whole s m) lt
             (is .others .before kept (inv .compacting .kept-few)) (is .others .behind count)
             (kept-first s p reason (entryFrom goals base k now) (entryFrom goals base k mid) keep
-            (is .entry s (record { height = m .height; from = rw is-p (m .from) })
+            (is .entry s (record { height = m .height; from = rw is-p (m .from); keeps = rw is-p (m .keeps) })
             ∙ ap (λ (f : Frame). rebaseEntry s f reason (entryFrom goals base k now)) is-p))
             made;
       }
 
   pub rebasing-done : (now : List ℕ) (kept k : ℕ) → Rebasing now kept k → count ≤ k
-      → RestRebased goals base popped paths reason count old now kept
+      → RestRebased goals base popped paths lowest reason count old now kept
   rebasing-done now kept k inv h =
       let k0 = inv .compacting .kept-few in
       let k1 = inv .compacting .few in
@@ -224,16 +224,19 @@ module _ (goals popped : ℕ) (old : List ℕ) (g : StackBytes goals popped old)
         front : (l : List ℕ) → take start l ++ take (end - start) (drop start l) ≡ take (entriesStart goals) l
         front l = sym (take-add start (end - start) l) ∙ ap (λ (n : ℕ). take n l) (ends ∙ is-end)
 
-    pub rebased : (paths : List ℕ) (reason : RebaseReason) (n r : ℕ)
+    pub rebased : (paths : List ℕ) (lowest : ℕ) (reason : RebaseReason) (n r : ℕ)
         → PathsFrom (stackOf goals popped old) (frameAt goals popped old) paths
-        → RestRebased goals (end - start) popped paths reason n rest ys r → Rebased goals popped reason n old new r
-    rebased paths reason n r are q =
+        → ((s : Stack) → PathsFrom s (poppedFrame goals rest) paths → Decides s (poppedFrame goals rest) lowest)
+        → RestRebased goals (end - start) popped paths lowest reason n rest ys r
+        → Rebased goals popped reason n old new r
+    rebased paths lowest reason n r are decides q =
         let s : Stack = stackOf goals popped old in
+        let from : PathsFrom s (poppedFrame goals rest) paths = rw popped-is are in
         record {
           few = q .few;
           entries =
               sym (all-entries r new) ∙ ap (entriesFrom goals (end - start) r) dropped
-              ∙ q .entries s (record { height = length-stack goals popped old; from = rw popped-is are })
+              ∙ q .entries s (record { height = length-stack goals popped old; from = from; keeps = decides s from })
               ∙ ap₂ (λ (p : Frame) (es : List Entry). rebaseEntries s p reason es) popped-is (rest-entries n);
           frames = frames-back (q .below);
         }

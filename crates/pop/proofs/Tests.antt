@@ -1,13 +1,15 @@
 -- The four kinds of paths, one after the other.
-use mathlib.Core.Path.{_≡_, sym, ap, _∙_}
+use mathlib.Core.Path.{_≡_, refl, sym, ap, ap₂, _∙_}
 use mathlib.Core.Bool.{Bool, true, false, not, _&&_, and-true}
 use mathlib.Core.List.{List, [], _∷_}
 use Prim.Native.Nat.{ℕ}
+use native.Mathlib.Omega.{arith}
 use borrow.Author.Tests.{not-true, not-false}
+use lib.Dec.{leb}
 use Rattle.definition.specs.declared.paths.PathKind.{PathKind}
 use Rattle.definition.specs.declared.paths.PathKind.the-variants.{Inductive, Unknown, Coinductive, ForcedAmbiguity}
-use Rattle.definition.specs.Paths.{extend, sameKind, containsPath, pathKinds, containedIn}
-use Rattle.definition.specs.ProvisionalCache.{everyEpKeeps, everyPhKeeps}
+use Rattle.definition.specs.Paths.{kindNumber, extend, containsPath, pathKinds, containedIn}
+use Rattle.pop.specs.Popped.{boundKeeps, lowestOf}
 
 -- ---- one kind of those in p
 abbrev first : ℕ → PathKind → List PathKind → Bool → List PathKind
@@ -21,17 +23,59 @@ module _ (p : ℕ) (k : PathKind) (ks : List PathKind) where
     there : containsPath p k ≡ true
     there = sym is ∙ not-false t e
 
-    pub ep-there : (hph he ph hep path : PathKind) → hep ≡ extend k he → path ≡ extend hep ph → r ≡ sameKind hph path
-        → (r && everyEpKeeps hph he ph (containedIn p ks)) ≡ everyEpKeeps hph he ph (containedIn p (k ∷ ks))
-    ep-there hph he ph hep path is-hep is-path is-r =
-        ap (λ (x : Bool). x && everyEpKeeps hph he ph (containedIn p ks)) (is-r ∙ ap (sameKind hph) (is-path ∙ ap (λ (x : PathKind). extend x ph) is-hep))
-        ∙ sym (ap (λ (x : Bool). everyEpKeeps hph he ph (first p k ks x)) there)
+    pub ep-there : (bound : ℕ) (path long : PathKind) (n : ℕ) → long ≡ extend k path → n ≡ kindNumber long → r ≡ leb n bound
+        → (r && boundKeeps bound path (containedIn p ks)) ≡ boundKeeps bound path (containedIn p (k ∷ ks))
+    ep-there bound path long n is-long is-n is-r =
+        ap (λ (x : Bool). x && boundKeeps bound path (containedIn p ks))
+        (is-r ∙ ap (λ (m : ℕ). leb m bound) (is-n ∙ ap kindNumber is-long))
+        ∙ sym (ap (λ (x : Bool). boundKeeps bound path (first p k ks x)) there)
 
-    pub ph-there : (hp he hph : PathKind) (eps : List PathKind) → hph ≡ extend hp k → r ≡ everyEpKeeps hph he k eps
-        → (r && everyPhKeeps hp he eps (containedIn p ks)) ≡ everyPhKeeps hp he eps (containedIn p (k ∷ ks))
-    ph-there hp he hph eps is-hph is-r =
-        ap (λ (x : Bool). x && everyPhKeeps hp he eps (containedIn p ks)) (is-r ∙ ap (λ (x : PathKind). everyEpKeeps x he k eps) is-hph)
-        ∙ sym (ap (λ (x : Bool). everyPhKeeps hp he eps (first p k ks x)) there)
+-- ---- the lowest kind of those in p: the first of the four that is there
+abbrev firstOf : Bool → Bool → Bool → ℕ
+firstOf a b c = elim a [ true ↦ 0 | false ↦ elim b [ true ↦ 1 | false ↦ elim c [ true ↦ 2 | false ↦ 3 ] ] ]
+
+module _ (p : ℕ) where
+  first-is : firstOf (containsPath p Inductive) (containsPath p Unknown) (containsPath p Coinductive)
+      ≡ lowestOf (containedIn p pathKinds)
+  first-is =
+      by (containsPath p Inductive) (containsPath p Unknown) (containsPath p Coinductive) (containsPath p ForcedAmbiguity)
+    where
+      among : PathKind → Bool → List PathKind → List PathKind
+      among k t ks = elim t [ true ↦ k ∷ ks | false ↦ ks ]
+
+      by : (a b c d : Bool) → firstOf a b c
+          ≡ lowestOf (among Inductive a (among Unknown b (among Coinductive c (among ForcedAmbiguity d []))))
+      by true b c d = omega arith
+      by false true true true = refl
+      by false true true false = refl
+      by false true false true = refl
+      by false true false false = refl
+      by false false true true = refl
+      by false false true false = refl
+      by false false false true = refl
+      by false false false false = refl
+
+  module _ (a : Bool) (is-a : a ≡ containsPath p Inductive) where
+    pub lowest-0 : a ≡ true → 0 ≡ lowestOf (containedIn p pathKinds)
+    lowest-0 e =
+        ap (λ (x : Bool). firstOf x (containsPath p Unknown) (containsPath p Coinductive)) (sym e ∙ is-a) ∙ first-is
+
+    module _ (ea : a ≡ false) (b : Bool) (is-b : b ≡ containsPath p Unknown) where
+      pub lowest-1 : b ≡ true → 1 ≡ lowestOf (containedIn p pathKinds)
+      lowest-1 e =
+          ap₂ (λ (x y : Bool). firstOf x y (containsPath p Coinductive)) (sym ea ∙ is-a) (sym e ∙ is-b) ∙ first-is
+
+      module _ (eb : b ≡ false) (c : Bool) (is-c : c ≡ containsPath p Coinductive) where
+        third : (t : Bool) → c ≡ t → firstOf false false t ≡ lowestOf (containedIn p pathKinds)
+        third t e =
+            ap₂ (λ (x y : Bool). firstOf x y t) (sym ea ∙ is-a) (sym eb ∙ is-b)
+            ∙ ap (firstOf (containsPath p Inductive) (containsPath p Unknown)) (sym e ∙ is-c) ∙ first-is
+
+        pub lowest-2 : c ≡ true → 2 ≡ lowestOf (containedIn p pathKinds)
+        lowest-2 e = third true e
+
+        pub lowest-3 : c ≡ false → 3 ≡ lowestOf (containedIn p pathKinds)
+        lowest-3 e = third false e
 
 -- ---- the four kinds, F of those that are left
 module _ (F : List PathKind → Bool) (end : F [] ≡ true) where

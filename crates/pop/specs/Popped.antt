@@ -1,15 +1,16 @@
 -- The popped frame, and the stack that is left, as far as the loop over the entries is told of them.
 use mathlib.Core.Path.{_≡_}
-use mathlib.Core.Bool.{Bool}
+use mathlib.Core.Bool.{Bool, true, _&&_}
 use mathlib.Core.Option.{none, some}
-use mathlib.Core.List.{List}
-use Prim.Native.Nat.{ℕ, _≤_, _<_}
+use mathlib.Core.List.{List, [], _∷_}
+use Prim.Native.Nat.{ℕ, _≤_, _<_, min}
+use lib.Dec.{leb}
 use lib.ListN.{length, getD}
 use Rattle.definition.specs.declared.paths.PathKind.{PathKind}
 use Rattle.definition.specs.declared.heads.CycleHead.{CycleHead}
-use Rattle.definition.specs.Paths.{kindOf, extend, iterPaths}
+use Rattle.definition.specs.Paths.{kindNumber, extend, iterPaths}
 use Rattle.definition.specs.Stack.{Frame, Stack, cyclePathKind}
-use Rattle.definition.specs.ProvisionalCache.{everyPhKeeps, pathsKeepKind}
+use Rattle.definition.specs.ProvisionalCache.{pathsKeepKind}
 use Rattle.buffer.specs.Regions.{region}
 use Rattle.layout.specs.Frame.{frameSize, frameOf}
 use Rattle.provisional_cache.specs.Entries.{EntriesBytes}
@@ -39,27 +40,35 @@ PoppedHead goals rest i c = getD ((poppedFrame goals rest) .heads) i none ≡ so
 
 -- ---- the paths to it
 
--- the kind of the path from the frame at index i, in the array of the paths
-abbrev pub pathAt : List ℕ → ℕ → PathKind
-pathAt paths i = kindOf (getD paths i 0)
-
--- the array holds those from the frames of the stack s
+-- the array holds the kinds of those from the frames of the stack s, as numbers
 abbrev pub PathsFrom : Stack → Frame → List ℕ → Type 0
-PathsFrom s p paths = (i : ℕ) → i < 64 → pathAt paths i ≡ cyclePathKind s (p .stepKindFromParent) i
-
--- s may be the stack that is left: all that is told of it is its height and these paths
-pub record MayBeLeft (goals popped : ℕ) (rest paths : List ℕ) (s : Stack) : Type 0 where
-  pub height : length s ≡ popped
-  pub from : PathsFrom s (poppedFrame goals rest) paths
+PathsFrom s p paths =
+    (i : ℕ) → i < 64 → getD paths i 0 ≡ kindNumber (cyclePathKind s (p .stepKindFromParent) i)
 
 -- ---- where they go by way of an entry: `path` is the entry's, ep are the paths to it
 
--- whether those from the head c of the popped frame p at index i keep their kind
-abbrev pub headKeeps : Stack → Frame → PathKind → ℕ → ℕ → CycleHead → Bool
-headKeeps s p path ep i c =
-    everyPhKeeps (cyclePathKind s (p .stepKindFromParent) i) (extend (cyclePathKind s (p .stepKindFromParent) i) path)
-    (iterPaths ep) (iterPaths (c .paths))
-
--- whether those from each of its heads do
+-- whether those from each head of the popped frame p keep their kind
 abbrev pub headsKeep : Stack → Frame → PathKind → ℕ → Bool
 headsKeep s p path ep = pathsKeepKind s (p .stepKindFromParent) path ep 0 (p .heads)
+
+-- whether no ep that goes on with `path` is of a kind above the bound b
+abbrev pub boundKeeps : ℕ → PathKind → List PathKind → Bool
+boundKeeps b path [] = true
+boundKeeps b path (ep ∷ eps) = leb (kindNumber (extend ep path)) b && boundKeeps b path eps
+
+-- the bound b decides it for every entry
+abbrev pub Decides : Stack → Frame → ℕ → Type 0
+Decides s p b = (path : PathKind) (ep : ℕ) → headsKeep s p path ep ≡ boundKeeps b path (iterPaths ep)
+
+-- the lowest of the kinds, as a number; the highest kind where there is none
+abbrev pub lowestOf : List PathKind → ℕ
+lowestOf [] = 3
+lowestOf (k ∷ ks) = min (kindNumber k) (lowestOf ks)
+
+-- ---- the stack that is left
+
+-- s may be it: all that is told of it is its height, the paths from its frames, and the bound
+pub record MayBeLeft (goals popped : ℕ) (rest paths : List ℕ) (lowest : ℕ) (s : Stack) : Type 0 where
+  pub height : length s ≡ popped
+  pub from : PathsFrom s (poppedFrame goals rest) paths
+  pub keeps : Decides s (poppedFrame goals rest) lowest

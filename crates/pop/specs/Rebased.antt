@@ -64,10 +64,10 @@ pub record StayBefore (goals base popped n : ℕ) (bs : List ℕ) (r : ℕ) : Ty
 -- ---- r of the n entries are left
 
 -- in the bytes from the popped frame on, whatever stack may be left
-pub record RestRebased (goals base popped : ℕ) (paths : List ℕ) (reason : RebaseReason) (n : ℕ)
+pub record RestRebased (goals base popped : ℕ) (paths : List ℕ) (lowest : ℕ) (reason : RebaseReason) (n : ℕ)
     (old new : List ℕ) (r : ℕ) : Type 0 where
   pub few : r ≤ n
-  pub entries : (s : Stack) → MayBeLeft goals popped old paths s
+  pub entries : (s : Stack) → MayBeLeft goals popped old paths lowest s
       → entriesFrom goals base r new ≡ rebaseEntries s (poppedFrame goals old) reason (entriesFrom goals base n old)
   pub below : region 0 base new ≡ region 0 base old
 

@@ -8,7 +8,6 @@ ghost use Rattle.pop.specs.Endings.{FramePopped};
 mod clear;
 mod keep;
 mod moved;
-mod paths;
 mod popped;
 mod rebase;
 mod stays;

@@ -156,13 +156,15 @@ fn rebase_heads(
     base: usize,
     popped: usize,
     paths: &[u8; 64],
+    lowest: u8,
     table: &[u8; 1024],
     reason: RebaseReason,
     k: usize,
 ) -> bool
     requires { ⌜ RestBytes goals base (now rest)
         × ((popped < goals) × ((k < 2 * goals) × Extensions (now table))) ⌝ }
-    ensures { λ r. ⌜ EntryRebased goals base k (MayBeLeft goals popped (now (rest .entry)) (now (paths .entry)))
+    ensures { λ r. ⌜ EntryRebased goals base k
+        (MayBeLeft goals popped (now (rest .entry)) (now (paths .entry)) lowest)
         (entryUnderHeads popped reason) r (now (rest .entry)) (now (rest .exit)) ⌝ }
 {
     let usages = head_usages(rest, goals, base, k, popped);
@@ -171,7 +173,7 @@ fn rebase_heads(
         replace_head(rest, goals, base, popped, table, k, false, eps);
         return true;
     }
-    if !stays::stays(rest, goals, base, paths, reason, k, usages, eps) {
+    if !stays::stays(rest, goals, base, lowest, reason, k, usages, eps) {
         return false;
     }
     replace_head(rest, goals, base, popped, table, k, true, eps);
@@ -202,20 +204,22 @@ pub fn rebase_entry(
     base: usize,
     popped: usize,
     paths: &[u8; 64],
+    lowest: u8,
     table: &[u8; 1024],
     reason: RebaseReason,
     k: usize,
 ) -> bool
     requires { ⌜ RestBytes goals base (now rest)
         × ((popped < goals) × ((k < 2 * goals) × Extensions (now table))) ⌝ }
-    ensures { λ r. ⌜ EntryRebased goals base k (MayBeLeft goals popped (now (rest .entry)) (now (paths .entry)))
+    ensures { λ r. ⌜ EntryRebased goals base k
+        (MayBeLeft goals popped (now (rest .entry)) (now (paths .entry)) lowest)
         (λ s p e. rebaseEntry s p reason e) r (now (rest .entry)) (now (rest .exit)) ⌝ }
 {
     let entry = provisional_cache::entry_from(rest, goals, base, k);
     if entry::highest_head(entry, goals) != popped {
         return true;
     }
-    if !rebase_heads(rest, goals, base, popped, paths, table, reason, k) {
+    if !rebase_heads(rest, goals, base, popped, paths, lowest, table, reason, k) {
         return false;
     }
     rebase_path(rest, goals, base, paths, k)

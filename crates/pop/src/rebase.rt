@@ -6,13 +6,15 @@
 // whoever uses it then depends on them, and its result goes to no global cache before they are
 // settled.
 //
-// The paths to p do not depend on the entry. So they are worked out once, and the loop over the
-// entries gets them, and the graph's bytes from p on (`rest`: the entries start at `base` in it).
+// The paths to p, and what they allow of an entry that used p (`lowest`), do not depend on the
+// entry. So they are worked out once, and the loop over the entries gets them, and the graph's
+// bytes from p on (`rest`: the entries start at `base` in it).
 // No frame that is left on the stack is among these. The table of extensions is named before the
 // loop, too: the compiler writes a constant array to the machine's stack wherever it is named.
 use crate::keep;
 use crate::moved;
 use crate::popped;
+use crate::stays;
 use crate::table;
 use definition::answers::Answer;
 use definition::endings::Ending;
@@ -51,6 +53,7 @@ fn rebase_entries(
     base: usize,
     popped: usize,
     paths: &[u8; 64],
+    lowest: u8,
     table: &[u8; 1024],
     reason: RebaseReason,
     first: usize,
@@ -59,13 +62,13 @@ fn rebase_entries(
     requires { ⌜ RestBytes goals base (now rest)
         × ((popped < goals) × ((entries ≤ 2 * goals)
         × (StayBefore goals base popped entries (now rest) first × Extensions (now table)))) ⌝ }
-    ensures { λ r. ⌜ RestRebased goals base popped (now (paths .entry)) reason entries
+    ensures { λ r. ⌜ RestRebased goals base popped (now (paths .entry)) lowest reason entries
         (now (rest .entry)) (now (rest .exit)) r ⌝ }
 {
     let mut kept = first;
     let mut k = first;
     while k < entries {
-        let keep = moved::rebase_entry(rest, goals, base, popped, paths, table, reason, k);
+        let keep = moved::rebase_entry(rest, goals, base, popped, paths, lowest, table, reason, k);
         kept = keep::keep_if(rest, goals, base, keep, k, kept);
         k = k + 1;
     }
@@ -102,6 +105,7 @@ pub fn rebase_provisional_cache_entries(
         return entries;
     }
     let paths = popped::paths_to_popped(graph, goals, popped);
+    let lowest = stays::lowest_cycle(&graph[start..], goals, &paths);
     let reason = reason_of(ending);
     let table = table::EXTENDED;
     rebase_entries(
@@ -110,6 +114,7 @@ pub fn rebase_provisional_cache_entries(
         base,
         popped,
         &paths,
+        lowest,
         &table,
         reason,
         first,

@@ -1,6 +1,5 @@
-// Whether an entry e that used the popped frame p stays; ep, ph, hp and he are the paths between e,
-// p and the heads h of p.
-use crate::paths;
+// Whether an entry e that used the popped frame p stays; ep, ph and hp are the paths between e, p
+// and the heads h of p.
 use crate::popped;
 use definition::answers::Answer;
 use definition::endings::Fixpoint;
@@ -10,58 +9,104 @@ use definition::paths::PathsToNested;
 use definition::usages::HeadUsages;
 use provisional_cache::entry;
 ghost use mathlib.Core.Path.{_≡_};
-ghost use Prim.Native.Nat.{_*_, _<_};
-ghost use Rattle.definition.specs.declared.heads.CycleHead.{CycleHead};
+ghost use mathlib.Core.Bool.{_&&_};
+ghost use mathlib.Core.List.{List, _∷_};
+ghost use Prim.Native.Nat.{_*_, _<_, min, max};
+ghost use Rattle.definition.specs.declared.paths.PathKind.{PathKind};
+ghost use Rattle.definition.specs.Paths.{containedIn, iterPaths};
 ghost use Rattle.definition.specs.Stack.{Stack};
 ghost use Rattle.definition.specs.ProvisionalCache.{fixpointKeeps, reasonKeeps};
 ghost use Rattle.layout.specs.Work.{entryFrom};
-ghost use Rattle.pop.specs.Popped.{FrameFirst, RestBytes, poppedFrame, PoppedHead};
-ghost use Rattle.pop.specs.Popped.{PathsFrom, headKeeps, headsKeep};
+ghost use Rattle.pop.specs.Popped.{FrameFirst, RestBytes, poppedFrame, PathsFrom};
+ghost use Rattle.pop.specs.Popped.{boundKeeps, Decides, lowestOf};
 ghost use Rattle.pop.specs.Heads.{entryStays};
 
-// Whether the paths from the head of p at index i keep their kind.
-fn head_keeps(
-    rest: &[u8],
-    goals: usize,
-    paths: &[u8; 64],
-    path: PathKind,
-    eps: PathsToNested,
-    i: usize,
-) -> bool
-    requires { ⌜ FrameFirst goals (now rest) × (i < goals) ⌝ }
-    ensures { λ r. ⌜ ((s : Stack) → PathsFrom s (poppedFrame goals (now (rest .entry))) (now (paths .entry))
-        → (c : CycleHead) → PoppedHead goals (now (rest .entry)) i c
-        → r ≡ headKeeps s (poppedFrame goals (now (rest .entry))) path (eps .bits) i c) ⌝ }
+// The lowest kind of a path among `paths`, as a number; where there is none, the highest, 3, which
+// no path is above.
+fn lowest_kind(paths: PathsToNested) -> u8
+    ensures { λ r. ⌜ r ≡ lowestOf (iterPaths (paths .bits)) ⌝ }
 {
-    let hp = PathKind::from_number(paths[i]);
-    let head = popped::popped_head(rest, goals, i);
-    let phs = PathsToNested { bits: head.paths };
-    paths::every_ph_keeps(hp, hp.extend(path), eps, phs)
+    if paths.contains(PathKind::Inductive) {
+        return 0;
+    }
+    if paths.contains(PathKind::Unknown) {
+        return 1;
+    }
+    if paths.contains(PathKind::Coinductive) {
+        return 2;
+    }
+    3
 }
 
-// Whether the paths from each head of p keep their kind. As a goal nested in e, p closes its
-// cycles by way of e. What a cycle is given depends on its kind: p would come to the same
-// result there only if each cycle by way of e has the kind that it had without e.
-fn paths_keep_kind(
-    rest: &[u8],
-    goals: usize,
-    paths: &[u8; 64],
-    path: PathKind,
-    eps: PathsToNested,
-) -> bool
+fn larger(a: u8, b: u8) -> u8
+    ensures { λ r. ⌜ r ≡ max a b ⌝ }
+{
+    if a < b {
+        return b;
+    }
+    a
+}
+
+fn lesser(a: u8, b: u8) -> u8
+    ensures { λ r. ⌜ r ≡ min a b ⌝ }
+{
+    if b < a {
+        return b;
+    }
+    a
+}
+
+// The lowest kind of a path hph, from a head h of p to p and on to h again; 3 where there is none.
+//
+// As a goal nested in e, p closes its cycles by way of e. What a cycle is given depends on its
+// kind: p would come to the same result there only if each cycle by way of e has the kind that it
+// had without e. A path by way of e has all the steps of hph, and ep and the path of e besides. Its
+// kind is the highest of theirs, so it is that of hph only where none of the latter is higher. The
+// lowest hph allows the least, so it alone decides, and for every entry.
+pub fn lowest_cycle(rest: &[u8], goals: usize, paths: &[u8; 64]) -> u8
     requires { ⌜ FrameFirst goals (now rest) ⌝ }
     ensures { λ r. ⌜ ((s : Stack) → PathsFrom s (poppedFrame goals (now (rest .entry))) (now (paths .entry))
-        → r ≡ headsKeep s (poppedFrame goals (now (rest .entry))) path (eps .bits)) ⌝ }
+        → Decides s (poppedFrame goals (now (rest .entry))) r) ⌝ }
 {
+    let mut lowest: u8 = 3;
     let mut left = popped::popped_mask(rest, goals);
     while 0 < left {
         let i = bits::lowest(left);
-        if !head_keeps(rest, goals, paths, path, eps, i) {
-            return false;
-        }
+        let head = popped::popped_head(rest, goals, i);
+        let phs = PathsToNested { bits: head.paths };
+        let kind = larger(lowest_kind(phs), paths[i]);
+        lowest = lesser(lowest, kind);
         left = bits::without_lowest(left);
     }
-    true
+    lowest
+}
+
+// Whether ep and the path of e are no higher than the lowest cycle, where ep is among the paths.
+fn ep_keeps(lowest: u8, path: PathKind, eps: PathsToNested, ep: PathKind) -> bool
+    ensures { λ r. ⌜ ((ks : List PathKind)
+        → (r && boundKeeps lowest path (containedIn (eps .bits) ks))
+        ≡ boundKeeps lowest path (containedIn (eps .bits) (ep ∷ ks))) ⌝ }
+{
+    if !eps.contains(ep) {
+        return true;
+    }
+    ep.extend(path).number() <= lowest
+}
+
+// Whether the paths from each head of p keep their kind by way of e.
+fn paths_keep_kind(lowest: u8, path: PathKind, eps: PathsToNested) -> bool
+    ensures { λ r. ⌜ r ≡ boundKeeps lowest path (iterPaths (eps .bits)) ⌝ }
+{
+    if !ep_keeps(lowest, path, eps, PathKind::Inductive) {
+        return false;
+    }
+    if !ep_keeps(lowest, path, eps, PathKind::Unknown) {
+        return false;
+    }
+    if !ep_keeps(lowest, path, eps, PathKind::Coinductive) {
+        return false;
+    }
+    ep_keeps(lowest, path, eps, PathKind::ForcedAmbiguity)
 }
 
 // Whether the fixpoint lets an entry with these usages of p stay. At the first one the entry was
@@ -98,20 +143,20 @@ pub fn stays(
     rest: &[u8],
     goals: usize,
     base: usize,
-    paths: &[u8; 64],
+    lowest: u8,
     reason: RebaseReason,
     k: usize,
     usages: HeadUsages,
     eps: PathsToNested,
 ) -> bool
     requires { ⌜ RestBytes goals base (now rest) × (k < 2 * goals) ⌝ }
-    ensures { λ r. ⌜ ((s : Stack) → PathsFrom s (poppedFrame goals (now (rest .entry))) (now (paths .entry))
+    ensures { λ r. ⌜ ((s : Stack) → Decides s (poppedFrame goals (now (rest .entry))) lowest
         → r ≡ entryStays s (poppedFrame goals (now (rest .entry))) reason
         (entryFrom goals base k (now (rest .entry))) usages (eps .bits)) ⌝ }
 {
     let entry = provisional_cache::entry_from(rest, goals, base, k);
     let path = entry::path_from_head(entry, goals);
-    if !paths_keep_kind(rest, goals, paths, path, eps) {
+    if !paths_keep_kind(lowest, path, eps) {
         return false;
     }
     reason_keeps(reason, entry::result(entry, goals), usages)

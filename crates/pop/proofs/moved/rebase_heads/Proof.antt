@@ -70,7 +70,7 @@ returns-2 c =
           (usagesAt ((entryFrom (a .goals) (a .base) (a .k) (a .rest .now)) .heads) (a .popped))
           (pathsAt ((entryFrom (a .goals) (a .base) (a .k) (a .rest .now)) .heads) (a .popped)) (head-usages .ensures)
           (head-paths .ensures)
-          (is-empty .result) (is-empty .ensures) (if1 .left) (stays .result) (stays .ensures s (m .from))
+          (is-empty .result) (is-empty .ensures) (if1 .left) (stays .result) (stays .ensures s (m .keeps))
           (c .if2 .taken);
       others = others-same (a .goals) (a .base) (a .k) (a .rest .now);
     }
@@ -102,7 +102,7 @@ returns-3 c =
           (usagesAt ((entryFrom (a .goals) (a .base) (a .k) (a .rest .now)) .heads) (a .popped))
           (pathsAt ((entryFrom (a .goals) (a .base) (a .k) (a .rest .now)) .heads) (a .popped)) (head-usages .ensures)
           (head-paths .ensures)
-          (is-empty .result) (is-empty .ensures) (if1 .left) (stays .result) (stays .ensures s (m .from)) (if2 .left)
+          (is-empty .result) (is-empty .ensures) (if1 .left) (stays .result) (stays .ensures s (m .keeps)) (if2 .left)
           (entryFrom (a .goals) (a .base) (a .k) (x .last .0)) (x .ensures .entry);
       others = x .ensures .others;
     }

@@ -1,6 +1,9 @@
-use mathlib.Core.Path.{_∙_}
+use mathlib.Core.Path.{ap, _∙_}
 use Prim.Native.Nat.{_<_}
 use native.Mathlib.Omega.{arith}
+use Rattle.definition.specs.Paths.{kindOf}
+use Rattle.definition.specs.Stack.{cyclePathKind}
+use Rattle.definition.proofs.Numbers.{kind-back}
 use Rattle.layout.specs.Blocks.{headsOf}
 use Rattle.layout.specs.Work.{entryFrom}
 use Rattle.layout.proofs.Frames.{length-heads}
@@ -87,7 +90,9 @@ returns-2 c =
           (entry-block (a .goals) (a .base) (a .k) (a .rest .now) (entry-heads .result .now) (entry-heads .ensures))
           (is-empty .result)
           (is-empty .ensures) (if1 .left) (highest .result) (highest .ensures) (from-number .result)
-          (from-number .ensures ∙ are (highest .result) (room (c .before .before .before .before .before .before)))
+          (from-number .ensures
+          ∙ ap kindOf (are (highest .result) (room (c .before .before .before .before .before .before)))
+          ∙ kind-back (cyclePathKind s ((poppedFrame (a .goals) (a .rest .now)) .stepKindFromParent) (highest .result)))
           (entryFrom (a .goals) (a .base) (a .k) (x .last .0)) (x .ensures .entry);
       others = x .ensures .others;
     }

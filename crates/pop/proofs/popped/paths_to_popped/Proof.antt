@@ -3,6 +3,7 @@ use mathlib.Core.List.{List}
 use Prim.Native.Nat.{ℕ, _-_, _<_}
 use native.Mathlib.Omega.{arith}
 use Rattle.definition.specs.declared.paths.PathKind.{PathKind}
+use Rattle.definition.specs.Paths.{kindNumber}
 use Rattle.definition.specs.Stack.{cyclePathKind}
 use Rattle.layout.specs.Frame.{frameOf}
 use Rattle.layout.specs.Work.{stackOf}
@@ -90,7 +91,7 @@ returns c i lt =
     (λ j up. path-outside (stackOf (a .goals) (a .popped) (a .graph .now)) (step .result) j (rw length-stack up))
     (l .paths) (l .i) (l .inv)
     (c .loop-test .left) i lt
-    ∙ ap (λ (k : PathKind). cyclePathKind (stackOf (a .goals) (a .popped) (a .graph .now)) k i) is
+    ∙ ap (λ (k : PathKind). kindNumber (cyclePathKind (stackOf (a .goals) (a .popped) (a .graph .now)) k i)) is
 
 pub paths-to-popped-spec : {M : Type 1} → statement M
 paths-to-popped-spec =

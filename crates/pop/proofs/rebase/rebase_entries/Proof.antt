@@ -7,11 +7,11 @@ use Rattle.pop.proofs.rebase.rebase_entries.Statement.{statement}
 use Rattle.pop.proofs.rebase.rebase_entries.Tie as tie
 
 abbrev Inv-loop : tie.InvT-loop
-Inv-loop rest₀ goals base popped paths table reason first entries kept₀ k₀ rest kept k =
-    Rebasing goals base popped paths reason entries rest₀ rest kept k
+Inv-loop rest₀ goals base popped paths lowest table reason first entries kept₀ k₀ rest kept k =
+    Rebasing goals base popped paths lowest reason entries rest₀ rest kept k
 
 abbrev μ-loop : tie.MeasureT-loop
-μ-loop rest₀ goals base popped paths table reason first entries kept₀ k₀ rest kept k = entries - k
+μ-loop rest₀ goals base popped paths lowest table reason first entries kept₀ k₀ rest kept k = entries - k
 
 bytes : (c : tie.At-loop Inv-loop μ-loop)
     → RestBytes (c .before .before .args .goals) (c .before .before .args .base) (c .loop .rest)
@@ -24,7 +24,7 @@ loop-holds : tie.Need-loop-holds Inv-loop μ-loop
 loop-holds c =
     let s = c .before in
     let a = s .args in
-    rebasing-start (a .goals) (a .base) (a .popped) (a .paths .now) (a .reason) (a .entries) (a .rest .now) (a .first)
+    rebasing-start (a .goals) (a .base) (a .popped) (a .paths .now) (a .lowest) (a .reason) (a .entries) (a .rest .now) (a .first)
     (s .pre .1 .1 .1 .0)
 
 rebase-entry-requires : tie.Need-rebase-entry-requires Inv-loop μ-loop
@@ -60,7 +60,7 @@ loop-again c =
     let l = c .before .before .before .before .before .before .before .before .before .loop in
     let x = c .before .before .before .before .before .before .rebase-entry in
     let y = c .before .before .keep-if in
-    rebasing-next (a .goals) (a .base) (a .popped) (a .paths .now) (a .reason) (a .entries) (a .rest .now) (l .rest)
+    rebasing-next (a .goals) (a .base) (a .popped) (a .paths .now) (a .lowest) (a .reason) (a .entries) (a .rest .now) (l .rest)
     (x .last .0) (y .last .0)
     (l .kept) (l .k) (y .result) (x .result) (l .inv)
     (c .before .before .before .before .before .before .before .before .loop-test .taken)
@@ -75,7 +75,7 @@ returns : tie.Need-returns Inv-loop μ-loop
 returns c =
     let a = c .before .before .before .args in
     let l = c .before .loop in
-    rebasing-done (a .goals) (a .base) (a .popped) (a .paths .now) (a .reason) (a .entries) (a .rest .now) (l .rest)
+    rebasing-done (a .goals) (a .base) (a .popped) (a .paths .now) (a .lowest) (a .reason) (a .entries) (a .rest .now) (l .rest)
     (l .kept) (l .k) (l .inv)
     (c .loop-test .left)
 

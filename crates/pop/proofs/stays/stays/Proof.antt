@@ -1,8 +1,7 @@
-use mathlib.Core.Path.{ap}
+use mathlib.Core.Path.{sym, ap, _∙_}
 use Rattle.layout.specs.Entry.{entryOf}
 use Rattle.layout.specs.Work.{entryFrom}
 use Rattle.pop.specs.Popped.{poppedFrame}
-use Rattle.pop.proofs.Writes.{frame-first}
 use Rattle.provisional_cache.proofs.Entries.{entry-bytes}
 use Rattle.pop.proofs.Entries.{stays-not, stays-by}
 use borrow.Author.Needs.{needs}
@@ -20,11 +19,10 @@ path-from-head-requires c κs =
     (s .pre .0 .entries) (s .pre .1) (entry-from .ensures)
 
 paths-keep-kind-requires : tie.Need-paths-keep-kind-requires
-paths-keep-kind-requires c κs =
-    let s = c .before .before .before in frame-first (s .args .goals) (s .args .base) (s .args .rest .now) (s .pre .0)
+paths-keep-kind-requires c κs = search needs
 
 returns : tie.Need-returns
-returns c s are =
+returns c s keeps =
     let a = c .before .before .before .before .before .args in
     let entry-from = c .before .before .before .entry-from in
     let path-from-head = c .before .before .path-from-head in
@@ -33,7 +31,7 @@ returns c s are =
     (a .eps .bits) (entryOf (a .goals) (entry-from .result .now)) (entryFrom (a .goals) (a .base) (a .k) (a .rest .now))
     (ap (entryOf (a .goals)) (entry-from .ensures)) (path-from-head .result) (path-from-head .ensures)
     (paths-keep-kind .result)
-    (paths-keep-kind .ensures s are) (c .if1 .taken)
+    (paths-keep-kind .ensures ∙ sym (keeps (path-from-head .result) (a .eps .bits))) (c .if1 .taken)
 
 result-requires : tie.Need-result-requires
 result-requires c κs =
@@ -46,7 +44,7 @@ reason-keeps-requires : tie.Need-reason-keeps-requires
 reason-keeps-requires c κs = search needs
 
 returns-2 : tie.Need-returns-2
-returns-2 c s are =
+returns-2 c s keeps =
     let a = c .before .before .before .before .before .before .before .args in
     let entry-from = c .before .before .before .before .before .entry-from in
     let path-from-head = c .before .before .before .before .path-from-head in
@@ -57,7 +55,7 @@ returns-2 c s are =
     (a .eps .bits) (entryOf (a .goals) (entry-from .result .now)) (entryFrom (a .goals) (a .base) (a .k) (a .rest .now))
     (ap (entryOf (a .goals)) (entry-from .ensures)) (path-from-head .result) (path-from-head .ensures)
     (paths-keep-kind .result)
-    (paths-keep-kind .ensures s are) (c .before .before .if1 .left) (result .result) (result .ensures)
+    (paths-keep-kind .ensures ∙ sym (keeps (path-from-head .result) (a .eps .bits))) (c .before .before .if1 .left) (result .result) (result .ensures)
     (reason-keeps .result)
     (reason-keeps .ensures)
 
