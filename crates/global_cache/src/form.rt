@@ -79,7 +79,16 @@ fn slots_fit(cache: &[u8], h: Header, goal: usize) -> bool
     requires { ⌜ CacheBytes (h .goals) (h .top) (now cache) × (goal < h .goals) ⌝ }
     ensures { λ r. ⌜ r ≡ slotsFit h (now (cache .entry)) goal (h .top + 2) ⌝ }
 {
-    let mut slot: usize = 0;
+    let success = crate::slot_at(cache, h.goals, h.top, goal, 0);
+    if !slot_fits(success, h, 0) {
+        return false;
+    }
+    // most often no overflow slot is held
+    let row = crate::overflow_slots(cache, h.goals, h.top, goal);
+    if buffer::all_zero(row) {
+        return true;
+    }
+    let mut slot: usize = 1;
     while slot < h.top + 2 {
         let s = crate::slot_at(cache, h.goals, h.top, goal, slot);
         if !slot_fits(s, h, slot) {
