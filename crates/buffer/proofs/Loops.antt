@@ -39,7 +39,7 @@ copy-more bs s from to i e down h =
     ∙ ap (λ (v : ℕ). overwrite bs to (region from i bs ++ (v ∷ []))) kept
     ∙ ap (overwrite bs to) (sym (region-snoc from i bs h) ∙ ap (λ (n : ℕ). region from n bs) (sym (add-one i)))
 
--- `all_zero`
+-- `each_zero`
 module _ (bs : List ℕ) (i : ℕ) (rest : allZero (drop i bs) ≡ allZero bs) where
   opened : i < length bs → (eqb (getD bs i 0) 0 && allZero (drop (i + 1) bs)) ≡ allZero bs
   opened h = rw add-one (sym (ap allZero (drop-cons bs i 0 h)) ∙ rest)

@@ -115,7 +115,26 @@ pub fn copy_within(s: &mut [u8], from: usize, to: usize, n: usize)
     }
 }
 
+// Whether every byte is 0: 8 at once, the last 8 again, so that none is left over.
 pub fn all_zero(s: &[u8]) -> bool
+    ensures { λ r. ⌜ r ≡ allZero (now (s .entry)) ⌝ }
+{
+    let n = s.len();
+    if n < 8 {
+        return each_zero(s);
+    }
+    let words = n / 8;
+    let mut all = read_u64(s, n - 8);
+    let mut i: usize = 0;
+    while i < words {
+        all = all | read_u64(s, 8 * i);
+        i = i + 1;
+    }
+    all == 0
+}
+
+// The same, byte by byte.
+fn each_zero(s: &[u8]) -> bool
     ensures { λ r. ⌜ r ≡ allZero (now (s .entry)) ⌝ }
 {
     let mut i: usize = 0;

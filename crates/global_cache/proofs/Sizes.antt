@@ -1,6 +1,6 @@
 -- How many slots and bytes there are.
 use Prim.Native.Nat.{ℕ, _+_, _*_, _≤_, _<_}
-use native.Mathlib.Nat.{mul-le-mul}
+use native.Mathlib.Nat.{add-mul, mul-le-mul, mul-le-mul-right}
 use native.Mathlib.Omega.{arith}
 use Rattle.buffer.proofs.Tables.{apart}
 
@@ -22,3 +22,9 @@ place-in goals top place h = apart place (goals * (top + 2)) (goals + 4) h
 -- a goal's slots are among all
 pub goal-in : (goals top goal : ℕ) → goal < goals → goal * (top + 2) + (top + 2) ≤ goals * (top + 2)
 goal-in goals top goal h = apart goal goals (top + 2) h
+
+-- and so are those behind its first
+pub row-in : (goals top goal : ℕ) → goal < goals → (goal * (top + 2) + 1) * (goals + 4) + (top + 1) * (goals + 4) ≤ goals * (top + 2) * (goals + 4)
+row-in goals top goal h =
+    let among : goal * (top + 2) + 1 + (top + 1) ≤ goals * (top + 2) = omega (arith, goal-in goals top goal h) in
+    omega (arith, add-mul (goal * (top + 2) + 1) (top + 1) (goals + 4), mul-le-mul-right (goals + 4) among)

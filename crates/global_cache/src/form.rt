@@ -84,7 +84,8 @@ fn slots_fit(cache: &[u8], h: Header, goal: usize) -> bool
         return false;
     }
     // most often no overflow slot is held
-    if nested::is_empty(crate::overflow_slots(cache, h.goals, h.top, goal)) {
+    let row = crate::overflow_slots(cache, h.goals, h.top, goal);
+    if buffer::all_zero(row) {
         return true;
     }
     let mut slot: usize = 1;

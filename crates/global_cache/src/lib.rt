@@ -8,7 +8,7 @@ ghost use lib.ListN.{length};
 ghost use Rattle.definition.specs.declared.answers.Answer.{Answer};
 ghost use Rattle.definition.specs.GlobalCache.{slotAt, slotFor, cacheInsert};
 ghost use Rattle.definition.specs.CacheForm.{cacheLength};
-ghost use Rattle.global_cache.specs.Cache.{headerWith, Sizes, CacheBytes, evaluated, inserted};
+ghost use Rattle.global_cache.specs.Cache.{headerWith, Sizes, CacheBytes, overflowSlots, evaluated, inserted};
 
 pub mod form;
 pub mod slot;
@@ -50,11 +50,13 @@ pub fn slot_at(cache: &[u8], goals: usize, top: usize, goal: usize, slot: usize)
 }
 
 // A goal's overflow slots, one behind the other.
-pub fn overflow_slots(cache: &[u8], goals: usize, top: usize, goal: usize) -> &[u8]
+fn overflow_slots(cache: &[u8], goals: usize, top: usize, goal: usize) -> &[u8]
+    requires { ⌜ CacheBytes goals top (now cache) × (goal < goals) ⌝ }
+    ensures { λ r. ⌜ now r ≡ overflowSlots (headerWith goals top) (now (cache .entry)) goal ⌝ }
 {
-    let a = (goal * (top + 2) + 1) * (goals + slot::FIELDS);
-    let e = (goal + 1) * (top + 2) * (goals + slot::FIELDS);
-    &cache[a..e]
+    let start = start_of(goals, top, goal * (top + 2) + 1);
+    let end = start + (top + 1) * (goals + slot::FIELDS);
+    &cache[start..end]
 }
 
 // The slot that a result belongs to.

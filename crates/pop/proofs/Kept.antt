@@ -2,47 +2,134 @@
 use mathlib.Core.Path.{_≡_, refl, sym, ap, ap₂, _∙_, subst}
 use mathlib.Core.Bool.{Bool, true, false}
 use mathlib.Core.List.{List, [], _∷_, _++_, append-nil, append-assoc}
-use Prim.Native.Nat.{ℕ, _+_, _*_, _≤_, _<_}
-use native.Mathlib.Nat.{le-refl, add-le-add, mul-le-mul-right}
+use mathlib.Core.Logic.{inr}
+use Prim.Native.Nat.{ℕ, _+_, _*_, _-_, _≤_, _<_}
 use native.Mathlib.Numerals.{add-one}
 use native.Mathlib.Omega.{arith}
-use lib.ListN.{length, drop}
+use lib.ListN.{length, getD, drop}
+use lib.Seq.{drop-drop}
+use Rattle.definition.specs.Paths.{kindOf}
+use Rattle.definition.specs.Answers.{answerOf}
 use Rattle.definition.specs.Graph.{Entry}
 use Rattle.definition.specs.ProvisionalCache.{survivesRerun, survivors}
 use Rattle.buffer.specs.Regions.{region, overwrite}
-use Rattle.buffer.proofs.Regions.{length-region, overwrite-back}
-use Rattle.layout.specs.Entry.{entrySize}
+use Rattle.buffer.proofs.Regions.{length-region, region-region, region-same, region-before, region-after, byte-at, length-overwrite}
+use Rattle.buffer.proofs.Tables.{apart}
+use Rattle.layout.specs.Blocks.{headsSize, headsOf}
+use Rattle.layout.specs.Copied.{BlocksApart, HeadsCopied}
+use Rattle.layout.specs.Entry.{entryHeadsStart, entrySize, entryOf}
+use Rattle.layout.specs.Frame.{truth}
 use Rattle.layout.specs.Work.{entriesStart, entryStartFrom, entriesFrom, entryFrom}
-use Rattle.layout.proofs.Graphs.{no-entries, entries-snoc, entry-room, entries-behind, entries-push-back}
-use Rattle.provisional_cache.specs.Entries.{EntriesBytes, entryBytesFrom}
+use Rattle.layout.proofs.Graphs.{no-entries, entries-snoc, entry-room}
+use Rattle.provisional_cache.specs.Entries.{EntriesBytes}
+use Rattle.provisional_cache.proofs.Copies.{entries-low, entries-high}
 use Rattle.provisional_cache.proofs.Loops.{rest-open, rest-none}
-use Rattle.provisional_cache.proofs.Writes.{frames-of, below-whole}
+use Rattle.provisional_cache.proofs.Writes.{frames-of}
 use Rattle.pop.specs.Kept.{keptOf, Compacted, Cleared}
+use Rattle.pop.specs.Rebased.{EntryWritten}
+use Rattle.pop.proofs.Writes.{others-same}
+
+-- lists that are the same from one place on are so from a later one on
+further : (i k : ℕ) → k ≤ i → (xs ys : List Entry) → drop (k + 1) xs ≡ drop (k + 1) ys → drop (i + 1) xs ≡ drop (i + 1) ys
+further i k le xs ys e =
+    let m : k + 1 + (i - k) ≡ i + 1 = omega arith in
+    ap (λ (n : ℕ). drop n xs) (sym m) ∙ sym (drop-drop (i - k) (k + 1) xs) ∙ ap (drop (i - k)) e ∙ drop-drop (i - k) (k + 1) ys ∙ ap (λ (n : ℕ). drop n ys) m
 
 module _ (goals base : ℕ) (bs : List ℕ) (g : EntriesBytes goals base bs) where
   -- ---- `move_entry`
-  pub move-none : (from to : ℕ) → from < 2 * goals → from ≡ to
-      → bs ≡ overwrite bs (entryStartFrom goals base to) (entryBytesFrom goals base from bs)
-  move-none from to lt e =
-      sym (overwrite-back bs (entryStartFrom goals base from) (entrySize goals)
-      (entry-room goals base bs (g .long) from lt))
-      ∙ ap (λ (k : ℕ). overwrite bs (entryStartFrom goals base k) (entryBytesFrom goals base from bs)) e
+  pub move-none : (from to : ℕ) → from ≡ to → EntryWritten goals base to (entryFrom goals base from bs) bs bs
+  move-none from to e =
+      record { entry = ap (λ (k : ℕ). entryFrom goals base k bs) (sym e); others = others-same goals base to bs }
 
-  pub move-room : (from to : ℕ) → to ≤ from → from < 2 * goals → (a b n : ℕ) → a ≡ entryStartFrom goals base from
-      → b ≡ entryStartFrom goals base to → n ≡ entrySize goals → (b ≤ a) × (a + n ≤ length bs)
-  move-room from to le lt a b n is-a is-b is-n = (
-    subst (λ (x : ℕ). x ≤ a) (sym is-b)
-        (subst (λ (x : ℕ). entryStartFrom goals base to ≤ x) (sym is-a)
-        (add-le-add (le-refl base) (mul-le-mul-right (entrySize goals) le))),
-    subst (λ (x : ℕ). x ≤ length bs) (sym (ap₂ (λ (x y : ℕ). x + y) is-a is-n))
-        (entry-room goals base bs (g .long) from lt),
-  )
+  -- from `a` on, and to `b`
+  module _ (from to a b : ℕ) (below : to < from) (lt : from < 2 * goals) (is-a : a ≡ entryStartFrom goals base from)
+      (is-b : b ≡ entryStartFrom goals base to) where
+    ends : b + entrySize goals ≤ a
+    ends = let order = apart to from (entrySize goals) below in omega arith
 
-  pub move-is : (from to a b n : ℕ) (new : List ℕ) → a ≡ entryStartFrom goals base from
-      → b ≡ entryStartFrom goals base to → n ≡ entrySize goals → new ≡ overwrite bs b (region a n bs)
-      → new ≡ overwrite bs (entryStartFrom goals base to) (entryBytesFrom goals base from bs)
-  move-is from to a b n new is-a is-b is-n is = is
-      ∙ ap₂ (λ (k : ℕ) (l : List ℕ). overwrite bs k l) is-b (ap₂ (λ (k m : ℕ). region k m bs) is-a is-n)
+    room : a + entrySize goals ≤ length bs
+    room = subst (λ (x : ℕ). x + entrySize goals ≤ length bs) (sym is-a) (entry-room goals base bs (g .long) from lt)
+
+    pub move-room : (b ≤ a) × (a + entryHeadsStart ≤ length bs)
+    move-room = let e = ends in let r = room in (omega arith, omega arith)
+
+    module _ (mid : List ℕ) (is-mid : mid ≡ overwrite bs b (region a entryHeadsStart bs)) where
+      fields : length (region a entryHeadsStart bs) ≡ entryHeadsStart
+      fields = length-region a entryHeadsStart bs (let r = room in omega arith)
+
+      fits : b + length (region a entryHeadsStart bs) ≤ length bs
+      fits = let e = ends in let r = room in omega (arith, fields)
+
+      mid-before : (c m : ℕ) → c + m ≤ b → region c m mid ≡ region c m bs
+      mid-before c m h = ap (region c m) is-mid ∙ region-before bs b (region a entryHeadsStart bs) fits c m h
+
+      mid-behind : (c m : ℕ) → b + entryHeadsStart ≤ c → region c m mid ≡ region c m bs
+      mid-behind c m h = ap (region c m) is-mid ∙ region-after bs b (region a entryHeadsStart bs) fits c m (omega (arith, fields))
+
+      pub move-apart : BlocksApart goals (a + entryHeadsStart) (b + entryHeadsStart) mid
+      move-apart =
+          let e = ends in
+          let r = room in
+          let same : length mid ≡ length bs = ap length is-mid ∙ length-overwrite bs b (region a entryHeadsStart bs) fits in
+          let whole : entryHeadsStart + headsSize goals ≡ entrySize goals = omega arith in
+          record { few = g .few; source = omega arith; target = omega arith; apart = inr (omega arith) }
+
+      module _ (new : List ℕ) (copied : HeadsCopied goals (a + entryHeadsStart) (b + entryHeadsStart) mid new) where
+        field : (j : ℕ) → j < entryHeadsStart → getD (region b (entrySize goals) new) j 0 ≡ getD (region a (entrySize goals) bs) j 0
+        field j h =
+            byte-at b (entrySize goals) new j (omega arith)
+            ∙ sym (byte-at b entryHeadsStart new j h)
+            ∙ ap (λ (l : List ℕ). getD l j 0)
+            (copied .others .before b entryHeadsStart (omega arith)
+            ∙ ap (region b entryHeadsStart) is-mid
+            ∙ ap (λ (m : ℕ). region b m (overwrite bs b (region a entryHeadsStart bs))) (sym fields)
+            ∙ region-same bs b (region a entryHeadsStart bs) fits)
+            ∙ byte-at a entryHeadsStart bs j h
+            ∙ sym (byte-at a (entrySize goals) bs j (omega arith))
+
+        heads : headsOf goals (region entryHeadsStart (headsSize goals) (region b (entrySize goals) new))
+            ≡ headsOf goals (region entryHeadsStart (headsSize goals) (region a (entrySize goals) bs))
+        heads =
+            let e = ends in
+            ap (headsOf goals) (region-region b (entrySize goals) entryHeadsStart (headsSize goals) new (omega arith))
+            ∙ copied .heads
+            ∙ ap (headsOf goals) (mid-behind (a + entryHeadsStart) (headsSize goals) (omega arith))
+            ∙ sym (ap (headsOf goals) (region-region a (entrySize goals) entryHeadsStart (headsSize goals) bs (omega arith)))
+
+        same : entryOf goals (region b (entrySize goals) new) ≡ entryOf goals (region a (entrySize goals) bs)
+        unfolding entryOf
+        same =
+            let e0 = field 0 (omega arith) in
+            let e1 = field 1 (omega arith) in
+            let e2 = field 2 (omega arith) in
+            let e3 = field 3 (omega arith) in
+            λ t. record {
+              input = e0 t;
+              encounteredOverflow = truth (e1 t);
+              heads = heads t;
+              pathFromHead = kindOf (e2 t);
+              result = answerOf (e3 t);
+            }
+
+        before : (c m : ℕ) → c + m ≤ entryStartFrom goals base to → region c m new ≡ region c m bs
+        before c m h = copied .others .before c m (omega arith) ∙ mid-before c m (omega arith)
+
+        behind : (c m : ℕ) → entryStartFrom goals base to + entrySize goals ≤ c → region c m new ≡ region c m bs
+        behind c m h = copied .others .behind c m (omega arith) ∙ mid-behind c m (omega arith)
+
+        pub moved : EntryWritten goals base to (entryFrom goals base from bs) bs new
+        moved =
+            record {
+              entry =
+                  ap (λ (x : ℕ). entryOf goals (region x (entrySize goals) new)) (sym is-b)
+                  ∙ same
+                  ∙ ap (λ (x : ℕ). entryOf goals (region x (entrySize goals) bs)) is-a;
+              others = record {
+                below = before 0 base (omega arith);
+                before = entries-low goals base to bs new before;
+                behind = entries-high goals base to bs new behind;
+              };
+            }
 
   -- ---- `keep_if`
   pub keep-not : (i kept : ℕ) (keep : Bool) → keep ≡ false → Compacted goals base i kept keep bs bs kept
@@ -56,24 +143,19 @@ module _ (goals base : ℕ) (bs : List ℕ) (g : EntriesBytes goals base bs) whe
         rest = λ n. refl;
       }
 
-  pub keep-moved : (i kept : ℕ) (keep : Bool) (new : List ℕ) → keep ≡ true → kept ≤ i → i < 2 * goals
-      → new ≡ overwrite bs (entryStartFrom goals base kept) (entryBytesFrom goals base i bs)
-      → Compacted goals base i kept keep bs new (kept + 1)
-  keep-moved i kept keep new keeps le lt is =
-      let ys : List ℕ = entryBytesFrom goals base i bs in
-      let whole : length ys ≡ entrySize goals = length-region (entryStartFrom goals base i) (entrySize goals) bs
-      (entry-room goals base bs (g .long) i lt) in
-      let lo : kept < 2 * goals = omega arith in
+  pub keep-moved : (i kept : ℕ) (keep : Bool) (new : List ℕ) → keep ≡ true → kept ≤ i
+      → EntryWritten goals base kept (entryFrom goals base i bs) bs new → Compacted goals base i kept keep bs new (kept + 1)
+  keep-moved i kept keep new keeps le written =
       record {
         least = omega arith;
         most = omega arith;
-        below = ap (region 0 base) is ∙ below-whole goals base bs (g .long) kept ys lo whole;
+        below = written .others .below;
         entries =
-            ap₂ (λ (k : ℕ) (l : List ℕ). entriesFrom goals base k l) (add-one kept) is
-            ∙ entries-push-back goals base bs (g .long) kept ys lo whole
+            ap (λ (k : ℕ). entriesFrom goals base k new) (add-one kept)
+            ∙ entries-snoc goals base kept new
+            ∙ ap₂ (λ (es : List Entry) (e : Entry). es ++ (e ∷ [])) (written .others .before kept (omega arith)) (written .entry)
             ∙ sym (ap (λ (t : Bool). entriesFrom goals base kept bs ++ keptOf t (entryFrom goals base i bs)) keeps);
-        rest = λ n. ap (λ (l : List ℕ). drop (i + 1) (entriesFrom goals base n l)) is
-            ∙ entries-behind goals base bs (g .long) kept ys lo whole i le n;
+        rest = λ n. further i kept le (entriesFrom goals base n new) (entriesFrom goals base n bs) (written .others .behind n);
       }
 
 -- ---- the loops that compact: the entries kept so far, and what F makes of the rest, are what F makes of all

@@ -1,6 +1,6 @@
 pub mod Tests
-pub mod Kept
 pub mod Writes
+pub mod Kept
 pub mod Filled
 pub mod Bounds
 pub mod Loops

@@ -1,42 +1,53 @@
-use mathlib.Core.Path.{_≡_, refl}
 use Prim.Native.Nat.{_-_, _≤_}
 use native.Mathlib.Omega.{arith}
-use lib.ListN.{length, drop}
-use Rattle.buffer.specs.Regions.{allZero}
-use Rattle.buffer.proofs.Loops.{zero-stops, zero-more, zero-all}
+use Rattle.buffer.proofs.Zeros.{Joined, join-last, join-more, joined-all}
+use borrow.Author.Needs.{needs}
 use Rattle.buffer.proofs.all_zero.Statement.{statement}
 use Rattle.buffer.proofs.all_zero.Tie as tie
 
 abbrev Inv-loop : tie.InvT-loop
-Inv-loop s i₀ i = (i ≤ length s) × (allZero (drop i s) ≡ allZero s)
+Inv-loop s n words all₀ i₀ all i = (i ≤ words) × Joined s all i
 
 abbrev μ-loop : tie.MeasureT-loop
-μ-loop s i₀ i = length s - i
+μ-loop s n words all₀ i₀ all i = words - i
 
-loop-holds : tie.Need-loop-holds Inv-loop μ-loop
-loop-holds c = (omega arith, refl)
-
-shared-slice-read-if1 : tie.Need-shared-slice-read-if1 Inv-loop μ-loop
-shared-slice-read-if1 c = omega arith
+each-zero-requires : tie.Need-each-zero-requires Inv-loop μ-loop
+each-zero-requires c κs = search needs
 
 returns : tie.Need-returns Inv-loop μ-loop
-returns c =
-    let l = c .before .before .before in
-    zero-stops (l .before .args .s .now) (l .loop .i) (l .loop .inv .1) (omega arith) (c .if1 .taken)
+returns c = c .each-zero .ensures
+
+read-u64-requires : tie.Need-read-u64-requires Inv-loop μ-loop
+read-u64-requires c κs = omega arith
+
+loop-holds : tie.Need-loop-holds Inv-loop μ-loop
+loop-holds c =
+    let s = c .before .before .before .args .s .now in
+    (omega arith, join-last s (c .read-u64 .result) (c .read-u64 .ensures))
+
+mul-read-u64 : tie.Need-mul-read-u64 Inv-loop μ-loop
+mul-read-u64 c = search needs
+
+read-u64-requires-2 : tie.Need-read-u64-requires-2 Inv-loop μ-loop
+read-u64-requires-2 c κs = omega arith
 
 add-i : tie.Need-add-i Inv-loop μ-loop
-add-i c = omega arith
+add-i c = search needs
 
 loop-less : tie.Need-loop-less Inv-loop μ-loop
 loop-less c = omega arith
 
 loop-again : tie.Need-loop-again Inv-loop μ-loop
 loop-again c =
-    let l = c .before .before .before in
-    (omega arith, zero-more (l .before .args .s .now) (l .loop .i) (l .loop .inv .1) (omega arith) (c .if1 .left))
+    let l = c .before .before in
+    let s = l .before .before .before .before .args .s .now in
+    (omega arith, join-more s (l .loop .all) (l .loop .i) (l .loop .inv .1) (c .read-u642 .result) (c .read-u642 .ensures))
 
 returns-2 : tie.Need-returns-2 Inv-loop μ-loop
-returns-2 c = zero-all (c .before .before .args .s .now) (c .before .loop .i) (c .before .loop .inv .1) (c .loop-test .left)
+returns-2 c =
+    let l = c .before in
+    let s = l .before .before .before .before .args .s .now in
+    joined-all s (l .loop .all) (l .loop .i) (l .loop .inv .1) (omega arith)
 
 pub all-zero-spec : {M : Type 1} → statement M
 all-zero-spec =
@@ -44,9 +55,12 @@ all-zero-spec =
     (tie.spec
     Inv-loop
     μ-loop
-    loop-holds
-    shared-slice-read-if1
+    each-zero-requires
     returns
+    read-u64-requires
+    loop-holds
+    mul-read-u64
+    read-u64-requires-2
     add-i
     loop-less
     loop-again

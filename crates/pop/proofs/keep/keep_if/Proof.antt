@@ -25,7 +25,7 @@ returns-2 c =
     let if1 = c .before .before .before .before .if1 in
     let move-entry = c .before .before .move-entry in
     keep-moved (s .args .goals) (s .args .base) (s .args .bytes .now) (s .pre .0) (s .args .i) (s .args .kept) (s .args .keep) (move-entry .last .0)
-    (not-false (s .args .keep) (if1 .left)) (s .pre .1 .0) (s .pre .1 .1) (move-entry .ensures)
+    (not-false (s .args .keep) (if1 .left)) (s .pre .1 .0) (move-entry .ensures)
 
 pub keep-if-spec : {M : Type 1} → statement M
 keep-if-spec = tie.close (tie.spec returns move-entry-requires add-result same-length returns-2)
