@@ -225,6 +225,7 @@ fn close_cycle(
 
 pub fn check_cycle_on_stack(
     graph: &mut [u8],
+    places: &[u8; 64],
     h: Header,
     height: usize,
     goal: usize,
@@ -234,7 +235,7 @@ pub fn check_cycle_on_stack(
     requires { ⌜ StackBytes (h .goals) height (now graph) ⌝ }
     ensures { λ r. ⌜ StackTried h height goal step available (now (graph .entry)) (now (graph .exit)) r ⌝ }
 {
-    let place = stack::find(graph, h.goals, height, goal);
+    let place = stack::find(graph, h.goals, places, height, goal);
     if let OnStack::At(head, provisional) = place {
         let answer = close_cycle(graph, h, height, goal, step, available, head, provisional);
         return Hit::Result(answer);
@@ -247,6 +248,7 @@ pub fn check_cycle_on_stack(
 fn lookup_at_depth(
     cache: &[u8],
     graph: &mut [u8],
+    places: &[u8; 64],
     h: Header,
     height: usize,
     entries: usize,
@@ -266,7 +268,7 @@ fn lookup_at_depth(
     if let Hit::Result(answer) = global {
         return Found::Known(answer);
     }
-    let cycle = check_cycle_on_stack(graph, h, height, goal, step, available);
+    let cycle = check_cycle_on_stack(graph, places, h, height, goal, step, available);
     if let Hit::Result(answer) = cycle {
         return Found::Known(answer);
     }
@@ -276,6 +278,7 @@ fn lookup_at_depth(
 pub fn lookup(
     cache: &[u8],
     graph: &mut [u8],
+    places: &[u8; 64],
     h: Header,
     root: usize,
     height: usize,
@@ -290,7 +293,7 @@ pub fn lookup(
 {
     let depth = stack::allowed_depth_for_nested(graph, h.goals, h.divisor, root, height, lower);
     if let Depth::Allowed(available) = depth {
-        return lookup_at_depth(cache, graph, h, height, entries, goal, step, available);
+        return lookup_at_depth(cache, graph, places, h, height, entries, goal, step, available);
     }
     stack::mark_top_overflow(graph, h.goals, height);
     Found::Known(Answer::Overflow)

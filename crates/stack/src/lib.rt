@@ -1,5 +1,6 @@
 // stack.rs: the frames of the goals that are being evaluated, at their index in the
 // graph. How many there are is no byte of it.
+use buffer::scalars;
 use definition::answers::Answer;
 use definition::paths::PathKind;
 use frame::Depth;
@@ -93,18 +94,18 @@ pub fn mark_top_overflow(graph: &mut [u8], goals: usize, height: usize)
     frame::mark_overflow(&mut graph[start..end], goals);
 }
 
-// Stack::find, from the top on.
-pub fn find(graph: &[u8], goals: usize, height: usize, goal: usize) -> OnStack
+// Stack::find: the goal's place tells where its frame can be, if there is one.
+pub fn find(graph: &[u8], goals: usize, places: &[u8; 64], height: usize, goal: usize) -> OnStack
     requires { ⌜ GraphBytes goals (now graph) × (height ≤ goals) ⌝ }
     ensures { λ r. ⌜ Found goals height (now (graph .entry)) goal r ⌝ }
 {
-    let mut i = height;
-    while 0 < i {
-        i = i - 1;
-        let f = frame_at(graph, goals, i);
-        if frame::input(f, goals) == goal {
-            return OnStack::At(i, frame::provisional_result(f, goals));
-        }
+    let i = scalars::wide(places[goal]);
+    if height <= i {
+        return OnStack::Nowhere;
+    }
+    let f = frame_at(graph, goals, i);
+    if frame::input(f, goals) == goal {
+        return OnStack::At(i, frame::provisional_result(f, goals));
     }
     OnStack::Nowhere
 }
