@@ -18,6 +18,7 @@ ghost use Rattle.definition.specs.Lookup.{anyOnStack};
 ghost use Rattle.layout.specs.Steps.{packed};
 ghost use Rattle.layout.specs.Work.{stackOf};
 ghost use Rattle.stack.specs.Bytes.{GraphBytes, StackBytes, frameBytes};
+ghost use Rattle.stack.specs.Places.{Placed};
 ghost use Rattle.stack.specs.Results.{Found, NestedDepth};
 ghost use Rattle.stack.specs.Written.{TopWritten, StackChanged, TopChanged};
 
@@ -96,7 +97,8 @@ pub fn mark_top_overflow(graph: &mut [u8], goals: usize, height: usize)
 
 // Stack::find: the goal's place tells where its frame can be, if there is one.
 pub fn find(graph: &[u8], goals: usize, places: &[u8; 64], height: usize, goal: usize) -> OnStack
-    requires { ⌜ GraphBytes goals (now graph) × (height ≤ goals) ⌝ }
+    requires { ⌜ GraphBytes goals (now graph) × ((height ≤ goals) × (goal < goals)) ⌝ }
+    requires { ⌜ Placed (stackOf goals height (now graph)) (now places) ⌝ }
     ensures { λ r. ⌜ Found goals height (now (graph .entry)) goal r ⌝ }
 {
     let i = scalars::wide(places[goal]);
