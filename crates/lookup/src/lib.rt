@@ -14,7 +14,9 @@ use stack::frame::Provisional;
 ghost use mathlib.Core.Path.{_≡_};
 ghost use Prim.Native.Nat.{_*_, _<_, _≤_};
 ghost use Rattle.definition.specs.Lookup.{cycleResult};
+ghost use Rattle.layout.specs.Work.{stackOf};
 ghost use Rattle.stack.specs.Bytes.{GraphBytes, StackBytes};
+ghost use Rattle.stack.specs.Places.{Placed};
 ghost use Rattle.stack.specs.Results.{provisionalOf};
 ghost use Rattle.lookup.specs.Lookups.{Counted, AskedAt, Asked, applicable, overflowApplies, successApplies};
 ghost use Rattle.lookup.specs.Hits.{EntryUsed, EntriesTried, SlotUsed, SlotsTried, CycleClosed, StackTried};
@@ -232,7 +234,8 @@ pub fn check_cycle_on_stack(
     step: PathKind,
     available: usize,
 ) -> Hit
-    requires { ⌜ StackBytes (h .goals) height (now graph) ⌝ }
+    requires { ⌜ StackBytes (h .goals) height (now graph) × (goal < h .goals) ⌝ }
+    requires { ⌜ Placed (stackOf (h .goals) height (now graph)) (now places) ⌝ }
     ensures { λ r. ⌜ StackTried h height goal step available (now (graph .entry)) (now (graph .exit)) r ⌝ }
 {
     let place = stack::find(graph, h.goals, places, height, goal);
@@ -257,6 +260,7 @@ fn lookup_at_depth(
     available: usize,
 ) -> Found
     requires { ⌜ AskedAt h (now cache) (now graph) height entries goal available ⌝ }
+    requires { ⌜ Placed (stackOf (h .goals) height (now graph)) (now places) ⌝ }
     ensures { λ r. ⌜ AnsweredAt h height entries goal step available (now (cache .entry))
         (now (graph .entry)) (now (graph .exit)) r ⌝ }
 {
@@ -288,6 +292,7 @@ pub fn lookup(
     lower: bool,
 ) -> Found
     requires { ⌜ Asked h (now cache) (now graph) root height entries goal ⌝ }
+    requires { ⌜ Placed (stackOf (h .goals) height (now graph)) (now places) ⌝ }
     ensures { λ r. ⌜ Answered h root height entries goal step lower (now (cache .entry))
         (now (graph .entry)) (now (graph .exit)) r ⌝ }
 {
