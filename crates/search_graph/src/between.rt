@@ -36,7 +36,7 @@ pub fn look_up(
     step: PathKind,
     lower: bool,
 ) -> Found
-    requires { ⌜ Looking h root height entries goal (now work) (now cache) ⌝ }
+    requires { ⌜ Looking h root height entries goal (now work) (now cache) (now places) ⌝ }
     ensures { λ r. ⌜ LookedUp h root height entries goal step lower (now (work .entry)) (now (work .exit))
         (now (cache .entry)) r ⌝ }
 {

@@ -37,11 +37,11 @@ pub fn evaluate(
     step: PathKind,
     lower: bool,
 ) -> Outcome
-    requires { ⌜ Running (now book) (now starts) (now cache) (now work) h root height entries ⌝ }
+    requires { ⌜ Running (now book) (now starts) (now places) (now cache) (now work) h root height entries ⌝ }
     requires { ⌜ goal < h .goals ⌝ }
     ensures { λ r. ⌜ Comes (h .goals) root height height
         (goalFrom (now (book .entry)) h root height entries (now (work .entry)) (now (cache .entry)) goal step lower)
-        (now (work .entry)) (now (work .exit)) (now (cache .exit)) r ⌝ }
+        (now (work .entry)) (now (work .exit)) (now (cache .exit)) (now (places .exit)) r ⌝ }
 {
     let found = between::look_up(cache, work, places, h, root, height, entries, goal, step, lower);
     match found {
@@ -89,11 +89,11 @@ fn rerun(
     entries: usize,
     left: usize,
 ) -> Ran
-    requires { ⌜ Running (now book) (now starts) (now cache) (now work) h root height entries ⌝ }
+    requires { ⌜ Running (now book) (now starts) (now places) (now cache) (now work) h root height entries ⌝ }
     requires { ⌜ (1 ≤ height) × ((left < 99) × Reads (h .goals) false (now p)) ⌝ }
     ensures { λ r. ⌜ TaskComes (h .goals) root (height - 1)
         (taskFrom (now (book .entry)) (now (p .entry)) h root height entries left (now (work .entry)) (now (cache .entry)))
-        (now (work .entry)) (now (work .exit)) (now (cache .exit)) r ⌝ }
+        (now (work .entry)) (now (work .exit)) (now (cache .exit)) (now (places .exit)) r ⌝ }
 {
     let mut more = left;
     let mut overflow = false;
@@ -129,11 +129,11 @@ fn read_part(
     entries: usize,
     in_pick: bool,
 ) -> Outcome
-    requires { ⌜ Running (now book) (now starts) (now cache) (now work) h root height entries ⌝ }
+    requires { ⌜ Running (now book) (now starts) (now places) (now cache) (now work) h root height entries ⌝ }
     requires { ⌜ (1 ≤ height) × Reads (h .goals) in_pick (now p) ⌝ }
     ensures { λ r. ⌜ Comes (h .goals) root height (keptBelow in_pick height)
         (partFrom (now (book .entry)) (now (p .entry)) in_pick h root height entries (now (work .entry)) (now (cache .entry)))
-        (now (work .entry)) (now (work .exit)) (now (cache .exit)) r ⌝ }
+        (now (work .entry)) (now (work .exit)) (now (cache .exit)) (now (places .exit)) r ⌝ }
 {
     let code = part::code(p);
     match code {

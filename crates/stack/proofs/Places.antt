@@ -7,7 +7,7 @@ use Prim.Native.Nat.{ℕ, zero, suc, _<_}
 use native.Mathlib.Omega.{arith}
 use native.Mathlib.Decide.{ℕ-discrete}
 use borrow.Author.Tests.{eq-eqb, ne-eqb}
-use lib.ListN.{length, getD, set}
+use lib.ListN.{length, getD, set, length-set}
 use lib.Seq.{getD-set-same, getD-set-other}
 use lib.Dec.{eqb}
 use Rattle.definition.specs.Stack.{Frame, Stack, OnStack, stackFind}
@@ -17,7 +17,7 @@ use Rattle.layout.proofs.Graphs.{length-stack, stack-unfold}
 use Rattle.stack.specs.declared.frame.Provisional.{Provisional}
 use Rattle.stack.specs.declared.OnStack.the-variants.{At, Nowhere}
 use Rattle.stack.specs.Bytes.{frameAt}
-use Rattle.stack.specs.Places.{Placed}
+use Rattle.stack.specs.Places.{Placed, PlacesHeld}
 use Rattle.stack.proofs.Loops.{empty}
 
 -- ---- `find`: i is the goal's place
@@ -105,10 +105,20 @@ placed-off (f ∷ fs) places goal n off p =
     let o = off-top f fs goal off in
     (getD-set-other places goal (f .input) n 0 (o .0) ∙ p .0, placed-off fs places goal n (o .1) (p .1))
 
-pub placed-pushed : (f : Frame) (s : Stack) (places : List ℕ) → stackFind s (f .input) ≡ none
-    → f .input < length places → Placed s places → Placed (f ∷ s) (set places (f .input) (length s))
-placed-pushed f s places off lt p =
-    (getD-set-same places (f .input) (length s) 0 lt, placed-off s places (f .input) (length s) off p)
+pub places-pushed : (f : Frame) (s : Stack) (places : List ℕ) → stackFind s (f .input) ≡ none → f .input < 64
+    → PlacesHeld s places → PlacesHeld (f ∷ s) (set places (f .input) (length s))
+places-pushed f s places off lt p =
+    let long = p .long in
+    record {
+      long = length-set places (f .input) (length s) ∙ p .long;
+      placed = (
+        getD-set-same places (f .input) (length s) 0 (omega arith),
+        placed-off s places (f .input) (length s) off (p .placed),
+      );
+    }
+
+pub places-popped : (f : Frame) (s : Stack) (places : List ℕ) → PlacesHeld (f ∷ s) places → PlacesHeld s places
+places-popped f s places p = record { long = p .long; placed = p .placed .1 }
 
 -- ---- the goals of a stack are those of its skeleton
 same-length : (s : Stack) → length (skeleton s) ≡ length s
@@ -124,7 +134,11 @@ skeleton-placed [] places p = tt
 skeleton-placed (f ∷ fs) places p = (p .0 ∙ same-length fs, skeleton-placed fs places (p .1))
 
 -- so they are at their places in every stack with that skeleton
-pub same-placed : (old new : Stack) (places : List ℕ) → skeleton new ≡ skeleton old → Placed old places
-    → Placed new places
-same-placed old new places e p =
-    skeleton-placed new places (subst (λ (s : Stack). Placed s places) (sym e) (placed-skeleton old places p))
+pub same-places : (old new : Stack) (places : List ℕ) → skeleton new ≡ skeleton old → PlacesHeld old places
+    → PlacesHeld new places
+same-places old new places e p =
+    record {
+      long = p .long;
+      placed = skeleton-placed new places
+          (subst (λ (s : Stack). Placed s places) (sym e) (placed-skeleton old places (p .placed)));
+    }

@@ -9,3 +9,8 @@ use Rattle.definition.specs.Stack.{Stack}
 abbrev pub Placed : Stack → List ℕ → Type 0
 Placed [] places = Unit {0}
 Placed (f ∷ fs) places = (getD places (f .input) 0 ≡ length fs) × Placed fs places
+
+-- in an array with a place for each goal that a book can have
+pub record PlacesHeld (s : Stack) (places : List ℕ) : Type 0 where
+  pub long : length places ≡ 64
+  pub placed : Placed s places
