@@ -5,7 +5,7 @@ use mathlib.Core.Option.{none, some}
 use mathlib.Core.List.{List, _∷_, []}
 use Prim.Native.Nat.{ℕ, zero, suc, _+_, _*_, _-_, _^_, _≤_, _<_, pred}
 use native.Mathlib.Omega.{arith}
-use lib.ListN.{length, getD, set, drop}
+use lib.ListN.{length, getD, set, drop, replicate, length-replicate}
 use Rattle.evaluation.proofs.Outcomes.{kept-done, counts-in, task-counts-in}
 use Rattle.definition.proofs.Skeleton.{skeleton, Kept, TaskKept, part-kept, task-kept, again-kept, skeleton-kept}
 use Rattle.definition.proofs.StepCounts.{push-counted, same-counted}
@@ -96,6 +96,11 @@ running-on {work = work} {h = h} {height = height} newPlaces newCache newWork m 
     let old = stackIn (h .goals) height work in let new = stackIn (h .goals) height newWork in
     running-next newPlaces newCache newWork height m r ec ew (r .stack) few (same-counted old new bones (r .counts))
     (same-places old new newPlaces bones placed)
+
+-- no frame has a place yet
+pub none-placed : (goals : ℕ) (work : List ℕ) → PlacesHeld (stackIn goals 0 work) (replicate 64 0)
+unfolding stackOf
+none-placed goals work = record { long = length-replicate {A = ℕ} 64 0; placed = tt }
 
 -- ---- the skeleton after a call: the definition's evaluations keep it
 pub computed-kept : (book p : List ℕ) (inPick : Bool) (h : Header) (height : ℕ) (k : Stack) (g : Graph)
