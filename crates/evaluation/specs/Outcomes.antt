@@ -23,6 +23,10 @@ taskOutcomeOf goals root height passes bs cache (Evaluated a overflow n) =
     task.Evaluated (graphOf goals root height n bs cache) (finalize (frameAt goals height bs) overflow a passes)
 taskOutcomeOf goals root height passes bs cache (TaskStopped r) = task.TaskStopped r
 
+abbrev pub IsDone : Outcome → Type 0
+IsDone (Done a n) = Unit {0}
+IsDone (Stopped r) = ⊥
+
 -- where there is an answer, the counts of steps on the stack s are true
 abbrev pub CountsIn : Stack → Outcome → Type 0
 CountsIn s (Done a n) = CountsTrue s

@@ -1,5 +1,5 @@
 -- What the lookups find, by the ways through the code.
-use mathlib.Core.Path.{_≡_, sym, ap, _∙_}
+use mathlib.Core.Path.{_≡_, refl, sym, ap, _∙_}
 use mathlib.Core.Bool.{Bool, true, false, not, _&&_}
 use mathlib.Core.Option.{Option, none, some}
 use mathlib.Core.List.{List}
@@ -118,6 +118,19 @@ module _ (h : Header) (height goal : ℕ) (step : PathKind) (available : ℕ) (b
 
   pub cycle-missed : place ≡ Nowhere → none ≡ checkCycleOnStack h there goal step available
   cycle-missed e = ap closed (sym (ap onStackOf e) ∙ is-place)
+
+-- nothing was found: the goal is on no frame
+pub cycle-off : (h : Header) (g : Graph) (goal : ℕ) (step : PathKind) (available : ℕ) (r : Hit) (x : Graph)
+    → hitOf r x ≡ checkCycleOnStack h g goal step available → r ≡ Nothing → stackFind (g .stack) goal ≡ none
+cycle-off h g goal step available r x is e =
+    by (stackFind (g .stack) goal) (sym (ap (λ (p : Hit). hitOf p x) e) ∙ is)
+  where
+    closes : Option definition.OnStack → Option Outcome
+    closes p = elim p [ none ↦ none | some head ↦ some (closeCycle h g goal step available head) ]
+
+    by : (p : Option definition.OnStack) → none ≡ closes p → p ≡ none
+    by none q = refl
+    by (some head) q = let z : _≡_ {A = ℕ} 0 1 = cc in absurd (omega arith)
 
 -- ---- `lookup_at_depth`
 hit-known : (o : Option Outcome) (next : Outcome) (r : Hit) (x : Graph) (a : Answer) → hitOf r x ≡ o → r ≡ Result a → unlessFound o next ≡ Done x a

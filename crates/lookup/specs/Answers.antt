@@ -1,13 +1,15 @@
 -- What all lookups together come to, whatever a new frame is computed by.
 use mathlib.Core.Path.{_≡_}
 use mathlib.Core.Bool.{Bool}
+use mathlib.Core.Option.{none}
 use mathlib.Core.List.{List}
 use Prim.Native.Nat.{ℕ, _<_}
 use Rattle.definition.specs.declared.paths.PathKind.{PathKind}
 use Rattle.definition.specs.declared.format.Header.{Header}
+use Rattle.definition.specs.Stack.{stackFind}
 use Rattle.definition.specs.Graph.{Graph, Outcome}
 use Rattle.definition.specs.Evaluate.{evaluateAtDepth, evaluateGoalWith}
-use Rattle.layout.specs.Work.{graphOf}
+use Rattle.layout.specs.Work.{stackOf, graphOf}
 use Rattle.lookup.specs.declared.Found.{Found}
 use Rattle.lookup.specs.declared.Found.the-variants.{Push}
 use Rattle.lookup.specs.Lookups.{found}
@@ -19,6 +21,7 @@ pub record AnsweredAt (h : Header) (height n goal : ℕ) (step : PathKind) (avai
       ≡ found h compute goal step r (graphOf (h .goals) root height n new cache)
   pub low : (d : ℕ) → r ≡ Push d → d < 256
   pub missed : (d : ℕ) → r ≡ Push d → new ≡ old
+  pub off : (d : ℕ) → r ≡ Push d → stackFind (stackOf (h .goals) height old) goal ≡ none
 
 -- at the depth that is allowed
 pub record Answered (h : Header) (root height n goal : ℕ) (step : PathKind) (lower : Bool)
@@ -28,3 +31,4 @@ pub record Answered (h : Header) (root height n goal : ℕ) (step : PathKind) (l
       ≡ found h compute goal step r (graphOf (h .goals) root height n new cache)
   pub low : (d : ℕ) → r ≡ Push d → d < 256
   pub missed : (d : ℕ) → r ≡ Push d → new ≡ old
+  pub off : (d : ℕ) → r ≡ Push d → stackFind (stackOf (h .goals) height old) goal ≡ none

@@ -13,7 +13,9 @@ use stack::frame::Provisional;
 ghost use mathlib.Core.Path.{_≡_};
 ghost use Prim.Native.Nat.{_*_, _<_, _≤_};
 ghost use Rattle.definition.specs.Lookup.{cycleResult};
+ghost use Rattle.layout.specs.Work.{stackOf};
 ghost use Rattle.stack.specs.Bytes.{GraphBytes, StackBytes};
+ghost use Rattle.stack.specs.Places.{Placed};
 ghost use Rattle.stack.specs.Results.{provisionalOf};
 ghost use Rattle.lookup.specs.Lookups.{Counted, AskedAt, Asked, applicable, overflowApplies, successApplies};
 ghost use Rattle.lookup.specs.Hits.{EntryUsed, EntriesTried, SlotUsed, SlotsTried, CycleClosed, StackTried};
@@ -223,16 +225,18 @@ fn close_cycle(
 
 pub fn check_cycle_on_stack(
     graph: &mut [u8],
+    places: &[u8; 64],
     h: Header,
     height: usize,
     goal: usize,
     step: PathKind,
     available: usize,
 ) -> Hit
-    requires { ⌜ StackBytes (h .goals) height (now graph) ⌝ }
+    requires { ⌜ StackBytes (h .goals) height (now graph) × (goal < h .goals) ⌝ }
+    requires { ⌜ Placed (stackOf (h .goals) height (now graph)) (now places) ⌝ }
     ensures { λ r. ⌜ StackTried h height goal step available (now (graph .entry)) (now (graph .exit)) r ⌝ }
 {
-    let place = stack::find(graph, h.goals, height, goal);
+    let place = stack::find(graph, h.goals, places, height, goal);
     if let OnStack::At(head, provisional) = place {
         let answer = close_cycle(graph, h, height, goal, step, available, head, provisional);
         return Hit::Result(answer);
@@ -245,6 +249,7 @@ pub fn check_cycle_on_stack(
 fn lookup_at_depth(
     cache: &[u8],
     graph: &mut [u8],
+    places: &[u8; 64],
     h: Header,
     height: usize,
     entries: usize,
@@ -253,6 +258,7 @@ fn lookup_at_depth(
     available: usize,
 ) -> Found
     requires { ⌜ AskedAt h (now cache) (now graph) height entries goal available ⌝ }
+    requires { ⌜ Placed (stackOf (h .goals) height (now graph)) (now places) ⌝ }
     ensures { λ r. ⌜ AnsweredAt h height entries goal step available (now (cache .entry))
         (now (graph .entry)) (now (graph .exit)) r ⌝ }
 {
@@ -264,7 +270,7 @@ fn lookup_at_depth(
     if let Hit::Result(answer) = global {
         return Found::Known(answer);
     }
-    let cycle = check_cycle_on_stack(graph, h, height, goal, step, available);
+    let cycle = check_cycle_on_stack(graph, places, h, height, goal, step, available);
     if let Hit::Result(answer) = cycle {
         return Found::Known(answer);
     }
@@ -274,6 +280,7 @@ fn lookup_at_depth(
 pub fn lookup(
     cache: &[u8],
     graph: &mut [u8],
+    places: &[u8; 64],
     h: Header,
     root: usize,
     height: usize,
@@ -283,12 +290,13 @@ pub fn lookup(
     lower: bool,
 ) -> Found
     requires { ⌜ Asked h (now cache) (now graph) root height entries goal ⌝ }
+    requires { ⌜ Placed (stackOf (h .goals) height (now graph)) (now places) ⌝ }
     ensures { λ r. ⌜ Answered h root height entries goal step lower (now (cache .entry))
         (now (graph .entry)) (now (graph .exit)) r ⌝ }
 {
     let depth = stack::allowed_depth_for_nested(graph, h.goals, h.divisor, root, height, lower);
     if let Depth::Allowed(available) = depth {
-        return lookup_at_depth(cache, graph, h, height, entries, goal, step, available);
+        return lookup_at_depth(cache, graph, places, h, height, entries, goal, step, available);
     }
     stack::mark_top_overflow(graph, h.goals, height);
     Found::Known(Answer::Overflow)

@@ -1,12 +1,13 @@
 -- What each function between the calls says of the workspace, once the graph that was lent is back.
 use mathlib.Core.Path.{_≡_, sym, ap, _∙_, subst}
 use mathlib.Core.Bool.{Bool}
+use mathlib.Core.Option.{none}
 use mathlib.Core.List.{List, _∷_}
 use Prim.Native.Nat.{ℕ, _+_, _≤_}
 use lib.ListN.{length}
 use Rattle.definition.specs.declared.paths.PathKind.{PathKind}
 use Rattle.definition.specs.declared.format.Header.{Header}
-use Rattle.definition.specs.Stack.{Stack, CountsTrue}
+use Rattle.definition.specs.Stack.{Stack, CountsTrue, stackFind}
 use Rattle.definition.specs.Evaluate.{evaluateGoalWith, newFrame, afterTask}
 use Rattle.layout.specs.Work.{graphLength, stackOf, entriesOf, graphOf}
 use Rattle.stack.specs.Bytes.{StackBytes}
@@ -60,6 +61,8 @@ module _
           low = answered .low;
           missed = λ d e. graph-back (h .goals) work w n is ys kept ∙ answered .missed d e
               ∙ lent-graph (h .goals) work w n is;
+          off = λ d e. subst (λ (bs : List ℕ). stackFind (stackOf (h .goals) height bs) goal ≡ none)
+              (lent-graph (h .goals) work w n is) (answered .off d e);
           merged = merged-back (h .goals) work w n is ys kept;
         }
 

@@ -1,16 +1,18 @@
 -- What the functions between the calls say of the workspace.
 use mathlib.Core.Path.{_≡_}
 use mathlib.Core.Bool.{Bool}
+use mathlib.Core.Option.{none}
 use mathlib.Core.List.{List, _∷_}
 use Prim.Native.Nat.{ℕ, _+_, _*_, _≤_, _<_}
 use Rattle.definition.specs.declared.paths.PathKind.{PathKind}
 use Rattle.definition.specs.declared.format.Header.{Header}
-use Rattle.definition.specs.Stack.{CountsTrue}
+use Rattle.definition.specs.Stack.{CountsTrue, stackFind}
 use Rattle.definition.specs.Graph.{Graph, withStack}
 use Rattle.definition.specs.Graph as graph
 use Rattle.definition.specs.Task as task
 use Rattle.definition.specs.Evaluate.{evaluateGoalWith, newFrame, afterTask}
 use Rattle.layout.specs.Work.{graphOf, mergedOf}
+use Rattle.stack.specs.Places.{Placed}
 use Rattle.global_cache.specs.Cache.{CacheBytes}
 use Rattle.evaluation.specs.declared.Outcome.{Outcome}
 use Rattle.evaluation.specs.declared.Ran.{Ran}
@@ -26,7 +28,7 @@ use Rattle.task.specs.Turns.{turned, CountsTurned, FewTurned}
 abbrev pub MergedKept : ℕ → List ℕ → List ℕ → Type 0
 MergedKept goals old new = (i : ℕ) → mergedOf goals i new ≡ mergedOf goals i old
 
-pub record Looking (h : Header) (root height n goal : ℕ) (work cache : List ℕ) : Type 0 where
+pub record Looking (h : Header) (root height n goal : ℕ) (work cache places : List ℕ) : Type 0 where
   pub bytes : WorkBytes (h .goals) work
   pub slots : CacheBytes (h .goals) (h .top) cache
   pub stack : height ≤ h .goals
@@ -35,6 +37,7 @@ pub record Looking (h : Header) (root height n goal : ℕ) (work cache : List �
   pub divides : 1 ≤ h .divisor
   pub shallow : root < 256
   pub counts : CountsTrue (stackIn (h .goals) height work)
+  pub placed : Placed (stackIn (h .goals) height work) places
 
 pub record LookedUp (h : Header) (root height n goal : ℕ) (step : PathKind) (lower : Bool)
     (old new cache : List ℕ) (r : Found) : Type 0 where
@@ -43,6 +46,7 @@ pub record LookedUp (h : Header) (root height n goal : ℕ) (step : PathKind) (l
       ≡ found h compute goal step r (graphOf (h .goals) root height n (graphIn (h .goals) new) cache)
   pub low : (d : ℕ) → r ≡ Push d → d < 256
   pub missed : (d : ℕ) → r ≡ Push d → graphIn (h .goals) new ≡ graphIn (h .goals) old
+  pub off : (d : ℕ) → r ≡ Push d → stackFind (stackIn (h .goals) height old) goal ≡ none
   pub merged : MergedKept (h .goals) old new
 
 pub record Pushed (goals height goal : ℕ) (step : PathKind) (available : ℕ) (old new : List ℕ) : Type 0 where

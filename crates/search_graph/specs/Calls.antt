@@ -12,6 +12,7 @@ use Rattle.definition.specs.Graph as graph
 use Rattle.definition.specs.Task as task
 use Rattle.definition.specs.Evaluate.{Evaluator, evalPart, evaluateGoal}
 use Rattle.layout.specs.Work.{mergedOf}
+use Rattle.stack.specs.Places.{PlacesHeld}
 use Rattle.book.specs.Parts.{partIn}
 use Rattle.book.specs.Read.{IsBook, bookIn}
 use Rattle.global_cache.specs.Cache.{CacheBytes}
@@ -21,17 +22,18 @@ use Rattle.evaluation.specs.Workspace.{WorkBytes, graphIn, stackIn}
 use Rattle.evaluation.specs.Outcomes.{outcomeOf, taskOutcomeOf, FewEntries, FewTaskEntries}
 use Rattle.delegate.specs.Picks.{graphAt}
 
--- a book that was read, cache and workspace of the right lengths, `height` frames with true counts of steps,
--- and n entries
-pub record Running (book starts cache work : List ℕ) (h : Header) (root height n : ℕ) : Type 0 where
+-- a book that was read, cache and workspace of the right lengths, `height` frames with true counts of steps and their
+-- goals at their places, and n entries
+pub record Running (book starts places cache work : List ℕ) (h : Header) (root height n : ℕ) : Type 0 where
   pub read : IsBook book starts h
-  pub places : h .goals ≤ length starts
+  pub enough : h .goals ≤ length starts
   pub slots : CacheBytes (h .goals) (h .top) cache
   pub bytes : WorkBytes (h .goals) work
   pub stack : height ≤ h .goals
   pub entries : n ≤ 2 * h .goals
   pub shallow : root < 256
   pub counts : CountsTrue (stackIn (h .goals) height work)
+  pub placed : PlacesHeld (stackIn (h .goals) height work) places
 
 -- the definition's evaluate_goal with `height` frames on the stack
 abbrev pub evaluator : List ℕ → Header → ℕ → Evaluator
@@ -56,20 +58,23 @@ taskFrom book p h root height n left work cache =
     task.evaluateGoalInTask (computed book p false h height) left 1 false
     (graphAt (h .goals) root height n work cache)
 
--- an outcome is the definition's, and the merged usages below an index are as they were
-pub record Comes (goals root height low : ℕ) (whole : graph.Outcome) (old new cache : List ℕ) (r : Outcome)
+-- an outcome is the definition's, the merged usages below an index are as they were, and the goals that were on the stack
+-- are at their places still
+pub record Comes (goals root height low : ℕ) (whole : graph.Outcome) (old new cache places : List ℕ) (r : Outcome)
     : Type 0 where
   pub is : outcomeOf goals root height (graphIn goals new) cache r ≡ whole
   pub few : FewEntries goals r
   pub merged : (i : ℕ) → i < low → mergedOf goals i new ≡ mergedOf goals i old
+  pub placed : PlacesHeld (stackIn goals height old) places
 
 -- likewise of a task, whose frame was popped
-pub record TaskComes (goals root height : ℕ) (whole : task.TaskOutcome) (old new cache : List ℕ) (r : Ran)
+pub record TaskComes (goals root height : ℕ) (whole : task.TaskOutcome) (old new cache places : List ℕ) (r : Ran)
     : Type 0 where
   pub is : taskOutcomeOf goals root height (r .passes) (graphIn goals new) cache (r .outcome) ≡ whole
   pub few : FewTaskEntries goals (r .outcome)
   pub passes : r .passes < 256
   pub merged : (i : ℕ) → i < height → mergedOf goals i new ≡ mergedOf goals i old
+  pub placed : PlacesHeld (stackIn goals height old) places
 
 -- inside a pick the top frame's own merged usages are kept
 abbrev pub keptBelow : Bool → ℕ → ℕ

@@ -27,6 +27,7 @@ pub fn one_less(limit: usize) -> usize
 pub fn look_up(
     cache: &[u8],
     work: &mut [u8],
+    places: &[u8; 64],
     h: Header,
     root: usize,
     height: usize,
@@ -35,7 +36,7 @@ pub fn look_up(
     step: PathKind,
     lower: bool,
 ) -> Found
-    requires { ⌜ Looking h root height entries goal (now work) (now cache) ⌝ }
+    requires { ⌜ Looking h root height entries goal (now work) (now cache) (now places) ⌝ }
     ensures { λ r. ⌜ LookedUp h root height entries goal step lower (now (work .entry)) (now (work .exit))
         (now (cache .entry)) r ⌝ }
 {
@@ -43,6 +44,7 @@ pub fn look_up(
     lookup::lookup(
         cache,
         &mut work[0..n],
+        places,
         h,
         root,
         height,

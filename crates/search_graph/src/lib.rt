@@ -26,6 +26,7 @@ ghost use Rattle.search_graph.specs.Calls.{Running, Comes, goalFrom, Tas
 pub fn evaluate(
     book: &[u8],
     starts: &[u16],
+    places: &mut [u8; 64],
     cache: &mut [u8],
     work: &mut [u8],
     h: Header,
@@ -36,13 +37,13 @@ pub fn evaluate(
     step: PathKind,
     lower: bool,
 ) -> Outcome
-    requires { ⌜ Running (now book) (now starts) (now cache) (now work) h root height entries ⌝ }
+    requires { ⌜ Running (now book) (now starts) (now places) (now cache) (now work) h root height entries ⌝ }
     requires { ⌜ goal < h .goals ⌝ }
     ensures { λ r. ⌜ Comes (h .goals) root height height
         (goalFrom (now (book .entry)) h root height entries (now (work .entry)) (now (cache .entry)) goal step lower)
-        (now (work .entry)) (now (work .exit)) (now (cache .exit)) r ⌝ }
+        (now (work .entry)) (now (work .exit)) (now (cache .exit)) (now (places .exit)) r ⌝ }
 {
-    let found = between::look_up(cache, work, h, root, height, entries, goal, step, lower);
+    let found = between::look_up(cache, work, places, h, root, height, entries, goal, step, lower);
     match found {
         Found::Known(answer) => Outcome::Done(answer, entries),
         Found::Push(available) => {
@@ -51,11 +52,13 @@ pub fn evaluate(
                 return Outcome::Stopped(Refusal::Unreachable);
             }
             between::push(work, goals, height, goal, step, available);
+            places[goal] = height as u8;
             let p = part::of_goal(book, starts, goal);
             let left = between::one_less(h.limit);
             let ran = rerun(
                 book,
                 starts,
+                places,
                 p,
                 cache,
                 work,
@@ -76,6 +79,7 @@ pub fn evaluate(
 fn rerun(
     book: &[u8],
     starts: &[u16],
+    places: &mut [u8; 64],
     p: &[u8],
     cache: &mut [u8],
     work: &mut [u8],
@@ -85,17 +89,17 @@ fn rerun(
     entries: usize,
     left: usize,
 ) -> Ran
-    requires { ⌜ Running (now book) (now starts) (now cache) (now work) h root height entries ⌝ }
+    requires { ⌜ Running (now book) (now starts) (now places) (now cache) (now work) h root height entries ⌝ }
     requires { ⌜ (1 ≤ height) × ((left < 99) × Reads (h .goals) false (now p)) ⌝ }
     ensures { λ r. ⌜ TaskComes (h .goals) root (height - 1)
         (taskFrom (now (book .entry)) (now (p .entry)) h root height entries left (now (work .entry)) (now (cache .entry)))
-        (now (work .entry)) (now (work .exit)) (now (cache .exit)) r ⌝ }
+        (now (work .entry)) (now (work .exit)) (now (cache .exit)) (now (places .exit)) r ⌝ }
 {
     let mut more = left;
     let mut overflow = false;
     let mut kept = entries;
     loop {
-        let o = read_part(book, starts, p, cache, work, h, root, height, kept, false);
+        let o = read_part(book, starts, places, p, cache, work, h, root, height, kept, false);
         let next = between::end_iteration(o, work, h.goals, height, more, overflow);
         match next {
             Iteration::End(t) => {
@@ -115,6 +119,7 @@ fn rerun(
 fn read_part(
     book: &[u8],
     starts: &[u16],
+    places: &mut [u8; 64],
     p: &[u8],
     cache: &mut [u8],
     work: &mut [u8],
@@ -124,11 +129,11 @@ fn read_part(
     entries: usize,
     in_pick: bool,
 ) -> Outcome
-    requires { ⌜ Running (now book) (now starts) (now cache) (now work) h root height entries ⌝ }
+    requires { ⌜ Running (now book) (now starts) (now places) (now cache) (now work) h root height entries ⌝ }
     requires { ⌜ (1 ≤ height) × Reads (h .goals) in_pick (now p) ⌝ }
     ensures { λ r. ⌜ Comes (h .goals) root height (keptBelow in_pick height)
         (partFrom (now (book .entry)) (now (p .entry)) in_pick h root height entries (now (work .entry)) (now (cache .entry)))
-        (now (work .entry)) (now (work .exit)) (now (cache .exit)) r ⌝ }
+        (now (work .entry)) (now (work .exit)) (now (cache .exit)) (now (places .exit)) r ⌝ }
 {
     let code = part::code(p);
     match code {
@@ -138,6 +143,7 @@ fn read_part(
             evaluate(
                 book,
                 starts,
+                places,
                 cache,
                 work,
                 h,
@@ -162,6 +168,7 @@ fn read_part(
                     evaluate(
                         book,
                         starts,
+                        places,
                         cache,
                         work,
                         h,
@@ -176,6 +183,7 @@ fn read_part(
                     read_part(
                         book,
                         starts,
+                        places,
                         t,
                         cache,
                         work,
@@ -209,18 +217,39 @@ fn read_part(
             let mut k = part::count(p);
             while 0 < k {
                 pick::enter_candidate(work, h.goals, height);
-                let o = read_part(
-                    book,
-                    starts,
-                    t,
-                    cache,
-                    work,
-                    h,
-                    root,
-                    height,
-                    pick.entries,
-                    true,
-                );
+                let below = part::code(t);
+                let o = if let Code::Call = below {
+                    let call = Call::first(t);
+                    let step = call.step;
+                    evaluate(
+                        book,
+                        starts,
+                        places,
+                        cache,
+                        work,
+                        h,
+                        root,
+                        height,
+                        pick.entries,
+                        call.goal,
+                        step,
+                        call.lower,
+                    )
+                } else {
+                    read_part(
+                        book,
+                        starts,
+                        places,
+                        t,
+                        cache,
+                        work,
+                        h,
+                        root,
+                        height,
+                        pick.entries,
+                        true,
+                    )
+                };
                 let next = pick::finish_candidate(o, pick, work, h.goals, height);
                 match next {
                     Tried::Ended(outcome) => {

@@ -19,14 +19,14 @@ use Rattle.layout.specs.Steps.{packed, unpacked, Few, latestKind}
 use Rattle.layout.specs.Work.{stackOf}
 use Rattle.layout.proofs.Counts.{packed-unpacked, unpacked-steps, few-steps, above-room, above-steps, latest-extends}
 use Rattle.layout.proofs.Graphs.{length-stack}
-use Rattle.stack.specs.Bytes.{StackBytes, CountsKept, frameAt}
+use Rattle.stack.specs.Bytes.{StackBytes, frameAt}
 use Rattle.stack.specs.Written.{TopChanged}
 use Rattle.stack.proofs.Loops.{top, stack-top, none-left}
 
 -- ---- a stack that changed
 pub rerun-true : (goals own : ℕ) (answer : Answer) (old new : List ℕ)
     → TopChanged goals own (λ f. rerunFrame f answer) old new
-    → CountsKept goals (own + 1) old new
+    → CountsTrue (stackOf goals (own + 1) old) → CountsTrue (stackOf goals (own + 1) new)
 rerun-true goals own answer old new w c =
     subst CountsTrue (sym (w .stack))
     (rerun-counted (frameAt goals own old) (stackOf goals own old) answer

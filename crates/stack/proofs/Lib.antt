@@ -8,5 +8,6 @@ pub mod Values
 pub mod Records
 pub mod Lent
 pub mod Loops
+pub mod Places
 pub mod Graph
 pub mod Theorems

@@ -1,25 +1,22 @@
 -- The turns of the loops over the stack, from the top down.
 use mathlib.Core.Path.{_≡_, refl, sym, ap, _∙_}
 use mathlib.Core.Bool.{Bool, true, false, not, _||_}
-use mathlib.Core.Option.{Option, none, some}
+use mathlib.Core.Option.{some}
 use mathlib.Core.List.{List, [], _∷_}
 use Prim.Native.Nat.{ℕ, suc, _+_, _-_, _≤_, _<_}
 use native.Mathlib.Numerals.{add-one}
 use native.Mathlib.Omega.{arith}
 use borrow.Author.Tests.{eq-eqb, ne-eqb}
-use lib.ListN.{length, getD}
+use lib.ListN.{getD}
 use lib.Dec.{eqb}
-use Rattle.definition.specs.declared.answers.Answer.{Answer}
 use Rattle.definition.specs.declared.format.Header.{Header}
 use Rattle.definition.specs.Nested.{NestedGoals}
-use Rattle.definition.specs.Stack.{Frame, Stack, OnStack, stackFind}
+use Rattle.definition.specs.Stack.{Frame, Stack}
 use Rattle.definition.specs.Lookup.{allowedDepthForNested, anyOnStack}
 use Rattle.definition.proofs.Lists.{first-same, rest-same}
 use Rattle.layout.specs.Frame.{frameOf}
 use Rattle.layout.specs.Work.{stackOf}
-use Rattle.layout.proofs.Graphs.{length-stack, stack-unfold}
-use Rattle.stack.specs.declared.frame.Provisional.{Provisional}
-use Rattle.stack.specs.declared.OnStack.the-variants.{At, Nowhere}
+use Rattle.layout.proofs.Graphs.{stack-unfold}
 use Rattle.stack.specs.Bytes.{frameBytes, frameAt}
 
 -- the top of a stack that is not empty
@@ -49,32 +46,6 @@ none-left goals bs i h = let e : i ≡ 0 = omega arith in ap (λ (k : ℕ). stac
 -- what is read of frame i's bytes
 pub read-at : {A : Type 0} (read : Frame → A) (goals : ℕ) (bs : List ℕ) (i : ℕ) (r : List ℕ) → r ≡ frameBytes goals i bs → read (frameOf goals r) ≡ read (frameAt goals i bs)
 read-at read goals bs i r e = ap (λ (l : List ℕ). read (frameOf goals l)) e
-
--- ---- `find`
-module _ (goals : ℕ) (bs : List ℕ) (goal i : ℕ) (whole : Option OnStack) (rest : stackFind (stackOf goals i bs) goal ≡ whole) where
-  abbrev choice : Bool → Option OnStack
-  choice t = elim t [ true ↦ some (record { index = length (stackOf goals (i - 1) bs); provisionalResult = (frameAt goals (i - 1) bs) .provisionalResult }) | false ↦ stackFind (stackOf goals (i - 1) bs) goal ]
-
-  find-open : 0 < i → choice (eqb ((frameAt goals (i - 1) bs) .input) goal) ≡ whole
-  find-open pos = sym (ap (λ (s : Stack). stackFind s goal) (top goals bs i pos)) ∙ rest
-
-  pub find-here : 0 < i → (frameAt goals (i - 1) bs) .input ≡ goal → (p : Option Answer) → p ≡ (frameAt goals (i - 1) bs) .provisionalResult → some (record { index = i - 1; provisionalResult = p }) ≡ whole
-  find-here pos e p is =
-      (λ t. some (record { index = sym (length-stack goals (i - 1) bs) t; provisionalResult = is t }))
-      ∙ sym (ap choice (eq-eqb ((frameAt goals (i - 1) bs) .input) goal e))
-      ∙ find-open pos
-
-  pub find-next : 0 < i → ((frameAt goals (i - 1) bs) .input ≡ goal → ⊥) → stackFind (stackOf goals (i - 1) bs) goal ≡ whole
-  find-next pos ne = sym (ap choice (ne-eqb ((frameAt goals (i - 1) bs) .input) goal ne)) ∙ find-open pos
-
-  pub find-nowhere : i ≤ 0 → none ≡ whole
-  find-nowhere h = sym (ap (λ (s : Stack). stackFind s goal) (none-left goals bs i h)) ∙ rest
-
-pub at-below : (i : ℕ) (p : Provisional) (j : ℕ) (q : Provisional) (height : ℕ) → i < height → At i p ≡ At j q → j < height
-at-below i p j q height lt e = let f : i ≡ j = cc in omega arith
-
-pub nowhere-below : (j : ℕ) (q : Provisional) (height : ℕ) → Nowhere ≡ At j q → j < height
-nowhere-below j q height e = let z : _≡_ {A = ℕ} 0 1 = cc in absurd (omega arith)
 
 -- ---- `any_on_stack`
 module _ (goals : ℕ) (bs : List ℕ) (nested : NestedGoals) (i : ℕ) (whole : Bool) (rest : anyOnStack (stackOf goals i bs) nested ≡ whole) where

@@ -23,10 +23,6 @@ pub record StackBytes (goals height : ℕ) (bs : List ℕ) : Type 0 where
   pub high : height ≤ goals
   pub counts : CountsTrue (stackOf goals height bs)
 
--- they are true still
-abbrev pub CountsKept : ℕ → ℕ → List ℕ → List ℕ → Type 0
-CountsKept goals height old new = CountsTrue (stackOf goals height old) → CountsTrue (stackOf goals height new)
-
 -- the frame became what `make` makes of it
 abbrev pub FrameChanged : ℕ → (Frame → Frame) → List ℕ → List ℕ → Type 0
 FrameChanged goals make old new = frameOf goals new ≡ make (frameOf goals old)

@@ -1,6 +1,7 @@
 pub mod Bytes
 pub mod Child
 pub mod Counts
+pub mod Places
 pub mod Records
 pub mod Results
 pub mod Tracked

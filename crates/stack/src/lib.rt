@@ -1,5 +1,6 @@
 // stack.rs: the frames of the goals that are being evaluated, at their index in the
 // graph. How many there are is no byte of it.
+use buffer::scalars;
 use definition::answers::Answer;
 use definition::paths::PathKind;
 use frame::Depth;
@@ -17,6 +18,7 @@ ghost use Rattle.definition.specs.Lookup.{anyOnStack};
 ghost use Rattle.layout.specs.Steps.{packed};
 ghost use Rattle.layout.specs.Work.{stackOf};
 ghost use Rattle.stack.specs.Bytes.{GraphBytes, StackBytes, frameBytes};
+ghost use Rattle.stack.specs.Places.{Placed};
 ghost use Rattle.stack.specs.Results.{Found, NestedDepth};
 ghost use Rattle.stack.specs.Written.{TopWritten, StackChanged, TopChanged};
 
@@ -93,18 +95,19 @@ pub fn mark_top_overflow(graph: &mut [u8], goals: usize, height: usize)
     frame::mark_overflow(&mut graph[start..end], goals);
 }
 
-// Stack::find, from the top on.
-pub fn find(graph: &[u8], goals: usize, height: usize, goal: usize) -> OnStack
-    requires { ⌜ GraphBytes goals (now graph) × (height ≤ goals) ⌝ }
+// Stack::find: the goal's place tells where its frame can be, if there is one.
+pub fn find(graph: &[u8], goals: usize, places: &[u8; 64], height: usize, goal: usize) -> OnStack
+    requires { ⌜ GraphBytes goals (now graph) × ((height ≤ goals) × (goal < goals)) ⌝ }
+    requires { ⌜ Placed (stackOf goals height (now graph)) (now places) ⌝ }
     ensures { λ r. ⌜ Found goals height (now (graph .entry)) goal r ⌝ }
 {
-    let mut i = height;
-    while 0 < i {
-        i = i - 1;
-        let f = frame_at(graph, goals, i);
-        if frame::input(f, goals) == goal {
-            return OnStack::At(i, frame::provisional_result(f, goals));
-        }
+    let i = scalars::wide(places[goal]);
+    if height <= i {
+        return OnStack::Nowhere;
+    }
+    let f = frame_at(graph, goals, i);
+    if frame::input(f, goals) == goal {
+        return OnStack::At(i, frame::provisional_result(f, goals));
     }
     OnStack::Nowhere
 }

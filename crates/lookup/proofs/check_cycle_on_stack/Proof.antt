@@ -17,7 +17,7 @@ close-cycle-requires c κs =
     let s = c .before .before .before .before .before .before .before in
     let p = c .before .before .place in
     let find = c .before .before .before .before .find in
-    (s .pre, find .ensures .below (p .given .0 .0) (p .given .0 .1 .0) (p .given .1))
+    (s .pre .0 .0, find .ensures .below (p .given .0 .0) (p .given .0 .1 .0) (p .given .1))
 
 same-length : tie.Need-same-length
 same-length c = search needs

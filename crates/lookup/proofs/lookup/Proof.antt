@@ -13,15 +13,18 @@ enum-known-depth c = search needs
 
 lookup-at-depth-requires : tie.Need-lookup-at-depth-requires
 lookup-at-depth-requires c κs =
-    let q = c .before .before .before .before .before .before .before .before .pre in
+    let pre = c .before .before .before .before .before .before .before .before .pre in let q = pre .0 in
     let p = c .before .before .depth in
     let allowed-depth-for-nested = c .before .before .before .before .allowed-depth-for-nested in
-    record {
-      graph = q .graph;
-      cache = q .cache;
-      goal = q .goal;
-      available = allowed-depth-for-nested .ensures .small (p .given .0 .0) (p .given .1);
-    }
+    (
+      record {
+        graph = q .graph;
+        cache = q .cache;
+        goal = q .goal;
+        available = allowed-depth-for-nested .ensures .small (p .given .0 .0) (p .given .1);
+      },
+      pre .1,
+    )
 
 same-length : tie.Need-same-length
 same-length c = search needs
@@ -42,6 +45,7 @@ returns c =
           ∙ y .ensures .is (a .root) compute;
       low = y .ensures .low;
       missed = y .ensures .missed;
+      off = y .ensures .off;
     }
 
 enum-told : tie.Need-enum-told
@@ -68,6 +72,7 @@ returns-2 c =
           (enum-told .given .1) (y .last .0) (y .ensures .stack) (y .ensures .entries);
       low = λ d e. known-pushes answer.Overflow d e;
       missed = λ d e. known-pushes answer.Overflow d e;
+      off = λ d e. known-pushes answer.Overflow d e;
     }
 
 pub lookup-spec : {M : Type 1} → statement M

@@ -1,7 +1,12 @@
-use mathlib.Core.Path.{_∙_, sym, subst}
+use mathlib.Core.Path.{_∙_, sym, ap, subst}
+use mathlib.Core.List.{List}
+use Prim.Native.Nat.{ℕ}
+use Rattle.definition.specs.Stack.{stackFind}
+use Rattle.layout.specs.Work.{stackOf, graphOf}
 use Rattle.stack.specs.Bytes.{StackBytes}
+use Rattle.stack.specs.Places.{Placed}
 use Rattle.lookup.specs.Lookups.{Counted}
-use Rattle.lookup.proofs.Hits.{known-pushes, push-small, at-entry, at-slot, at-cycle, at-push}
+use Rattle.lookup.proofs.Hits.{known-pushes, push-small, at-entry, at-slot, at-cycle, at-push, cycle-off}
 use borrow.Author.Needs.{needs}
 use Rattle.lookup.proofs.lookup_at_depth.Statement.{statement}
 use Rattle.lookup.proofs.lookup_at_depth.Tie as tie
@@ -28,6 +33,7 @@ returns c =
           (lookup-provisional-cache .ensures .is root (a .cache .now)) (p .given .0 .0) (p .given .1);
       low = λ d e. known-pushes (p .given .0 .0) d e;
       missed = λ d e. known-pushes (p .given .0 .0) d e;
+      off = λ d e. known-pushes (p .given .0 .0) d e;
     }
 
 enum-told : tie.Need-enum-told
@@ -38,10 +44,10 @@ lookup-global-cache-requires c κs =
     let s = c .before .before .before .before .before .before .before .before .before in
     let a = s .args in
     record {
-      graph = subst (Counted (a .h .goals) (a .height) (a .entries)) (sym (c .before .before .before .before .before .lookup-provisional-cache .ensures .missed (c .before .enum-told .given .1))) (s .pre .graph);
-      cache = s .pre .cache;
-      goal = s .pre .goal;
-      available = s .pre .available;
+      graph = subst (Counted (a .h .goals) (a .height) (a .entries)) (sym (c .before .before .before .before .before .lookup-provisional-cache .ensures .missed (c .before .enum-told .given .1))) (s .pre .0 .graph);
+      cache = s .pre .0 .cache;
+      goal = s .pre .0 .goal;
+      available = s .pre .0 .available;
     }
 
 enum-known-global : tie.Need-enum-known-global
@@ -68,6 +74,7 @@ returns-2 c =
           (lookup-global-cache .result) (lookup-global-cache .ensures .is root) (p .given .0 .0) (p .given .1);
       low = λ d e. known-pushes (p .given .0 .0) d e;
       missed = λ d e. known-pushes (p .given .0 .0) d e;
+      off = λ d e. known-pushes (p .given .0 .0) d e;
     }
 
 enum-told-2 : tie.Need-enum-told-2
@@ -77,9 +84,12 @@ check-cycle-on-stack-requires : tie.Need-check-cycle-on-stack-requires
 check-cycle-on-stack-requires c κs =
     let s = c .before .before .before .before .before .before .before .before .before .before .before .before .before .before .before in
     let a = s .args in
-    subst (StackBytes (a .h .goals) (a .height))
-    (sym (c .before .before .before .before .before .lookup-global-cache .ensures .missed (c .before .enum-told2 .given .1) ∙ c .before .before .before .before .before .before .before .before .before .before .before .lookup-provisional-cache .ensures .missed (c .before .before .before .before .before .before .before .enum-told .given .1)))
-    (s .pre .graph .stack)
+    let same = sym (c .before .before .before .before .before .lookup-global-cache .ensures .missed (c .before .enum-told2 .given .1)
+    ∙ c .before .before .before .before .before .before .before .before .before .before .before .lookup-provisional-cache .ensures .missed
+    (c .before .before .before .before .before .before .before .enum-told .given .1)) in (
+      (subst (StackBytes (a .h .goals) (a .height)) same (s .pre .0 .graph .stack), s .pre .0 .goal),
+      subst (λ (bs : List ℕ). Placed (stackOf (a .h .goals) (a .height) bs) (a .places .now)) same (s .pre .1),
+    )
 
 enum-known-cycle : tie.Need-enum-known-cycle
 enum-known-cycle c = search needs
@@ -110,6 +120,7 @@ returns-3 c =
           (check-cycle-on-stack .ensures .is root (a .entries) (a .cache .now)) (p .given .0 .0) (p .given .1);
       low = λ d e. known-pushes (p .given .0 .0) d e;
       missed = λ d e. known-pushes (p .given .0 .0) d e;
+      off = λ d e. known-pushes (p .given .0 .0) d e;
     }
 
 enum-told-3 : tie.Need-enum-told-3
@@ -129,6 +140,8 @@ returns-4 c =
     let enum-told2 = c6 .enum-told2 in
     let check-cycle-on-stack = c4 .check-cycle-on-stack in
     let enum-told3 = c .enum-told3 in
+    let same = lookup-global-cache .ensures .missed (enum-told2 .given .1)
+    ∙ lookup-provisional-cache .ensures .missed (enum-told .given .1) in
     record {
       is =
           λ root compute. at-push (a .h) (a .height) (a .entries) (a .goal) (a .step) (a .available) (a .cache .now) root compute
@@ -139,10 +152,15 @@ returns-4 c =
           (lookup-global-cache .ensures .missed (enum-told2 .given .1)) (check-cycle-on-stack .last .0) (check-cycle-on-stack .result)
           (check-cycle-on-stack .ensures .is root (a .entries) (a .cache .now)) (enum-told3 .given .1)
           (check-cycle-on-stack .ensures .missed (enum-told3 .given .1));
-      low = λ d e. push-small (a .available) d (s .pre .available) e;
+      low = λ d e. push-small (a .available) d (s .pre .0 .available) e;
       missed =
-          λ d e. check-cycle-on-stack .ensures .missed (enum-told3 .given .1)
-          ∙ lookup-global-cache .ensures .missed (enum-told2 .given .1) ∙ lookup-provisional-cache .ensures .missed (enum-told .given .1);
+          λ d e. check-cycle-on-stack .ensures .missed (enum-told3 .given .1) ∙ same;
+      off =
+          λ d e. ap (λ (bs : List ℕ). stackFind (stackOf (a .h .goals) (a .height) bs) (a .goal)) (sym same)
+          ∙ cycle-off (a .h) (graphOf (a .h .goals) 0 (a .height) (a .entries) (lookup-global-cache .last .1 .0) (a .cache .now))
+          (a .goal) (a .step) (a .available) (check-cycle-on-stack .result)
+          (graphOf (a .h .goals) 0 (a .height) (a .entries) (check-cycle-on-stack .last .0) (a .cache .now))
+          (check-cycle-on-stack .ensures .is 0 (a .entries) (a .cache .now)) (enum-told3 .given .1);
     }
 
 pub lookup-at-depth-spec : {M : Type 1} → statement M

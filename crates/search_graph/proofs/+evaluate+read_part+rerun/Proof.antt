@@ -1,21 +1,22 @@
 use borrow.Author.Needs.{needs}
-use mathlib.Core.Path.{_≡_, refl, sym, ap, _∙_}
+use mathlib.Core.Path.{_≡_, refl, sym, ap, _∙_, subst}
 use mathlib.Core.Bool.{true, false}
 use mathlib.Core.Logic.{⊎-elim}
 use native.Mathlib.Omega.{arith}
 use lib.ListN.{length}
 use Prim.Native.Nat.{ℕ, _+_, _-_, _*_, _<_}
-use Rattle.evaluation.specs.Workspace.{stackIn}
 use Rattle.book.specs.Lines.{lineIn}
 use Rattle.book.proofs.Walk.{a-line, first-reads}
-use Rattle.definition.specs.Stack.{CountsTrue}
+use Rattle.definition.specs.Stack.{Stack}
+use Rattle.definition.proofs.Skeleton.{skeleton}
+use Rattle.stack.specs.Places.{PlacesHeld}
 use Rattle.search_graph.specs.Calls.{Running, computed, partFrom, taskFrom, Comes, keptBelow}
-use Rattle.search_graph.proofs.Cycle.{rank, lower, fewer, work-next, cache-next, running-next, known, full, framed}
-use Rattle.search_graph.proofs.Cycle.{part-counts, task-counts, looked-counts, pushed-counts, ran-counts}
+use Rattle.search_graph.proofs.Cycle.{rank, lower, fewer, work-next, cache-next, running-next, running-on, known, full, framed}
+use Rattle.search_graph.proofs.Cycle.{computed-kept, part-counts, looked-counts, pushed-counts, pushed-places, ran-counts}
 use Rattle.search_graph.proofs.Cycle.{Turn, turn-starts, turn-ends, turn-left, turn-again}
 use Rattle.search_graph.proofs.Walks.{call-known, call-comes, undecided-comes, comes-as, passed, none-left}
 use Rattle.search_graph.proofs.Walks.{GroupWalk, group-starts, group-ends, group-stops, group-next}
-use Rattle.search_graph.proofs.Walks.{PickWalk, pickFrom, entered-counts, pick-starts, pick-whole, pick-ends, pick-stops, pick-next}
+use Rattle.search_graph.proofs.Walks.{PickWalk, pickFrom, begun-same, entered-skeleton, pick-starts, pick-whole, pick-ends, pick-stops, pick-next}
 use borrow.Fn.Kinds.{In, Out}
 use borrow.Fn.PlainCycle.{Measures, is, falls, and}
 use Rattle.search_graph.proofs.evaluate.Reads as evaluate
@@ -47,34 +48,34 @@ use Rattle.search_graph.proofs.between.push.Reads as push-reads
 use Rattle.search_graph.proofs.+evaluate+read_part+rerun.{statement}
 use Rattle.search_graph.proofs.+evaluate+read_part+rerun.Tie.{close}
 
-abbrev μ-evaluate : Measures 4 evaluate-kinds.ps ℕ
-μ-evaluate κs a = rank (a .1 .1 .1 .1 .0 .goals - a .1 .1 .1 .1 .1 .1 .0) 0 0
+abbrev μ-evaluate : Measures 5 evaluate-kinds.ps ℕ
+μ-evaluate κs a = rank (a .1 .1 .1 .1 .1 .0 .goals - a .1 .1 .1 .1 .1 .1 .1 .0) 0 0
 
-abbrev μ-read-part : Measures 5 read-part-kinds.ps ℕ
-μ-read-part κs a = rank (a .1 .1 .1 .1 .1 .0 .goals - a .1 .1 .1 .1 .1 .1 .1 .0) 0 (length (a .1 .1 .0 .now))
+abbrev μ-read-part : Measures 6 read-part-kinds.ps ℕ
+μ-read-part κs a = rank (a .1 .1 .1 .1 .1 .1 .0 .goals - a .1 .1 .1 .1 .1 .1 .1 .1 .0) 0 (length (a .1 .1 .1 .0 .now))
 
-abbrev μ-rerun : Measures 5 rerun-kinds.ps ℕ
-μ-rerun κs a = rank (a .1 .1 .1 .1 .1 .0 .goals - a .1 .1 .1 .1 .1 .1 .1 .0) (a .1 .1 .1 .1 .1 .1 .1 .1 .1 .0 + 1) 0
+abbrev μ-rerun : Measures 6 rerun-kinds.ps ℕ
+μ-rerun κs a = rank (a .1 .1 .1 .1 .1 .1 .0 .goals - a .1 .1 .1 .1 .1 .1 .1 .1 .0) (a .1 .1 .1 .1 .1 .1 .1 .1 .1 .1 .0 + 1) 0
 
-abbrev evaluate-at : ℕ → In 4 evaluate-kinds.ps
-evaluate-at t = and 4 evaluate-kinds.ps (is 4 evaluate-kinds.ps μ-evaluate t) evaluate.Pre
+abbrev evaluate-at : ℕ → In 5 evaluate-kinds.ps
+evaluate-at t = and 5 evaluate-kinds.ps (is 5 evaluate-kinds.ps μ-evaluate t) evaluate.Pre
 
-abbrev evaluate-below : ℕ → In 4 evaluate-kinds.ps
+abbrev evaluate-below : ℕ → In 5 evaluate-kinds.ps
 evaluate-below t =
-    and 4 evaluate-kinds.ps (falls 4 evaluate-kinds.ps _<_ μ-evaluate t) evaluate.Pre
+    and 5 evaluate-kinds.ps (falls 5 evaluate-kinds.ps _<_ μ-evaluate t) evaluate.Pre
 
-abbrev read-part-at : ℕ → In 5 read-part-kinds.ps
-read-part-at t = and 5 read-part-kinds.ps (is 5 read-part-kinds.ps μ-read-part t) read-part.Pre
+abbrev read-part-at : ℕ → In 6 read-part-kinds.ps
+read-part-at t = and 6 read-part-kinds.ps (is 6 read-part-kinds.ps μ-read-part t) read-part.Pre
 
-abbrev read-part-below : ℕ → In 5 read-part-kinds.ps
+abbrev read-part-below : ℕ → In 6 read-part-kinds.ps
 read-part-below t =
-    and 5 read-part-kinds.ps (falls 5 read-part-kinds.ps _<_ μ-read-part t) read-part.Pre
+    and 6 read-part-kinds.ps (falls 6 read-part-kinds.ps _<_ μ-read-part t) read-part.Pre
 
-abbrev rerun-at : ℕ → In 5 rerun-kinds.ps
-rerun-at t = and 5 rerun-kinds.ps (is 5 rerun-kinds.ps μ-rerun t) rerun.Pre
+abbrev rerun-at : ℕ → In 6 rerun-kinds.ps
+rerun-at t = and 6 rerun-kinds.ps (is 6 rerun-kinds.ps μ-rerun t) rerun.Pre
 
-abbrev rerun-below : ℕ → In 5 rerun-kinds.ps
-rerun-below t = and 5 rerun-kinds.ps (falls 5 rerun-kinds.ps _<_ μ-rerun t) rerun.Pre
+abbrev rerun-below : ℕ → In 6 rerun-kinds.ps
+rerun-below t = and 6 rerun-kinds.ps (falls 6 rerun-kinds.ps _<_ μ-rerun t) rerun.Pre
 
 abbrev evaluate-claims : ℕ → evaluate-lts.Claims
 evaluate-claims t = (
@@ -126,9 +127,9 @@ abbrev rerun-claims : ℕ → rerun-lts.Claims
 rerun-claims t = (read-part-below t, read-part.Post, end-iteration-reads.Asked, end-iteration-reads.Learnt)
 
 -- ---- evaluate: its places, each from one after it
-module _ {C : evaluate-lts.Claims} {A : In 4 evaluate-kinds.ps} {P : Out 4 evaluate-kinds.ps evaluate-kinds.r} where
+module _ {C : evaluate-lts.Claims} {A : In 5 evaluate-kinds.ps} {P : Out 5 evaluate-kinds.ps evaluate-kinds.r} where
   abbrev evaluate-start : evaluate-lts.After-look-up C A P → evaluate-lts.Start C A P
-  evaluate-start c = c .before .before .before .before .before .before .before
+  evaluate-start c = c .before .before .before .before .before .before .before .before
 
   abbrev evaluate-looked : evaluate-lts.After-known-told2 C A P → evaluate-lts.After-look-up C A P
   evaluate-looked c = c .before .before .before .before .before
@@ -140,7 +141,7 @@ module _ {C : evaluate-lts.Claims} {A : In 4 evaluate-kinds.ps} {P : Out 4 evalu
   evaluate-pushed c = c .before .before .before .before
 
   abbrev evaluate-less : evaluate-lts.After-rerun C A P → evaluate-lts.After-one-less C A P
-  evaluate-less c = c .before .before .before
+  evaluate-less c = c .before .before .before .before
 
   abbrev evaluate-ran : evaluate-lts.After-finish C A P → evaluate-lts.After-rerun C A P
   evaluate-ran c = c .before .before .before .before .before .before .before
@@ -176,11 +177,22 @@ evaluate-push-requires t c κs =
       (omega arith, (omega arith, up .look-up .ensures .low _ (told .before .found2 .given .1))),
     )
 
+evaluate-cast-places : (t : ℕ) → evaluate-lts.Need-cast-places (evaluate-claims t) (evaluate-at t) evaluate.Post
+evaluate-cast-places t c =
+    let room = evaluate-room (c .before .before) in let run = evaluate-start (evaluate-looked (room .before)) .pre .1 .0 in
+    let lt = room .if1 .left in let few = run .bytes .few in omega arith
+
+evaluate-element-write-places : (t : ℕ)
+    → evaluate-lts.Need-element-write-places (evaluate-claims t) (evaluate-at t) evaluate.Post
+evaluate-element-write-places t c =
+    let s = evaluate-start (evaluate-looked (evaluate-room (c .before .before) .before)) in
+    let few = s .pre .1 .0 .bytes .few in let known = s .pre .1 .1 in search needs
+
 evaluate-of-goal-requires : (t : ℕ)
     → evaluate-lts.Need-of-goal-requires (evaluate-claims t) (evaluate-at t) evaluate.Post
 evaluate-of-goal-requires t c κs =
     let room = evaluate-room (c .before .before) in let s = evaluate-start (evaluate-looked (room .before)) in
-    let run = s .pre .1 .0 in let places = run .places in let known = s .pre .1 .1 in
+    let run = s .pre .1 .0 in let enough = run .enough in let known = s .pre .1 .1 in
     (omega arith, run .read .started (s .args .goal) known .within)
 
 evaluate-one-less-requires : (t : ℕ)
@@ -188,30 +200,27 @@ evaluate-one-less-requires : (t : ℕ)
 evaluate-one-less-requires t c κs = search needs
 
 evaluate-add-rerun : (t : ℕ) → evaluate-lts.Need-add-rerun (evaluate-claims t) (evaluate-at t) evaluate.Post
-evaluate-add-rerun t c = search needs
-
--- the counts with the new frame
-evaluate-counted : (t : ℕ) (c : evaluate-lts.After-push (evaluate-claims t) (evaluate-at t) evaluate.Post)
-    → let a = evaluate-start (evaluate-looked (evaluate-room c .before)) .args in
-    CountsTrue (stackIn (a .h .goals) (a .height + 1) (c .push .last .0))
-evaluate-counted t c =
-    let told = evaluate-room c .before in let up = evaluate-looked told in let s = evaluate-start up in let a = s .args in
-    pushed-counts (a .h .goals) (a .height) (a .goal) (a .step) _ (c .push .ensures)
-    (looked-counts (s .pre .1 .0) (up .look-up .ensures) (told .before .found2 .given .1))
+evaluate-add-rerun t c =
+    let room = evaluate-room (evaluate-pushed (c .before .before .before)) in
+    let run = evaluate-start (evaluate-looked (room .before)) .pre .1 .0 in
+    let lt = room .if1 .left in let few = run .bytes .few in omega arith
 
 evaluate-rerun-requires : (t : ℕ) → evaluate-lts.Need-rerun-requires (evaluate-claims t) (evaluate-at t) evaluate.Post
 evaluate-rerun-requires t c κs =
-    let less = c .before .before in let pushed = evaluate-pushed less in let room = evaluate-room pushed in
-    let up = evaluate-looked (room .before) in let s = evaluate-start up in let a = s .args in
-    let run = s .pre .1 .0 in
+    let less = c .before .before .before in let pushed = evaluate-pushed less in let room = evaluate-room pushed in
+    let told = room .before in let up = evaluate-looked told in let s = evaluate-start up in let a = s .args in
+    let run = s .pre .1 .0 in let is-push = told .before .found2 .given .1 in
     let lt = room .if1 .left in let ranged = run .read .in-range in
-    let limit = ranged .limit-fits in let is-less = less .one-less .ensures in (
+    let limit = ranged .limit-fits in let is-less = less .one-less .ensures in
+    let known = s .pre .1 .1 in let few = run .bytes .few in
+    let inside : a .goal < 64 = omega arith in (
       lower ((a .h .goals - a .height) * 128 + 0)
           ((a .h .goals - (a .height + 1)) * 128 + (less .one-less .result + 1)) 0 0 t (s .pre .0)
           (omega arith) (omega arith),
       (
-        running-next _ _ (a .height + 1) (a .entries) run refl (pushed .push .kept .0 ∙ up .look-up .kept .1 .0)
-            (omega arith) (run .entries) (evaluate-counted t pushed),
+        running-next _ _ _ (a .height + 1) (a .entries) run refl (pushed .push .kept .0 ∙ up .look-up .kept .1 .0)
+            (omega arith) (run .entries) (pushed-counts run (up .look-up .ensures) is-push (pushed .push .ensures))
+            (pushed-places run (up .look-up .ensures) is-push (pushed .push .ensures) inside),
         (
           omega arith,
           (
@@ -228,21 +237,20 @@ evaluate-finish-requires : (t : ℕ)
 evaluate-finish-requires t c κs =
     let ran = c .before .before .before .before .before .before in let less = evaluate-less ran in
     let pushed = evaluate-pushed less in
-    let room = evaluate-room pushed in let up = evaluate-looked (room .before) in
-    let s = evaluate-start up in let a = s .args in let run = s .pre .1 .0 in
+    let room = evaluate-room pushed in let told = room .before in let up = evaluate-looked told in
+    let s = evaluate-start up in let run = s .pre .1 .0 in
     let lt = room .if1 .left in
     record {
       bytes = work-next _ (run .bytes)
-          (ran .rerun .kept .1 .1 .1 .1 .0 ∙ pushed .push .kept .0 ∙ up .look-up .kept .1 .0);
-      slots = cache-next _ (run .slots) (ran .rerun .kept .1 .1 .1 .0);
+          (ran .rerun .kept .1 .1 .1 .1 .1 .0 ∙ pushed .push .kept .0 ∙ up .look-up .kept .1 .0);
+      slots = cache-next _ (run .slots) (ran .rerun .kept .1 .1 .1 .1 .0);
       stack = omega arith;
       known = s .pre .1 .1;
       few = ran .rerun .ensures .few;
       passes = ran .rerun .ensures .passes;
       counts =
-          ran-counts (a .h .goals) (a .height) _ (ran .rerun .result .outcome)
-          (task-counts (a .book .now) (a .h) (a .root) (a .height + 1) (a .entries) (pushed .push .last .0) (a .cache .now)
-          (evaluate-counted t pushed) (less .before .of-goal .result .now) (less .one-less .result) (ran .rerun .ensures));
+          ran-counts run (up .look-up .ensures) (told .before .found2 .given .1) (omega arith) (s .pre .1 .1)
+          (pushed .push .ensures) (less .before .of-goal .ensures) (less .one-less .ensures) (ran .rerun .ensures);
     }
 
 evaluate-same-length-3 : (t : ℕ) → evaluate-lts.Need-same-length-3 (evaluate-claims t) (evaluate-at t) evaluate.Post
@@ -264,7 +272,7 @@ evaluate-same-length-6 t c =
     let done = c .before .before .before .before in let ran = evaluate-ran done in
     let pushed = evaluate-pushed (evaluate-less ran) in
     let up = evaluate-looked (evaluate-room pushed .before) in
-    done .finish .kept .1 .1 .0 ∙ ran .rerun .kept .1 .1 .1 .1 .0 ∙ pushed .push .kept .0 ∙ up .look-up .kept .1 .0
+    done .finish .kept .1 .1 .0 ∙ ran .rerun .kept .1 .1 .1 .1 .1 .0 ∙ pushed .push .kept .0 ∙ up .look-up .kept .1 .0
 
 evaluate-returns-3 : (t : ℕ) → evaluate-lts.Need-returns-3 (evaluate-claims t) (evaluate-at t) evaluate.Post
 evaluate-returns-3 t c =
@@ -276,7 +284,7 @@ evaluate-returns-3 t c =
     (less .before .of-goal .ensures) (less .one-less .ensures) (ran .rerun .ensures) (done .finish .ensures)
 
 -- ---- read_part: its places, each from one after it
-module _ {C : read-part-lts.Claims} {A : In 5 read-part-kinds.ps} {P : Out 5 read-part-kinds.ps read-part-kinds.r}
+module _ {C : read-part-lts.Claims} {A : In 6 read-part-kinds.ps} {P : Out 6 read-part-kinds.ps read-part-kinds.r}
     {I : read-part-lts.InvT-loop} {μ : read-part-lts.MeasureT-loop} {I2 : read-part-lts.InvT-loop2}
     {μ2 : read-part-lts.MeasureT-loop2} where
   abbrev read-part-start : read-part-lts.After-code C A P I μ I2 μ2 → read-part-lts.Start C A P I μ I2 μ2
@@ -308,13 +316,13 @@ module _ {C : read-part-lts.Claims} {A : In 5 read-part-kinds.ps} {P : Out 5 rea
   abbrev pick-turn : read-part-lts.After-enter-candidate C A P I μ I2 μ2 → read-part-lts.At-loop2 C A P I μ I2 μ2
   pick-turn c = c .before .before .before
 
-  abbrev pick-entered : read-part-lts.After-read-part2 C A P I μ I2 μ2
+  abbrev pick-entered : read-part-lts.After-code4 C A P I μ I2 μ2
       → read-part-lts.After-enter-candidate C A P I μ I2 μ2
-  pick-entered c = c .before .before .before .before .before
+  pick-entered c = c .before .before .before
 
-  abbrev pick-read : read-part-lts.After-finish-candidate C A P I μ I2 μ2
-      → read-part-lts.After-read-part2 C A P I μ I2 μ2
-  pick-read c = c .before .before .before .before .before .before
+  abbrev pick-came : read-part-lts.After-finish-candidate C A P I μ I2 μ2
+      → read-part-lts.At-match4-came C A P I μ I2 μ2
+  pick-came c = c .before .before
 
   abbrev pick-finished : read-part-lts.After-known-told5 C A P I μ I2 μ2
       → read-part-lts.After-finish-candidate C A P I μ I2 μ2
@@ -324,33 +332,46 @@ module _ {C : read-part-lts.Claims} {A : In 5 read-part-kinds.ps} {P : Out 5 rea
   pick-entry c = read-part-start (pick-code (pick-begin c))
 
 abbrev read-part-Inv-loop : read-part-lts.InvT-loop
-read-part-Inv-loop book starts p cache₀ work₀ h root height entries in-pick group₀ t₀ k₀ cache work group t k =
+read-part-Inv-loop book starts places₀ p cache₀ work₀ h root height entries in-pick group₀ t₀ k₀ places cache work group t k =
     GroupWalk book h root height in-pick (partFrom book p in-pick h root height entries work₀ cache₀) (length p) work₀
-    work cache group t k
+    work cache places group t k
     × ((length work ≡ length work₀) × (length cache ≡ length cache₀))
 
 abbrev read-part-μ-loop : read-part-lts.MeasureT-loop
-read-part-μ-loop book starts p cache₀ work₀ h root height entries in-pick group₀ t₀ k₀ cache work group t k = k
+read-part-μ-loop book starts places₀ p cache₀ work₀ h root height entries in-pick group₀ t₀ k₀ places cache work group t k = k
 
 abbrev read-part-Inv-loop2 : read-part-lts.InvT-loop2
-read-part-Inv-loop2 book starts p cache₀ work₀ h root height entries in-pick pick₀ t₀ k₀ cache work pick t k =
+read-part-Inv-loop2 book starts places₀ p cache₀ work₀ h root height entries in-pick pick₀ t₀ k₀ places cache work pick t k =
     PickWalk book h root height (pickFrom book h root height work₀ cache₀ pick₀ t₀ k₀) (length p) work₀ work cache
-    pick t k
+    places pick t k
     × ((length work ≡ length work₀) × (length cache ≡ length cache₀))
 
 abbrev read-part-μ-loop2 : read-part-lts.MeasureT-loop2
-read-part-μ-loop2 book starts p cache₀ work₀ h root height entries in-pick pick₀ t₀ k₀ cache work pick t k = k
+read-part-μ-loop2 book starts places₀ p cache₀ work₀ h root height entries in-pick pick₀ t₀ k₀ places cache work pick t k = k
 
 -- the state in a turn of each loop
 group-running : (t : ℕ)
     (c : read-part-lts.At-loop (read-part-claims t) (read-part-at t) read-part.Post read-part-Inv-loop
     read-part-μ-loop read-part-Inv-loop2 read-part-μ-loop2)
     → let a = group-entry c .args in
-    Running (a .book .now) (a .starts .now) (c .loop .cache) (c .loop .work) (a .h) (a .root) (a .height)
+    Running (a .book .now) (a .starts .now) (c .loop .places) (c .loop .cache) (c .loop .work) (a .h) (a .root) (a .height)
     (c .loop .group .entries)
 group-running t c =
     let run = group-entry c .pre .1 .0 in let inv = c .loop .inv in
-    running-next _ _ _ _ run (inv .1 .1) (inv .1 .0) (run .stack) (inv .0 .few) (inv .0 .counts)
+    running-on _ _ _ _ run (inv .1 .1) (inv .1 .0) (inv .0 .few) (inv .0 .bones) (inv .0 .placed)
+
+pick-running : (t : ℕ)
+    (c : read-part-lts.After-enter-candidate (read-part-claims t) (read-part-at t) read-part.Post read-part-Inv-loop
+    read-part-μ-loop read-part-Inv-loop2 read-part-μ-loop2)
+    → let a = pick-entry (pick-turn c) .args in let l = pick-turn c .loop2 in
+    Running (a .book .now) (a .starts .now) (l .places) (l .cache) (c .enter-candidate .last .0) (a .h) (a .root) (a .height)
+    (l .pick .entries)
+pick-running t c =
+    let turn = pick-turn c in let begun = pick-begin turn in let run = pick-entry turn .pre .1 .0 in
+    let l = turn .loop2 in let same = begun-same (begun .begin .ensures) in
+    running-on _ _ _ _ run (l .inv .1 .1) (c .enter-candidate .kept .0 ∙ l .inv .1 .0 ∙ begun .begin .kept .0)
+    (l .inv .0 .few) (entered-skeleton (c .enter-candidate .ensures) ∙ l .inv .0 .bones ∙ ap skeleton same)
+    (subst (λ (x : Stack). PlacesHeld x (l .places)) same (l .inv .0 .placed))
 
 -- a part below a group, by either call
 joined : (t : ℕ)
@@ -360,7 +381,7 @@ joined : (t : ℕ)
     Comes (a .h .goals) (a .root) (a .height) (keptBelow (a .in-pick) (a .height))
     (partFrom (a .book .now) (l .t .now) (a .in-pick) (a .h) (a .root) (a .height) (l .group .entries) (l .work)
     (l .cache))
-    (l .work) (c .match2 .work) (c .match2 .cache) (c .match2 .o)
+    (l .work) (c .match2 .work) (c .match2 .cache) (c .match2 .places) (c .match2 .o)
     × ((length (c .match2 .work) ≡ length (l .work)) × (length (c .match2 .cache) ≡ length (l .cache)))
 joined t c =
     let turn = group-turn (c .before) in let a = group-entry turn .args in let l = turn .loop in
@@ -368,16 +389,44 @@ joined t c =
     (c .before .before .loop-test .taken) in
     ⊎-elim
     (λ w. (
-      comes-as (w .11) (w .10) (w .12)
+      comes-as (w .13) (w .12) (w .11) (w .14)
           (call-comes (group-running t turn) (a .in-pick) (l .t .now) reads
-          (sym (c .before .code3 .ensures) ∙ w .1 .given .1) (w .2 .ensures) (w .5 .ensures)),
-      (ap length (w .11) ∙ w .5 .kept .1 .1 .1 .0, ap length (w .10) ∙ w .5 .kept .1 .1 .0),
+          (sym (c .before .code3 .ensures) ∙ w .1 .given .1) (w .2 .ensures) (w .6 .ensures)),
+      (ap length (w .13) ∙ w .6 .kept .1 .1 .1 .1 .0, ap length (w .12) ∙ w .6 .kept .1 .1 .1 .0),
     ))
     (λ w. (
-      comes-as (w .9) (w .8) (w .10) (w .3 .ensures),
-      (ap length (w .9) ∙ w .3 .kept .1 .1 .1 .1 .0, ap length (w .8) ∙ w .3 .kept .1 .1 .1 .0),
+      comes-as (w .11) (w .10) (w .9) (w .12) (w .4 .ensures),
+      (ap length (w .11) ∙ w .4 .kept .1 .1 .1 .1 .1 .0, ap length (w .10) ∙ w .4 .kept .1 .1 .1 .1 .0),
     ))
     (c .match2 .came)
+
+-- likewise a candidate
+tried : (t : ℕ)
+    (c : read-part-lts.At-match4-came (read-part-claims t) (read-part-at t) read-part.Post
+    read-part-Inv-loop read-part-μ-loop read-part-Inv-loop2 read-part-μ-loop2)
+    → let entered = pick-entered (c .before) in let turn = pick-turn entered in let a = pick-entry turn .args in
+    let l = turn .loop2 in let work1 = entered .enter-candidate .last .0 in
+    Comes (a .h .goals) (a .root) (a .height) (a .height)
+    (partFrom (a .book .now) (l .t .now) true (a .h) (a .root) (a .height) (l .pick .entries) work1 (l .cache))
+    work1 (c .match4 .work) (c .match4 .cache) (c .match4 .places) (c .match4 .o)
+    × ((length (c .match4 .work) ≡ length work1) × (length (c .match4 .cache) ≡ length (l .cache)))
+tried t c =
+    let entered = pick-entered (c .before) in let turn = pick-turn entered in let a = pick-entry turn .args in
+    let l = turn .loop2 in
+    let reads = first-reads (a .h .goals) true (l .k) (l .t .now) (l .inv .0 .parts)
+    (entered .before .before .loop2-test .taken) in
+    ⊎-elim
+    (λ w. (
+      comes-as (w .13) (w .12) (w .11) (w .14)
+          (call-comes (pick-running t entered) true (l .t .now) reads
+          (sym (c .before .code4 .ensures) ∙ w .1 .given .1) (w .2 .ensures) (w .6 .ensures)),
+      (ap length (w .13) ∙ w .6 .kept .1 .1 .1 .1 .0, ap length (w .12) ∙ w .6 .kept .1 .1 .1 .0),
+    ))
+    (λ w. (
+      comes-as (w .11) (w .10) (w .9) (w .12) (w .4 .ensures),
+      (ap length (w .11) ∙ w .4 .kept .1 .1 .1 .1 .1 .0, ap length (w .10) ∙ w .4 .kept .1 .1 .1 .1 .0),
+    ))
+    (c .match4 .came)
 
 read-part-code-requires : (t : ℕ)
     → read-part-lts.Need-code-requires (read-part-claims t) (read-part-at t) read-part.Post
@@ -403,7 +452,7 @@ read-part-evaluate-requires : (t : ℕ)
     → read-part-lts.Need-evaluate-requires (read-part-claims t) (read-part-at t) read-part.Post
     read-part-Inv-loop read-part-μ-loop read-part-Inv-loop2 read-part-μ-loop2
 read-part-evaluate-requires t c κs =
-    let first = c .before .before in let coded = first .before .before .before in
+    let first = c .before .before .before in let coded = first .before .before .before in
     let s = read-part-start coded in let a = s .args in
     let reads = s .pre .1 .1 .1 in
     let line = a-line (a .h .goals) (a .in-pick) (a .p .now) (lineIn (a .p .now)) refl reads in (
@@ -500,7 +549,7 @@ read-part-evaluate-requires-2 : (t : ℕ)
     → read-part-lts.Need-evaluate-requires-2 (read-part-claims t) (read-part-at t) read-part.Post
     read-part-Inv-loop read-part-μ-loop read-part-Inv-loop2 read-part-μ-loop2
 read-part-evaluate-requires-2 t c κs =
-    let first = c .before .before in let coded = first .before .before .before in let turn = group-turn coded in
+    let first = c .before .before .before in let coded = first .before .before .before in let turn = group-turn coded in
     let s = group-entry turn in let a = s .args in let l = turn .loop in
     let line = a-line (a .h .goals) (a .in-pick) (a .p .now) (lineIn (a .p .now)) refl (s .pre .1 .1 .1) in
     let reads = first-reads (a .h .goals) (a .in-pick) (l .k) (l .t .now) (l .inv .0 .parts)
@@ -518,7 +567,7 @@ read-part-read-part-requires : (t : ℕ)
     → read-part-lts.Need-read-part-requires (read-part-claims t) (read-part-at t) read-part.Post
     read-part-Inv-loop read-part-μ-loop read-part-Inv-loop2 read-part-μ-loop2
 read-part-read-part-requires t c κs =
-    let coded = c .before .before .before in let turn = group-turn coded in
+    let coded = c .before .before .before .before in let turn = group-turn coded in
     let s = group-entry turn in let a = s .args in let l = turn .loop in (
       fewer ((a .h .goals - a .height) * 128 + 0) (length (a .p .now)) (length (l .t .now)) t (s .pre .0)
           (l .inv .0 .shorter),
@@ -682,19 +731,67 @@ read-part-enter-candidate-requires t c κs =
       (s .pre .1 .1 .0, run .stack),
     )
 
+read-part-code-requires-3 : (t : ℕ)
+    → read-part-lts.Need-code-requires-3 (read-part-claims t) (read-part-at t) read-part.Post
+    read-part-Inv-loop read-part-μ-loop read-part-Inv-loop2 read-part-μ-loop2
+read-part-code-requires-3 t c κs =
+    let entered = c .before .before in let turn = pick-turn entered in let a = pick-entry turn .args in
+    let l = turn .loop2 in
+    record {
+      goals = a .h .goals;
+      inPick = true;
+      reads = first-reads (a .h .goals) true (l .k) (l .t .now) (l .inv .0 .parts)
+          (entered .before .before .loop2-test .taken);
+    }
+
+read-part-enum-told-4 : (t : ℕ) → read-part-lts.Need-enum-told-4 (read-part-claims t) (read-part-at t) read-part.Post
+    read-part-Inv-loop read-part-μ-loop read-part-Inv-loop2 read-part-μ-loop2
+read-part-enum-told-4 t c = search needs
+
+read-part-first-requires-3 : (t : ℕ)
+    → read-part-lts.Need-first-requires-3 (read-part-claims t) (read-part-at t) read-part.Post
+    read-part-Inv-loop read-part-μ-loop read-part-Inv-loop2 read-part-μ-loop2
+read-part-first-requires-3 t c κs =
+    let coded = c .before .before in let entered = pick-entered coded in let turn = pick-turn entered in
+    let a = pick-entry turn .args in let l = turn .loop2 in (
+      record {
+        goals = a .h .goals;
+        inPick = true;
+        reads = first-reads (a .h .goals) true (l .k) (l .t .now) (l .inv .0 .parts)
+            (entered .before .before .loop2-test .taken);
+      },
+      sym (coded .code4 .ensures) ∙ c .enum-told4 .given .1,
+    )
+
+read-part-evaluate-requires-3 : (t : ℕ)
+    → read-part-lts.Need-evaluate-requires-3 (read-part-claims t) (read-part-at t) read-part.Post
+    read-part-Inv-loop read-part-μ-loop read-part-Inv-loop2 read-part-μ-loop2
+read-part-evaluate-requires-3 t c κs =
+    let first = c .before .before .before in let coded = first .before .before .before in
+    let entered = pick-entered coded in let turn = pick-turn entered in
+    let s = pick-entry turn in let a = s .args in let l = turn .loop2 in
+    let line = a-line (a .h .goals) (a .in-pick) (a .p .now) (lineIn (a .p .now)) refl (s .pre .1 .1 .1) in
+    let reads = first-reads (a .h .goals) true (l .k) (l .t .now) (l .inv .0 .parts)
+    (entered .before .before .loop2-test .taken) in (
+      fewer ((a .h .goals - a .height) * 128 + 0) (length (a .p .now)) 0 t (s .pre .0) (omega arith),
+      (
+        pick-running t entered,
+        rw (first .first3 .ensures)
+            (call-known (a .h .goals) true (l .t .now) reads
+            (sym (coded .code4 .ensures) ∙ first .before .enum-told4 .given .1)),
+      ),
+    )
+
 read-part-read-part-requires-2 : (t : ℕ)
     → read-part-lts.Need-read-part-requires-2 (read-part-claims t) (read-part-at t) read-part.Post
     read-part-Inv-loop read-part-μ-loop read-part-Inv-loop2 read-part-μ-loop2
 read-part-read-part-requires-2 t c κs =
-    let entered = c .before .before .before .before in let turn = pick-turn entered in
-    let s = pick-entry turn in let a = s .args in
-    let l = turn .loop2 in let run = s .pre .1 .0 in (
+    let entered = pick-entered (c .before .before .before .before) in let turn = pick-turn entered in
+    let s = pick-entry turn in let a = s .args in let l = turn .loop2 in (
       fewer ((a .h .goals - a .height) * 128 + 0) (length (a .p .now)) (length (l .t .now)) t (s .pre .0)
           (l .inv .0 .shorter),
       (
-        running-next _ _ _ _ run (l .inv .1 .1)
-            (entered .enter-candidate .kept .0 ∙ l .inv .1 .0 ∙ pick-begin turn .begin .kept .0) (run .stack)
-            (l .inv .0 .few) (entered-counts (entered .enter-candidate .ensures) (l .inv .0 .counts)),
+        pick-running t entered,
         (
           s .pre .1 .1 .0,
           first-reads (a .h .goals) true (l .k) (l .t .now) (l .inv .0 .parts)
@@ -707,13 +804,10 @@ read-part-finish-candidate-requires : (t : ℕ)
     → read-part-lts.Need-finish-candidate-requires (read-part-claims t) (read-part-at t) read-part.Post
     read-part-Inv-loop read-part-μ-loop read-part-Inv-loop2 read-part-μ-loop2
 read-part-finish-candidate-requires t c κs =
-    let read = c .before .before .before .before .before in let entered = pick-entered read in
-    let turn = pick-turn entered in
-    let s = pick-entry turn in let run = s .pre .1 .0 in (
-      work-next _ (run .bytes)
-          (read .read-part2 .kept .1 .1 .1 .1 .0 ∙ entered .enter-candidate .kept .0 ∙ turn .loop2 .inv .1 .0
-          ∙ pick-begin turn .begin .kept .0),
-      (s .pre .1 .1 .0, (run .stack, read .read-part2 .ensures .few)),
+    let came = c .before in let entered = pick-entered (came .before) in
+    let s = pick-entry (pick-turn entered) in (
+      work-next _ (pick-running t entered .bytes) (tried t came .1 .0),
+      (s .pre .1 .1 .0, (s .pre .1 .0 .stack, tried t came .0 .few)),
     )
 
 read-part-enum-known-next-3 : (t : ℕ)
@@ -725,18 +819,18 @@ read-part-same-length-3 : (t : ℕ)
     → read-part-lts.Need-same-length-3 (read-part-claims t) (read-part-at t) read-part.Post
     read-part-Inv-loop read-part-μ-loop read-part-Inv-loop2 read-part-μ-loop2
 read-part-same-length-3 t c =
-    let read = pick-read (c .before .before .before .before .before) in
-    read .read-part2 .kept .1 .1 .1 .0 ∙ pick-turn (pick-entered read) .loop2 .inv .1 .1
+    let came = pick-came (c .before .before .before .before .before) in
+    tried t came .1 .1 ∙ pick-turn (pick-entered (came .before)) .loop2 .inv .1 .1
 
 read-part-same-length-4 : (t : ℕ)
     → read-part-lts.Need-same-length-4 (read-part-claims t) (read-part-at t) read-part.Post
     read-part-Inv-loop read-part-μ-loop read-part-Inv-loop2 read-part-μ-loop2
 read-part-same-length-4 t c =
-    let finished = c .before .before .before .before .before in let read = pick-read finished in
-    let entered = pick-entered read in
+    let finished = c .before .before .before .before .before in let came = pick-came finished in
+    let entered = pick-entered (came .before) in
     let turn = pick-turn entered in
     finished .finish-candidate .kept .1 .1 .0
-    ∙ read .read-part2 .kept .1 .1 .1 .1 .0
+    ∙ tried t came .1 .0
     ∙ entered .enter-candidate .kept .0
     ∙ turn .loop2 .inv .1 .0
     ∙ pick-begin turn .begin .kept .0
@@ -744,8 +838,8 @@ read-part-same-length-4 t c =
 read-part-returns-2 : (t : ℕ) → read-part-lts.Need-returns-2 (read-part-claims t) (read-part-at t) read-part.Post
     read-part-Inv-loop read-part-μ-loop read-part-Inv-loop2 read-part-μ-loop2
 read-part-returns-2 t c =
-    let finished = c .before .before .before .before .before in let read = pick-read finished in
-    let entered = pick-entered read in
+    let finished = c .before .before .before .before .before in let came = pick-came finished in
+    let entered = pick-entered (came .before) in
     let turn = pick-turn entered in let begun = pick-begin turn in let coded = pick-code begun in
     let s = read-part-start coded in let a = s .args in
     let count = turn .before .count2 in
@@ -753,7 +847,7 @@ read-part-returns-2 t c =
     (sym (coded .code .ensures) ∙ begun .before .before .enum-told3 .given .1) (begun .begin .ensures) (count .result)
     (count .ensures .0)
     (pick-stops (s .pre .1 .1 .0) (s .pre .1 .0 .stack) (turn .loop2 .inv .0) (entered .enter-candidate .ensures)
-    (read .read-part2 .ensures)
+    (tried t came .0)
     (finished .finish-candidate .ensures) (entered .before .before .loop2-test .taken) _ (c .before .next4 .given .1))
 
 read-part-enum-known-next-4 : (t : ℕ)
@@ -764,13 +858,13 @@ read-part-enum-known-next-4 t c = search needs
 read-part-sub-k-2 : (t : ℕ) → read-part-lts.Need-sub-k-2 (read-part-claims t) (read-part-at t) read-part.Post
     read-part-Inv-loop read-part-μ-loop read-part-Inv-loop2 read-part-μ-loop2
 read-part-sub-k-2 t c =
-    let taken = pick-entered (pick-read (pick-finished c)) .before .before .loop2-test .taken in omega arith
+    let taken = pick-entered (pick-came (pick-finished c) .before) .before .before .loop2-test .taken in omega arith
 
 read-part-next-requires-2 : (t : ℕ)
     → read-part-lts.Need-next-requires-2 (read-part-claims t) (read-part-at t) read-part.Post
     read-part-Inv-loop read-part-μ-loop read-part-Inv-loop2 read-part-μ-loop2
 read-part-next-requires-2 t c κs =
-    let entered = pick-entered (pick-read (pick-finished (c .before))) in
+    let entered = pick-entered (pick-came (pick-finished (c .before)) .before) in
     let turn = pick-turn entered in let a = pick-entry turn .args in
     let l = turn .loop2 in
     record {
@@ -783,26 +877,26 @@ read-part-next-requires-2 t c κs =
 read-part-loop2-less : (t : ℕ) → read-part-lts.Need-loop2-less (read-part-claims t) (read-part-at t) read-part.Post
     read-part-Inv-loop read-part-μ-loop read-part-Inv-loop2 read-part-μ-loop2
 read-part-loop2-less t c =
-    let taken = pick-entered (pick-read (pick-finished (c .before .before))) .before .before .loop2-test .taken in
+    let taken = pick-entered (pick-came (pick-finished (c .before .before)) .before) .before .before .loop2-test .taken in
     omega arith
 
 read-part-loop2-again : (t : ℕ) → read-part-lts.Need-loop2-again (read-part-claims t) (read-part-at t) read-part.Post
     read-part-Inv-loop read-part-μ-loop read-part-Inv-loop2 read-part-μ-loop2
 read-part-loop2-again t c =
     let told = c .before .before in let finished = pick-finished told in
-    let read = pick-read finished in let entered = pick-entered read in
+    let came = pick-came finished in let entered = pick-entered (came .before) in
     let turn = pick-turn entered in let s = pick-entry turn in let a = s .args in let l = turn .loop2 in
     let pos = entered .before .before .loop2-test .taken in (
       pick-next (s .pre .1 .1 .0) (s .pre .1 .0 .stack) (l .inv .0) (entered .enter-candidate .ensures)
-          (read .read-part2 .ensures)
+          (tried t came .0)
           (finished .finish-candidate .ensures) _ (told .before .next5 .given .1)
           (passed (a .h .goals) true (l .k) (l .t .now) (l .inv .0 .parts) pos _
           (c .next6 .ensures (a .h .goals) true
           (first-reads (a .h .goals) true (l .k) (l .t .now) (l .inv .0 .parts) pos))),
       (
-        finished .finish-candidate .kept .1 .1 .0 ∙ read .read-part2 .kept .1 .1 .1 .1 .0
+        finished .finish-candidate .kept .1 .1 .0 ∙ tried t came .1 .0
             ∙ entered .enter-candidate .kept .0 ∙ l .inv .1 .0,
-        read .read-part2 .kept .1 .1 .1 .0 ∙ l .inv .1 .1,
+        tried t came .1 .1 ∙ l .inv .1 .1,
       ),
     )
 
@@ -810,24 +904,24 @@ read-part-loop2-less-2 : (t : ℕ)
     → read-part-lts.Need-loop2-less-2 (read-part-claims t) (read-part-at t) read-part.Post
     read-part-Inv-loop read-part-μ-loop read-part-Inv-loop2 read-part-μ-loop2
 read-part-loop2-less-2 t c =
-    let taken = pick-entered (pick-read (pick-finished (c .before))) .before .before .loop2-test .taken in omega arith
+    let taken = pick-entered (pick-came (pick-finished (c .before)) .before) .before .before .loop2-test .taken in omega arith
 
 read-part-loop2-again-2 : (t : ℕ)
     → read-part-lts.Need-loop2-again-2 (read-part-claims t) (read-part-at t) read-part.Post
     read-part-Inv-loop read-part-μ-loop read-part-Inv-loop2 read-part-μ-loop2
 read-part-loop2-again-2 t c =
-    let told = c .before in let finished = pick-finished told in let read = pick-read finished in
-    let entered = pick-entered read in
+    let told = c .before in let finished = pick-finished told in let came = pick-came finished in
+    let entered = pick-entered (came .before) in
     let turn = pick-turn entered in let s = pick-entry turn in let a = s .args in let l = turn .loop2 in
     let pos = entered .before .before .loop2-test .taken in (
       pick-next (s .pre .1 .1 .0) (s .pre .1 .0 .stack) (l .inv .0) (entered .enter-candidate .ensures)
-          (read .read-part2 .ensures)
+          (tried t came .0)
           (finished .finish-candidate .ensures) _ (told .before .next5 .given .1)
           (none-left (a .h .goals) true (l .k) (l .t .now) (l .inv .0 .parts) pos (c .if2 .left)),
       (
-        finished .finish-candidate .kept .1 .1 .0 ∙ read .read-part2 .kept .1 .1 .1 .1 .0
+        finished .finish-candidate .kept .1 .1 .0 ∙ tried t came .1 .0
             ∙ entered .enter-candidate .kept .0 ∙ l .inv .1 .0,
-        read .read-part2 .kept .1 .1 .1 .0 ∙ l .inv .1 .1,
+        tried t came .1 .1 ∙ l .inv .1 .1,
       ),
     )
 
@@ -856,7 +950,7 @@ read-part-same-length-6 t c = search needs
 read-part-returns-3 : (t : ℕ) → read-part-lts.Need-returns-3 (read-part-claims t) (read-part-at t) read-part.Post
     read-part-Inv-loop read-part-μ-loop read-part-Inv-loop2 read-part-μ-loop2
 read-part-returns-3 t c =
-    let made = c .before .before .before .before in let first = made .before .before .before in
+    let made = c .before .before .before .before in let first = made .before .before .before .before in
     let coded = first .before .before .before in let s = read-part-start coded in let a = s .args in
     call-comes (s .pre .1 .0) (a .in-pick) (a .p .now) (s .pre .1 .1 .1)
     (sym (coded .code .ensures) ∙ first .before .enum-told .given .1)
@@ -912,43 +1006,43 @@ read-part-returns-6 t c =
     (coded .code .ensures) (c .match .keys4)
 
 -- ---- rerun
-module _ {C : rerun-lts.Claims} {A : In 5 rerun-kinds.ps} {P : Out 5 rerun-kinds.ps rerun-kinds.r}
+module _ {C : rerun-lts.Claims} {A : In 6 rerun-kinds.ps} {P : Out 6 rerun-kinds.ps rerun-kinds.r}
     {I : rerun-lts.InvT-loop} {μ : rerun-lts.MeasureT-loop} where
   abbrev rerun-start : rerun-lts.At-loop C A P I μ → rerun-lts.Start C A P I μ
   rerun-start c = c .before .before .before .before .before .before
 
   abbrev rerun-turn : rerun-lts.After-read-part C A P I μ → rerun-lts.At-loop C A P I μ
-  rerun-turn c = c .before .before .before
+  rerun-turn c = c .before .before .before .before
 
   abbrev rerun-read : rerun-lts.After-end-iteration C A P I μ → rerun-lts.After-read-part C A P I μ
   rerun-read c = c .before .before .before .before .before .before
 
 abbrev rerun-Inv-loop : rerun-lts.InvT-loop
-rerun-Inv-loop book starts p cache₀ work₀ h root height entries left more₀ overflow₀ kept₀ cache work more overflow kept =
+rerun-Inv-loop book starts places₀ p cache₀ work₀ h root height entries left more₀ overflow₀ kept₀ places cache work more overflow kept =
     Turn (computed book p false h height) (h .goals) root height left
-    (taskFrom book p h root height entries left work₀ cache₀) work₀ work cache more overflow kept
+    (taskFrom book p h root height entries left work₀ cache₀) work₀ work cache places more overflow kept
     × ((length work ≡ length work₀) × (length cache ≡ length cache₀))
 
 abbrev rerun-μ-loop : rerun-lts.MeasureT-loop
-rerun-μ-loop book starts p cache₀ work₀ h root height entries left more₀ overflow₀ kept₀ cache work more overflow kept =
+rerun-μ-loop book starts places₀ p cache₀ work₀ h root height entries left more₀ overflow₀ kept₀ places cache work more overflow kept =
     more
 
 rerun-loop-holds : (t : ℕ)
     → rerun-lts.Need-loop-holds (rerun-claims t) (rerun-at t) rerun.Post rerun-Inv-loop rerun-μ-loop
 rerun-loop-holds t c =
     let s = c .before .before .before .before .before in
-    (turn-starts (s .pre .1 .0 .entries) (s .pre .1 .0 .counts), (refl, refl))
+    (turn-starts (s .pre .1 .0 .entries) (s .pre .1 .0 .counts) (s .pre .1 .0 .placed), (refl, refl))
 
 rerun-read-part-requires : (t : ℕ)
     → rerun-lts.Need-read-part-requires (rerun-claims t) (rerun-at t) rerun.Post rerun-Inv-loop rerun-μ-loop
 rerun-read-part-requires t c κs =
-    let turn = c .before .before in let s = rerun-start turn in let a = s .args in
+    let turn = c .before .before .before in let s = rerun-start turn in let a = s .args in
     let run = s .pre .1 .0 in let here = turn .loop .inv in
-    let short = s .good .1 .1 .0 .0 in (
+    let short = s .good .1 .1 .1 .0 .0 in (
       lower ((a .h .goals - a .height) * 128 + (a .left + 1)) ((a .h .goals - a .height) * 128 + 0) 0
           (length (a .p .now)) t (s .pre .0) (omega arith) short,
       (
-        running-next _ _ (a .height) _ run (here .1 .1) (here .1 .0) (run .stack) (here .0 .few) (here .0 .counts),
+        running-on _ _ _ _ run (here .1 .1) (here .1 .0) (here .0 .few) (here .0 .bones) (here .0 .placed),
         (s .pre .1 .1 .0, s .pre .1 .1 .1 .1),
       ),
     )
@@ -959,9 +1053,9 @@ rerun-end-iteration-requires t c κs =
     let read = c .before .before .before .before .before in let turn = rerun-turn read in
     let s = rerun-start turn in let a = s .args in let run = s .pre .1 .0 in (
       (
-        work-next _ (run .bytes) (read .read-part .kept .1 .1 .1 .1 .0 ∙ turn .loop .inv .1 .0),
+        work-next _ (run .bytes) (read .read-part .kept .1 .1 .1 .1 .1 .0 ∙ turn .loop .inv .1 .0),
         part-counts (a .book .now) (a .h) (a .root) (a .height) (turn .loop .kept) (turn .loop .work) (turn .loop .cache)
-            (turn .loop .inv .0 .counts) false (a .p .now) (read .read-part .ensures),
+            false (a .p .now) (read .read-part .ensures) (turn .loop .inv .0 .counts),
       ),
       (s .pre .1 .1 .0, (run .stack, read .read-part .ensures .few)),
     )
@@ -984,21 +1078,21 @@ rerun-add-passes t c =
 rerun-same-length : (t : ℕ)
     → rerun-lts.Need-same-length (rerun-claims t) (rerun-at t) rerun.Post rerun-Inv-loop rerun-μ-loop
 rerun-same-length t c =
-    let read = rerun-read (c .before .before .before .before .before) in read .read-part .kept .1 .1 .1 .0
+    let read = rerun-read (c .before .before .before .before .before) in read .read-part .kept .1 .1 .1 .1 .0
     ∙ rerun-turn read .loop .inv .1 .1
 
 rerun-same-length-2 : (t : ℕ)
     → rerun-lts.Need-same-length-2 (rerun-claims t) (rerun-at t) rerun.Post rerun-Inv-loop rerun-μ-loop
 rerun-same-length-2 t c =
     let ended = c .before .before .before .before .before in let read = rerun-read ended in
-    ended .end-iteration .kept .1 .0 ∙ read .read-part .kept .1 .1 .1 .1 .0 ∙ rerun-turn read .loop .inv .1 .0
+    ended .end-iteration .kept .1 .0 ∙ read .read-part .kept .1 .1 .1 .1 .1 .0 ∙ rerun-turn read .loop .inv .1 .0
 
 rerun-returns : (t : ℕ) → rerun-lts.Need-returns (rerun-claims t) (rerun-at t) rerun.Post rerun-Inv-loop rerun-μ-loop
 rerun-returns t c =
     let ended = c .before .before .before .before .before in let read = rerun-read ended in
-    let here = rerun-turn read in
+    let here = rerun-turn read in let s = rerun-start here in
     turn-ends (here .loop .inv .0) (read .read-part .ensures) (ended .end-iteration .ensures)
-    (rerun-start here .pre .1 .1 .1 .0) _
+    (s .pre .1 .1 .0) (s .pre .1 .1 .1 .0) _
     (c .before .next .given .1)
 
 rerun-enum-known-next-2 : (t : ℕ)
@@ -1025,12 +1119,13 @@ rerun-loop-again : (t : ℕ)
     → rerun-lts.Need-loop-again (rerun-claims t) (rerun-at t) rerun.Post rerun-Inv-loop rerun-μ-loop
 rerun-loop-again t c =
     let ended = c .before .before .before .before .before in let read = rerun-read ended in
-    let turn = rerun-turn read in (
-      turn-again (turn .loop .inv .0) (read .read-part .ensures) (ended .end-iteration .ensures) _ _
+    let turn = rerun-turn read in let a = rerun-start turn .args in (
+      turn-again (turn .loop .inv .0) (read .read-part .ensures) (ended .end-iteration .ensures)
+          (computed-kept (a .book .now) (a .p .now) false (a .h) (a .height)) _ _
           (c .before .next2 .given .1),
       (
-        ended .end-iteration .kept .1 .0 ∙ read .read-part .kept .1 .1 .1 .1 .0 ∙ turn .loop .inv .1 .0,
-        read .read-part .kept .1 .1 .1 .0 ∙ turn .loop .inv .1 .1,
+        ended .end-iteration .kept .1 .0 ∙ read .read-part .kept .1 .1 .1 .1 .1 .0 ∙ turn .loop .inv .1 .0,
+        read .read-part .kept .1 .1 .1 .1 .0 ∙ turn .loop .inv .1 .1,
       ),
     )
 
@@ -1045,6 +1140,8 @@ pub +evaluate+read-part+rerun-spec : {M : Type 1} → statement M
     (evaluate-same-length-2 t)
     (evaluate-returns t)
     (evaluate-push-requires t)
+    (evaluate-cast-places t)
+    (evaluate-element-write-places t)
     (evaluate-of-goal-requires t)
     (evaluate-one-less-requires t)
     (evaluate-add-rerun t)
@@ -1098,6 +1195,10 @@ pub +evaluate+read-part+rerun-spec : {M : Type 1} → statement M
     (read-part-count-requires-2 t)
     (read-part-loop2-holds t)
     (read-part-enter-candidate-requires t)
+    (read-part-code-requires-3 t)
+    (read-part-enum-told-4 t)
+    (read-part-first-requires-3 t)
+    (read-part-evaluate-requires-3 t)
     (read-part-read-part-requires-2 t)
     (read-part-finish-candidate-requires t)
     (read-part-enum-known-next-3 t)

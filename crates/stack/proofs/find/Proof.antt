@@ -1,69 +1,87 @@
-use mathlib.Core.Path.{_≡_, refl, sym, _∙_}
-use mathlib.Core.Option.{Option}
-use Prim.Native.Nat.{ℕ, _-_, _≤_}
+use mathlib.Core.Path.{_≡_, sym, ap, _∙_}
+use mathlib.Core.Option.{Option, some}
 use native.Mathlib.Omega.{arith}
+use Prim.Native.Nat.{ℕ}
+use borrow.Author.Needs.{needs}
 use Rattle.definition.specs.declared.answers.Answer.{Answer}
-use Rattle.definition.specs.Stack.{stackFind}
-use Rattle.layout.specs.Work.{stackOf}
-use Rattle.stack.specs.Results.{provisionalOf}
-use Rattle.stack.proofs.Loops.{read-at, find-here, find-next, find-nowhere, at-below, nowhere-below}
+use Rattle.definition.specs.Stack.{OnStack}
 use Rattle.stack.proofs.Graph.{frame-bytes}
+use Rattle.stack.proofs.Loops.{read-at}
+use Rattle.stack.proofs.Places.{found-nowhere, found-at, at-below, nowhere-below}
 use Rattle.stack.proofs.find.Statement.{statement}
 use Rattle.stack.proofs.find.Tie as tie
 
-abbrev Inv-loop : tie.InvT-loop
-Inv-loop graph goals height goal i₀ i = (i ≤ height) × (stackFind (stackOf goals i graph) goal ≡ stackFind (stackOf goals height graph) goal)
+element-copy-out-wide : tie.Need-element-copy-out-wide
+element-copy-out-wide c = search needs
 
-abbrev μ-loop : tie.MeasureT-loop
-μ-loop graph goals height goal i₀ i = i
+wide-requires : tie.Need-wide-requires
+wide-requires c κs = search needs
 
-loop-holds : tie.Need-loop-holds Inv-loop μ-loop
-loop-holds c = (omega arith, refl)
-
-sub-i : tie.Need-sub-i Inv-loop μ-loop
-sub-i c = omega arith
-
-frame-at-requires : tie.Need-frame-at-requires Inv-loop μ-loop
-frame-at-requires c κs = let l = c .before in let s = c .before .before .before in (s .pre .0, omega arith)
-
-input-requires : tie.Need-input-requires Inv-loop μ-loop
-input-requires c κs = let l = c .before .before in let s = c .before .before .before .before in (frame-bytes (s .args .goals) (s .args .graph .now) (c .frame-at .result .now) (l .loop .i - 1) (s .pre .0) (omega arith) (c .frame-at .ensures))
-
-provisional-result-requires : tie.Need-provisional-result-requires Inv-loop μ-loop
-provisional-result-requires c κs = let l = c .before .before .before .before in let s = c .before .before .before .before .before .before in (frame-bytes (s .args .goals) (s .args .graph .now) (c .before .before .frame-at .result .now) (l .loop .i - 1) (s .pre .0) (omega arith) (c .before .before .frame-at .ensures))
-
-returns : tie.Need-returns Inv-loop μ-loop
+returns : tie.Need-returns
 returns c =
-    let l = c .before .before .before .before .before in
-    let s = c .before .before .before .before .before .before .before in
+    let read = c .before in let s = read .before .before .before in let a = s .args in
     record {
-      is = find-here (s .args .goals) (s .args .graph .now) (s .args .goal) (l .loop .i) (stackFind (stackOf (s .args .goals) (s .args .height) (s .args .graph .now)) (s .args .goal)) (l .loop .inv .1) (c .before .before .before .before .loop-test .taken)
-          (sym (c .before .before .input .ensures .0 ∙ (read-at {A = ℕ} (λ f. f .input) (s .args .goals) (s .args .graph .now) (l .loop .i - 1) (c .before .before .before .frame-at .result .now) (c .before .before .before .frame-at .ensures))) ∙ c .before .if1 .taken) (provisionalOf (c .provisional-result .result)) (c .provisional-result .ensures ∙ (read-at {A = Option Answer} (λ f. f .provisionalResult) (s .args .goals) (s .args .graph .now) (l .loop .i - 1) (c .before .before .before .frame-at .result .now) (c .before .before .before .frame-at .ensures)));
-      below = λ j p e. at-below (l .loop .i - 1) (c .provisional-result .result) j p (s .args .height) (omega arith) e;
+      is = sym (found-nowhere (a .goals) (a .graph .now) (a .places .now) (a .goal) (read .wide .result)
+          (read .wide .ensures .0) (a .height) (s .pre .1) (λ lt e. let over = c .if1 .taken in omega arith));
+      below = λ j p e. nowhere-below j p (a .height) e;
     }
 
-loop-less : tie.Need-loop-less Inv-loop μ-loop
-loop-less c = omega arith
+frame-at-requires : tie.Need-frame-at-requires
+frame-at-requires c κs = search needs
 
-loop-again : tie.Need-loop-again Inv-loop μ-loop
-loop-again c = let l = c .before .before .before .before in let s = c .before .before .before .before .before .before in
-    (omega arith, find-next (s .args .goals) (s .args .graph .now) (s .args .goal) (l .loop .i) (stackFind (stackOf (s .args .goals) (s .args .height) (s .args .graph .now)) (s .args .goal)) (l .loop .inv .1) (c .before .before .before .loop-test .taken) (λ e. c .if1 .left (c .before .input .ensures .0 ∙ (read-at {A = ℕ} (λ f. f .input) (s .args .goals) (s .args .graph .now) (l .loop .i - 1) (c .before .before .frame-at .result .now) (c .before .before .frame-at .ensures)) ∙ e)))
+input-requires : tie.Need-input-requires
+input-requires c κs =
+    let read = c .before .before in let s = read .before .before .before in let a = s .args in
+    frame-bytes (a .goals) (a .graph .now) (c .frame-at .result .now) (read .wide .result) (s .pre .0 .0) (omega arith)
+    (c .frame-at .ensures)
 
-returns-2 : tie.Need-returns-2 Inv-loop μ-loop
-returns-2 c = let l = c .before in let s = c .before .before .before in record { is = find-nowhere (s .args .goals) (s .args .graph .now) (s .args .goal) (l .loop .i) (stackFind (stackOf (s .args .goals) (s .args .height) (s .args .graph .now)) (s .args .goal)) (l .loop .inv .1) (c .loop-test .left); below = λ j p e. nowhere-below j p (s .args .height) e }
+provisional-result-requires : tie.Need-provisional-result-requires
+provisional-result-requires c κs =
+    let at = c .before .before in let read = at .before .before in let s = read .before .before .before in
+    let a = s .args in
+    frame-bytes (a .goals) (a .graph .now) (at .frame-at .result .now) (read .wide .result) (s .pre .0 .0) (omega arith)
+    (at .frame-at .ensures)
+
+returns-2 : tie.Need-returns-2
+returns-2 c =
+    let then = c .before in let in-frame = then .before in let at = in-frame .before in let read = at .before .before in
+    let s = read .before .before .before in let a = s .args in
+    let is-input = read-at {A = ℕ} (λ f. f .input) (a .goals) (a .graph .now) (read .wide .result)
+    (at .frame-at .result .now) (at .frame-at .ensures) in
+    let is-result = read-at {A = Option Answer} (λ f. f .provisionalResult) (a .goals) (a .graph .now)
+    (read .wide .result) (at .frame-at .result .now) (at .frame-at .ensures) in
+    let lt = at .before .if1 .left in
+    record {
+      is = ap (λ (p : Option Answer). some (record { index = read .wide .result; provisionalResult = p }))
+          (c .provisional-result .ensures ∙ is-result)
+          ∙ sym (found-at (a .goals) (a .graph .now) (a .places .now) (a .goal) (read .wide .result)
+          (read .wide .ensures .0) (a .height) (s .pre .1) (omega arith)
+          (sym (in-frame .input .ensures .0 ∙ is-input) ∙ then .if2 .taken));
+      below = λ j p e. at-below (read .wide .result) (c .provisional-result .result) j p (a .height) (omega arith) e;
+    }
+
+returns-3 : tie.Need-returns-3
+returns-3 c =
+    let in-frame = c .before in let at = in-frame .before in let read = at .before .before in
+    let s = read .before .before .before in let a = s .args in
+    let is-input = read-at {A = ℕ} (λ f. f .input) (a .goals) (a .graph .now) (read .wide .result)
+    (at .frame-at .result .now) (at .frame-at .ensures) in
+    record {
+      is = sym (found-nowhere (a .goals) (a .graph .now) (a .places .now) (a .goal) (read .wide .result)
+          (read .wide .ensures .0) (a .height) (s .pre .1)
+          (λ lt e. c .if2 .left (in-frame .input .ensures .0 ∙ is-input ∙ e)));
+      below = λ j p e. nowhere-below j p (a .height) e;
+    }
 
 pub find-spec : {M : Type 1} → statement M
 find-spec =
     tie.close
     (tie.spec
-    Inv-loop
-    μ-loop
-    loop-holds
-    sub-i
+    element-copy-out-wide
+    wide-requires
+    returns
     frame-at-requires
     input-requires
     provisional-result-requires
-    returns
-    loop-less
-    loop-again
-    returns-2)
+    returns-2
+    returns-3)

@@ -1,4 +1,6 @@
-use Rattle.search_graph.proofs.Lending.{lent-frames, looked-up}
+use Rattle.search_graph.proofs.Lending.{lent-stack, lent-frames, looked-up}
+use Rattle.definition.specs.Stack.{Stack}
+use Rattle.stack.specs.Places.{Placed}
 use borrow.Author.Needs.{needs}
 use Rattle.search_graph.proofs.between.look_up.Statement.{statement}
 use Rattle.search_graph.proofs.between.look_up.Tie as tie
@@ -18,20 +20,23 @@ part-lookup-end c = search needs
 lookup-requires : tie.Need-lookup-requires
 lookup-requires c κs =
     let s = c .before .before .before .before in
-    let graph-length = c .before .graph-length in
-    record {
-      graph =
-          record {
-            stack =
-                lent-frames (s .args .h .goals) (s .args .work .now) (graph-length .result) (s .pre .bytes) (graph-length .ensures .0)
-                (s .args .height) (s .pre .stack) (s .pre .counts);
-            entries = s .pre .entries;
-          };
-      cache = s .pre .slots;
-      goal = s .pre .known;
-      divisor = s .pre .divides;
-      root = s .pre .shallow;
-    }
+    let graph-length = c .before .graph-length in (
+      record {
+        graph =
+            record {
+              stack =
+                  lent-frames (s .args .h .goals) (s .args .work .now) (graph-length .result) (s .pre .bytes) (graph-length .ensures .0)
+                  (s .args .height) (s .pre .stack) (s .pre .counts);
+              entries = s .pre .entries;
+            };
+        cache = s .pre .slots;
+        goal = s .pre .known;
+        divisor = s .pre .divides;
+        root = s .pre .shallow;
+      },
+      lent-stack (s .args .h .goals) (s .args .work .now) (graph-length .result) (s .pre .bytes) (graph-length .ensures .0)
+          (λ (l : Stack). Placed l (s .args .places .now)) (s .args .height) (s .pre .placed),
+    )
 
 same-length : tie.Need-same-length
 same-length c = search needs
