@@ -1,5 +1,5 @@
 -- What answers the goal changes the parent.
-use mathlib.Core.Path.{_≡_, ap, ap₂, _∙_}
+use mathlib.Core.Path.{_≡_, refl, ap, ap₂, _∙_}
 use mathlib.Core.Bool.{Bool, false}
 use mathlib.Core.Option.{some}
 use mathlib.Core.List.{List}
@@ -9,7 +9,8 @@ use Rattle.definition.specs.declared.usages.HeadUsages.{HeadUsages}
 use Rattle.definition.specs.declared.answers.Answer.{Answer}
 use Rattle.definition.specs.declared.format.Header.{Header}
 use Rattle.definition.specs.Paths.{flagOf}
-use Rattle.definition.specs.Usages.{noUsages, addUsage}
+use Rattle.definition.specs.declared.paths.PathKind.the-variants.{Inductive, Unknown, Coinductive, ForcedAmbiguity}
+use Rattle.definition.specs.Usages.{counterLimit, noUsages, oneUsage, addUsage}
 use Rattle.definition.specs.Heads.{noHeads, insertHead}
 use Rattle.definition.specs.Nested.{NestedGoals}
 use Rattle.definition.specs.Stack.{cyclePathKind}
@@ -22,6 +23,14 @@ use Rattle.layout.specs.Work.{stackOf, entriesOf, graphOf}
 use Rattle.stack.specs.Results.{provisionalOf}
 use Rattle.stack.specs.declared.frame.Provisional.{Provisional}
 use Rattle.provisional_cache.specs.Entries.{entryBytes, entryAt}
+
+-- the first usage of a head
+one-first : (kind : PathKind) → oneUsage kind ≡ addUsage noUsages kind
+unfolding counterLimit
+one-first Inductive = refl
+one-first Unknown = refl
+one-first Coinductive = refl
+one-first ForcedAmbiguity = refl
 
 -- the stack becomes that of the parent's update, and the entries stay
 module _ (goals height : ℕ) (old new : List ℕ) (step : PathKind) (available : ℕ) (es : (n : ℕ) → entriesOf goals n new ≡ entriesOf goals n old) where
@@ -49,11 +58,11 @@ module _ (h : Header) (height : ℕ) (old new : List ℕ) (step : PathKind) (ava
       λ t. some (Done (record { rootDepth = root; stack = s t; provisionalCache = es n t; globalCache = cache }) (is-answer t))
 
   -- ---- `close_cycle`
-  pub cycle-closed : (goal head : ℕ) (p : Provisional) (kind : PathKind) (zero usages : HeadUsages) (answer : Answer) → kind ≡ cyclePathKind (stackOf (h .goals) height old) step head → zero ≡ noUsages → usages ≡ addUsage zero kind → answer ≡ cycleResult (provisionalOf p) kind
-      → stackOf (h .goals) height new ≡ updateParentGoal (stackOf (h .goals) height old) step (insertHead (noHeads (h .goals)) head (flagOf step) usages) false (CycleOnStack goal) available
+  pub cycle-closed : (goal head : ℕ) (p : Provisional) (kind : PathKind) (answer : Answer) → kind ≡ cyclePathKind (stackOf (h .goals) height old) step head → answer ≡ cycleResult (provisionalOf p) kind
+      → stackOf (h .goals) height new ≡ updateParentGoal (stackOf (h .goals) height old) step (insertHead (noHeads (h .goals)) head (flagOf step) (oneUsage kind)) false (CycleOnStack goal) available
       → (root n : ℕ) (cache : List ℕ) → Done (graphOf (h .goals) root height n new cache) answer ≡ closeCycle h (graphOf (h .goals) root height n old cache) goal step available (record { index = head; provisionalResult = provisionalOf p })
-  cycle-closed goal head p kind zero usages answer is-kind is-zero is-usages is-answer stack root n cache =
-      let u : usages ≡ addUsage noUsages (cyclePathKind (stackOf (h .goals) height old) step head) = is-usages ∙ ap₂ addUsage is-zero is-kind in
+  cycle-closed goal head p kind answer is-kind is-answer stack root n cache =
+      let u : oneUsage kind ≡ addUsage noUsages (cyclePathKind (stackOf (h .goals) height old) step head) = one-first kind ∙ ap (addUsage noUsages) is-kind in
       let a = is-answer ∙ ap (cycleResult (provisionalOf p)) is-kind in
       let s =
       stack

@@ -123,7 +123,7 @@ module _ (h : Header) (root height goal available : ℕ) (step : PathKind) (pass
       let e : reached ≡ available - requiredDepthOf (frameAt (h .goals) height bs) = is-reached ∙ ap (λ (x : ℕ). available - x) is-d in
       let s = updated .stack ∙ ap (updateParentGoal (stackOf (h .goals) height bs) step ((frameAt (h .goals) height bs) .heads) overflow (Ordinary ((frameAt (h .goals) height bs) .nestedGoals))) e in
       let es = updated .entries n in
-      let fs : frameAt (h .goals) height mid ≡ frameAt (h .goals) height bs = ap (frameOf (h .goals)) (updated .frame) in
+      let fs : frameAt (h .goals) height mid ≡ frameAt (h .goals) height bs = ap (frameOf (h .goals)) (updated .above) in
       (λ t. insertResult h (record { rootDepth = root; stack = s t; provisionalCache = es t; globalCache = cache }) goal step (finalize (fs t) overflow answer passes))
       ∙ sym (ap (λ (x : TaskOutcome). afterTask h goal step available (taskOutcomeOf (h .goals) root height passes bs cache x)) is)
 

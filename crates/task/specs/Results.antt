@@ -8,22 +8,20 @@ use Rattle.definition.specs.declared.paths.PathKind.{PathKind}
 use Rattle.definition.specs.declared.answers.Answer.{Answer}
 use Rattle.definition.specs.declared.format.Header.{Header}
 use Rattle.definition.specs.Graph.{finalize}
-use Rattle.definition.specs.Parent.{updateParentGoal, Ordinary}
+use Rattle.definition.specs.Parent.{Ordinary}
 use Rattle.definition.specs.Evaluate.{insertGlobalCache, insertProvisionalCache, insertResult, afterTask}
 use Rattle.layout.specs.Work.{stackOf, entriesOf, graphOf}
 use Rattle.stack.specs.Bytes.{frameBytes, frameAt}
+use Rattle.parent.specs.Updated.{nestedAt, Updated}
 use Rattle.evaluation.specs.declared.Outcome.{Outcome}
 use Rattle.evaluation.specs.declared.Ran.{Ran}
 use Rattle.evaluation.specs.Outcomes.{outcomeOf, taskOutcomeOf, FewEntries}
 
 -- the parent learns what the goal came to; the goal's frame is as before
-pub record ParentUpdated (goals height : ℕ) (step : PathKind) (overflow : Bool) (reached : ℕ) (old new : List ℕ) : Type 0 where
-  pub stack :
-      stackOf goals height new
-      ≡ updateParentGoal (stackOf goals height old) step ((frameAt goals height old) .heads) overflow
-      (Ordinary ((frameAt goals height old) .nestedGoals)) reached
-  pub entries : (n : ℕ) → entriesOf goals n new ≡ entriesOf goals n old
-  pub frame : frameBytes goals height new ≡ frameBytes goals height old
+abbrev pub ParentUpdated : ℕ → ℕ → PathKind → Bool → ℕ → List ℕ → List ℕ → Type 0
+ParentUpdated goals height step overflow reached old new =
+    Updated goals height step ((frameAt goals height old) .heads) overflow (Ordinary (nestedAt goals height old)) reached
+    old new
 
 -- the result goes to the global cache, which becomes `cacheAfter`
 pub record InGlobalCache (h : Header) (height n goal : ℕ) (overflow : Bool) (answer : Answer) (passes : ℕ)

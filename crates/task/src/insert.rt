@@ -14,7 +14,7 @@ ghost use Rattle.task.specs.Places.{Popped, Room};
 ghost use Rattle.task.specs.Results.{InGlobalCache, InProvisionalCache, InCache};
 
 // The nested goals of the frame.
-pub fn nested_at(graph: &[u8], goals: usize, height: usize) -> &[u8]
+fn nested_at(graph: &[u8], goals: usize, height: usize) -> &[u8]
     requires { ⌜ GraphBytes goals (now graph) × (height < goals) ⌝ }
     ensures { λ r. ⌜ now r ≡ (frameAt goals height (now (graph .entry))) .nestedGoals ⌝ }
 {

@@ -17,7 +17,7 @@ ghost use Rattle.definition.specs.declared.endings.Ending.the-variants as endin
 ghost use Rattle.stack.specs.Bytes.{GraphBytes, StackBytes};
 ghost use Rattle.task.specs.Places.{IterationEnded, TaskEnded};
 ghost use Rattle.task.specs.Iterations.{FramePopped, Followed, TurnTaken};
-ghost use Rattle.task.specs.Results.{ParentUpdated, Finished};
+ghost use Rattle.task.specs.Results.{Finished};
 
 mod ending;
 mod insert;

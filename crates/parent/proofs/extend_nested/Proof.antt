@@ -35,6 +35,7 @@ extend-within-requires c κs =
     let nested = c .before .before .nested-start .ensures in
     let size = c .before .frame-size .ensures in
     (omega arith, nested-fits (a .goals) (a .graph .now) (a .own) (c .before .before .before .frame-start .result) (c .before .before .nested-start .result) (c .before .frame-size .result) (s .pre .0) (s .pre .1) start nested size)
+
 same-length : tie.Need-same-length
 same-length c = search needs
 
@@ -49,6 +50,7 @@ returns c =
     (c .before .before .before .before .before .before .frame-start .result + c .before .before .before .before .before .nested-start .result) (c .before .before .before .before .before .before .frame-start .result + c .before .before .before .before .before .nested-start .result + c .before .before .before .before .frame-size .result)
     (ap₂ _+_ start nested) (nested-next (a .goals) (a .graph .now) (a .own) (c .before .before .before .before .before .before .frame-start .result) (c .before .before .before .before .before .nested-start .result) (c .before .before .before .before .frame-size .result) (s .pre .0) (s .pre .1) start nested size)
     (c .before .before .extend-within .ensures)
+
 pub extend-nested-spec : {M : Type 1} → statement M
 extend-nested-spec =
     tie.close

@@ -14,6 +14,7 @@ use Rattle.parent.proofs.count_head.Reads as count-head-reads
 
 returns : tie.Need-returns
 returns c = let a = c .before .before .args in update.update-none (a .goals) (a .height) (a .graph .now) (a .step) (insertHead (noHeads (a .goals)) (a .head) (flagOf (a .step)) (oneUsage (a .kind))) false (CycleOnStack (a .goal)) (a .reached) (c .if1 .taken)
+
 sub-count-head : tie.Need-sub-count-head
 sub-count-head c = search needs
 
@@ -31,6 +32,7 @@ same-length c = search needs
 
 returns-2 : tie.Need-returns-2
 returns-2 c = let s = c .before .before .before .before .before .before .before .before .before .before in let a = s .args in let y = c .before .before .before .before .before .before .count-head in let z = c .before .before .add-cycle in update.update-cycle (a .goals) (a .height) (a .head) (a .goal) (a .graph .now) (y .last .0) (z .last .0) (a .step) (oneUsage (a .kind)) (a .reached) (s .pre .1 .1) (s .pre .1 .0) (y .ensures) (z .ensures)
+
 pub update-from-cycle-spec : {M : Type 1} → statement M
 update-from-cycle-spec =
     tie.close

@@ -21,22 +21,31 @@ use Rattle.parent.proofs.extend_nested.Reads as extend-nested-reads
 
 returns : tie.Need-returns
 returns c = let a = c .before .before .args in update.update-none (a .goals) (a .height) (a .graph .now) (a .step) ((frameAt (a .goals) (a .height) (a .graph .now)) .heads) (a .overflow) (Ordinary (nestedAt (a .goals) (a .height) (a .graph .now))) (a .reached) (c .if1 .taken)
+
 frame-start-requires : tie.Need-frame-start-requires
 frame-start-requires c κs = let s = c .before .before in (s .pre .0 .few, omega (arith, s .pre .0 .few))
+
 add-start : tie.Need-add-start
 add-start c = omega (arith, c .frame-start .ensures .1)
+
 sub-add-heads : tie.Need-sub-add-heads
 sub-add-heads c = omega arith
+
 add-heads-requires : tie.Need-add-heads-requires
 add-heads-requires c κs = let s = c .before .before .before .before in let a = s .args in let e = ap (λ (x : ℕ). x + 40) (c .before .frame-start .ensures .0) in (s .pre .0, (omega arith, (update.frame-behind (a .goals) (a .height) (c .before .frame-start .result + 40) (omega arith) e, update.frame-fits (a .goals) (a .graph .now) (a .height) (c .before .frame-start .result + 40) (s .pre .0 .long) (s .pre .1) e)))
+
 sub-extend-nested : tie.Need-sub-extend-nested
 sub-extend-nested c = omega arith
+
 extend-nested-requires : tie.Need-extend-nested-requires
 extend-nested-requires c κs = let s = c .before .before .before .before .before .before .before .before in let lt = s .pre .1 in (record { some = s .pre .0 .some; few = s .pre .0 .few; long = c .before .before .before .add-heads .kept .0 ∙ s .pre .0 .long }, omega arith)
+
 sub-add-evaluated : tie.Need-sub-add-evaluated
 sub-add-evaluated c = omega arith
+
 add-evaluated-requires : tie.Need-add-evaluated-requires
 add-evaluated-requires c κs = let s = c .before .before .before .before .before .before .before .before .before .before .before .before in let lt = s .pre .1 in (record { some = s .pre .0 .some; few = s .pre .0 .few; long = c .before .before .before .extend-nested .kept .0 ∙ c .before .before .before .before .before .before .before .add-heads .kept .0 ∙ s .pre .0 .long }, omega arith)
+
 same-length : tie.Need-same-length
 same-length c = search needs
 
@@ -54,6 +63,7 @@ returns-2 c =
     (ap (λ (n : ℕ). n + 40) (c .before .before .before .before .before .before .before .before .before .before .before .before .frame-start .ensures .0)) (y .ensures)
     (subst (λ (l : NestedGoals). TopWritten (a .goals) own (addRest (a .step) (a .overflow) (Ordinary l) (a .reached) (frameAt (a .goals) own mid)) mid (z .last .0)) e
     (joined-rest (a .goals) own (a .step) (a .overflow) (x .result) (a .reached) mid (x .last .0) (z .last .0) (nestedAt (a .goals) (own + 1) mid) (x .ensures .frame) (x .ensures .empty) (z .ensures)))
+
 pub update-from-frame-spec : {M : Type 1} → statement M
 update-from-frame-spec =
     tie.close

@@ -27,6 +27,7 @@ add-b c = search needs
 
 copy-requires : tie.Need-copy-requires
 copy-requires c κs = let s = c .before .before .before .before in copy-apart (s .args .goals) (s .args .height) (s .args .i) (c .before .before .frame-start .result + 40) (c .before .entry-start .result + entryHeadsStart) (s .args .graph .now) (s .pre .0) (s .pre .1 .0) (s .pre .1 .1) (ap (λ (x : ℕ). x + 40) (c .before .before .frame-start .ensures .0)) (ap (λ (x : ℕ). x + entryHeadsStart) (c .before .entry-start .ensures .0))
+
 same-length : tie.Need-same-length
 same-length c = search needs
 
@@ -35,6 +36,7 @@ returns c =
     let s = c .before .before .before .before .before .before .before in
     subst (λ (a : ℕ). HeadsCopied (s .args .goals) a (entryStart (s .args .goals) (s .args .i) + entryHeadsStart) (s .args .graph .now) (c .before .before .copy .last .0)) (ap (λ (x : ℕ). x + 40) (c .before .before .before .before .before .frame-start .ensures .0))
     (subst (λ (b : ℕ). HeadsCopied (s .args .goals) (c .before .before .before .before .before .frame-start .result + 40) b (s .args .graph .now) (c .before .before .copy .last .0)) (ap (λ (x : ℕ). x + entryHeadsStart) (c .before .before .before .before .entry-start .ensures .0)) (c .before .before .copy .ensures))
+
 pub copy-heads-spec : {M : Type 1} → statement M
 copy-heads-spec =
     tie.close

@@ -26,8 +26,8 @@ required-depth-requires c κs =
 minus-requires : tie.Need-minus-requires
 minus-requires c κs = search needs
 
-update-parent-requires : tie.Need-update-parent-requires
-update-parent-requires c κs = search needs
+update-from-frame-requires : tie.Need-update-from-frame-requires
+update-from-frame-requires c κs = search needs
 
 result-requires : tie.Need-result-requires
 result-requires c κs =
@@ -35,7 +35,7 @@ result-requires c κs =
     let s = c11 .before .before .before .before in
     let a = s .args in
     let o = c11 .o2 .given in
-    let y = c4 .update-parent in (
+    let y = c4 .update-from-frame in (
       record {
         room =
             record {
@@ -75,7 +75,7 @@ returns-2 c =
     let c20 = c16 .before .before .before .before in
     let a = c20 .args in
     let o = c16 .o2 .given in
-    let y = c9 .update-parent in
+    let y = c9 .update-from-frame in
     let d = c12 .required-depth in
     let z = c4 .result in
     let frame-at = c13 .frame-at in
@@ -99,7 +99,7 @@ finish-spec =
     frame-at-requires
     required-depth-requires
     minus-requires
-    update-parent-requires
+    update-from-frame-requires
     result-requires
     returns
     same-length

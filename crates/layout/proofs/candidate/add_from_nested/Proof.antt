@@ -70,6 +70,7 @@ returns c =
     (c .before .before .before .before .before .before .start .ensures .1) (c .before .before .before .before .before .before .start .ensures .0)
     (take at bs ++ (ys ++ drop (at + 32 - at) (drop at bs))) (overwrite-part bs at (at + 32) ys (whole ∙ sym e))
     (c .before .before .count-nested .ensures ∙ ap (λ (l : List ℕ). addUsagesFromNested (usagesOf l) (s .args .u)) here)
+
 pub add-from-nested-spec : {M : Type 1} → statement M
 add-from-nested-spec =
     tie.close

@@ -70,6 +70,7 @@ returns c =
     (c .before .before .before .before .before .before .start .ensures .1) (c .before .before .before .before .before .before .start .ensures .0)
     (take at bs ++ (ys ++ drop (at + 32 - at) (drop at bs))) (overwrite-part bs at (at + 32) ys (whole ∙ sym e))
     (c .before .before .count-usage .ensures ∙ ap (λ (l : List ℕ). addUsage (usagesOf l) (s .args .kind)) here ∙ sym (one-more (usagesOf (region at 32 bs)) (s .args .kind)))
+
 pub count-spec : {M : Type 1} → statement M
 count-spec =
     tie.close

@@ -56,15 +56,14 @@ returns c =
     let ys : List ℕ = c .before .before .before .before .before .before .before .before .before .write-usages .last .0 in
     let room : a + 32 ≤ length (s .args .b .now) = omega (arith, s .pre .0 .long) in
     let e : a + 32 - a ≡ 32 = omega arith in
-    let whole : length ys ≡ 32 = c .before .before .before .before .before .before .before .before .before .write-usages .kept .0 ∙ ap (λ (n : ℕ). length (region a n (s .args .b .now))) e ∙ length-region a 32 (s .args .b .now) room in
-    (
+    let whole : length ys ≡ 32 = c .before .before .before .before .before .before .before .before .before .write-usages .kept .0 ∙ ap (λ (n : ℕ). length (region a n (s .args .b .now))) e ∙ length-region a 32 (s .args .b .now) room in (
       block-written usagesOf noUsages 32 (s .args .b .now) (s .args .goals) (s .args .i) ys (c .before .before .before .with .result) (s .pre .0 .few) (s .pre .1) room whole (small c)
-      (take a (s .args .b .now) ++ (ys ++ drop (a + 32 - a) (drop a (s .args .b .now)))) (c .before .before .write-u64 .last .0) (c .before .before .before .before .before .read-u64 .result)
-      (overwrite-part (s .args .b .now) a (a + 32) ys (whole ∙ sym e)) (c .before .before .before .before .before .read-u64 .ensures) (c .before .before .before .with .ensures) (c .before .before .write-u64 .ensures)
-      ∙ ap (set (candidateOf (s .args .goals) (s .args .b .now)) (s .args .i)) (c .before .before .before .before .before .before .before .before .before .write-usages .ensures),
+          (take a (s .args .b .now) ++ (ys ++ drop (a + 32 - a) (drop a (s .args .b .now)))) (c .before .before .write-u64 .last .0) (c .before .before .before .before .before .read-u64 .result)
+          (overwrite-part (s .args .b .now) a (a + 32) ys (whole ∙ sym e)) (c .before .before .before .before .before .read-u64 .ensures) (c .before .before .before .with .ensures) (c .before .before .write-u64 .ensures)
+          ∙ ap (set (candidateOf (s .args .goals) (s .args .b .now)) (s .args .i)) (c .before .before .before .before .before .before .before .before .before .write-usages .ensures),
       flag-set-by usagesOf noUsages 32 (s .args .b .now) (s .args .goals) (s .args .i) ys (c .before .before .before .with .result) (s .pre .0 .few) (s .pre .1) room whole (small c)
-      (take a (s .args .b .now) ++ (ys ++ drop (a + 32 - a) (drop a (s .args .b .now)))) (c .before .before .write-u64 .last .0) (c .before .before .before .before .before .read-u64 .result)
-      (overwrite-part (s .args .b .now) a (a + 32) ys (whole ∙ sym e)) (c .before .before .before .before .before .read-u64 .ensures) (c .before .before .before .with .ensures) (c .before .before .write-u64 .ensures)
+          (take a (s .args .b .now) ++ (ys ++ drop (a + 32 - a) (drop a (s .args .b .now)))) (c .before .before .write-u64 .last .0) (c .before .before .before .before .before .read-u64 .result)
+          (overwrite-part (s .args .b .now) a (a + 32) ys (whole ∙ sym e)) (c .before .before .before .before .before .read-u64 .ensures) (c .before .before .before .with .ensures) (c .before .before .write-u64 .ensures),
     )
 
 pub put-spec : {M : Type 1} → statement M

@@ -43,6 +43,7 @@ flag-is c = ap (λ (n : ℕ). getD (flags 64 n) (c .before .before .before .befo
 
 returns : tie.Need-returns
 returns c = (refl, flag-is c)
+
 none-requires : tie.Need-none-requires
 none-requires c κs = search needs
 
@@ -63,11 +64,11 @@ no-usages c =
 returns-2 : tie.Need-returns-2
 returns-2 c =
     let s = c .before .before .before .before .before .before .before .before .before .before in
-    let us : List HeadUsages = candidateOf (s .args .goals) (s .args .b .now) in
-    (
+    let us : List HeadUsages = candidateOf (s .args .goals) (s .args .b .now) in (
       c .before .before .put .ensures .0 ∙ ap (set us (s .args .i)) (c .before .before .before .none .ensures ∙ sym (no-usages c)) ∙ set-getD us (s .args .i) noUsages,
-      c .before .before .put .ensures .1
+      c .before .before .put .ensures .1,
     )
+
 pub start-spec : {M : Type 1} → statement M
 start-spec =
     tie.close

@@ -74,6 +74,7 @@ returns c =
     record-copied bs from to ys whole room
     (take to bs ++ (ys ++ drop (to + 33 - to) (drop to bs))) (overwrite-part bs to (to + 33) ys (whole ∙ sym e))
     (c .before .before .write-head .ensures ∙ c .before .before .before .before .read-head .ensures ∙ ap (λ (n : ℕ). headOf (region from n bs)) f)
+
 pub copy-record-spec : {M : Type 1} → statement M
 copy-record-spec =
     tie.close

@@ -69,6 +69,7 @@ returns c =
     (sym (c .before .before .before .before .before .has .ensures) ∙ c .before .before .before .before .if1 .taken)
     (take at bs ++ (ys ++ drop (at + 33 - at) (drop at bs))) (overwrite-part bs at (at + 33) ys (whole ∙ sym e))
     (c .before .before .join-head .ensures ∙ ap (λ (l : List ℕ). joinHead (some (headOf l)) (s .args .paths) (s .args .usages)) here)
+
 put-requires : tie.Need-put-requires
 put-requires c κs = search needs
 
@@ -80,6 +81,7 @@ returns-2 c =
     let s = c .before .before .before .before .before .before .before .before in
     c .before .before .put .ensures
     ∙ insert-unknown (s .args .goals) (s .args .b .now) (s .args .i) (s .pre .1) (s .args .paths) (s .args .usages) (sym (c .before .before .before .before .before .has .ensures) ∙ c .before .before .before .before .if1 .left)
+
 pub insert-spec : {M : Type 1} → statement M
 insert-spec =
     tie.close

@@ -70,6 +70,7 @@ returns c =
     (sym (c .before .before .before .before .before .has .ensures) ∙ c .before .before .before .before .if1 .taken)
     (take at bs ++ (ys ++ drop (at + 33 - at) (drop at bs))) (overwrite-part bs at (at + 33) ys (whole ∙ sym e))
     (c .before .before .count-head .ensures ∙ ap (λ (l : List ℕ). joinHead (some (headOf l)) (s .args .paths) (oneUsage (s .args .kind))) here)
+
 one-requires : tie.Need-one-requires
 one-requires c κs = search needs
 
@@ -85,6 +86,7 @@ returns-2 c =
     c .before .before .put .ensures
     ∙ ap (λ (u : HeadUsages). set (headsOf (s .args .goals) (s .args .b .now)) (s .args .i) (some (record { paths = s .args .paths; usages = u }))) (c .before .before .before .before .one .ensures)
     ∙ insert-unknown (s .args .goals) (s .args .b .now) (s .args .i) (s .pre .1) (s .args .paths) (oneUsage (s .args .kind)) (sym (c .before .before .before .before .before .before .has .ensures) ∙ c .before .before .before .before .before .if1 .left)
+
 pub insert-used-spec : {M : Type 1} → statement M
 insert-used-spec =
     tie.close

@@ -49,6 +49,7 @@ returns c =
     ap (λ (l : List ℕ). headOf (set l 0 (bitOr (getD l 0 0) p))) (overwrite-part bs 1 33 ys whole)
     ∙ head-joined bs ys p (bitOr (getD (overwrite bs 1 ys) 0 0) p) (oneUsage (s .args .kind)) (s .pre) whole (c .before .before .before .count-usage .ensures ∙ sym (one-more (usagesOf (region 1 32 bs)) (s .args .kind)))
     (ap (λ (x : ℕ). bitOr x p) (byte-before bs 1 ys (omega (arith, s .pre, whole)) 0 (omega arith)))
+
 pub count-head-spec : {M : Type 1} → statement M
 count-head-spec =
     tie.close

@@ -39,6 +39,7 @@ returns c =
     kinds-counted (usagesOf (s .args .b .now)) (s .args .nested) (usagesOf (c .before .before .before .before .before .before .before .before .before .before .before .before .before .before .count-if .last .0)) (usagesOf (c .before .before .before .before .before .before .before .before .before .before .count-if2 .last .0))
     (usagesOf (c .before .before .before .before .before .before .count-if3 .last .0)) (usagesOf (c .before .before .count-if4 .last .0))
     (c .before .before .before .before .before .before .before .before .before .before .before .before .before .before .count-if .ensures) (c .before .before .before .before .before .before .before .before .before .before .count-if2 .ensures) (c .before .before .before .before .before .before .count-if3 .ensures) (c .before .before .count-if4 .ensures)
+
 pub count-nested-spec : {M : Type 1} → statement M
 count-nested-spec =
     tie.close

@@ -38,6 +38,7 @@ read-u64-requires c κs =
     let w = c .before .wide .ensures .0 in
     let p = c .before .before .before .before .pre in
     omega arith
+
 count-one-requires : tie.Need-count-one-requires
 count-one-requires c κs = search needs
 
@@ -48,6 +49,7 @@ write-u64-requires c κs =
     let w = c .before .before .before .before .wide .ensures .0 in
     let p = c .before .before .before .before .before .before .before .pre in
     omega arith
+
 same-length : tie.Need-same-length
 same-length c = search needs
 
@@ -64,6 +66,7 @@ returns c =
     ap usagesOf (c .before .before .write-u64 .ensures ∙ ap (λ (x : ℕ). overwrite bs x (bytesOf 8 n)) at)
     ∙ counter-written bs (s .pre) n (small c) k
     (c .before .before .before .count-one .ensures ∙ ap (λ (x : ℕ). addCounter x 1) (c .before .before .before .before .before .read-u64 .ensures ∙ ap (λ (x : ℕ). numberOf (region x 8 bs)) at))
+
 pub count-usage-spec : {M : Type 1} → statement M
 count-usage-spec =
     tie.close

@@ -49,6 +49,7 @@ returns c =
     ap (λ (l : List ℕ). headOf (set l 0 (bitOr (getD l 0 0) p))) (overwrite-part bs 1 33 ys whole)
     ∙ head-joined bs ys p (bitOr (getD (overwrite bs 1 ys) 0 0) p) (s .args .nested) (s .pre) whole (c .before .before .before .count-nested .ensures)
     (ap (λ (x : ℕ). bitOr x p) (byte-before bs 1 ys (omega (arith, s .pre, whole)) 0 (omega arith)))
+
 pub join-head-spec : {M : Type 1} → statement M
 join-head-spec =
     tie.close

@@ -27,6 +27,7 @@ same-length c = search needs
 
 returns : tie.Need-returns
 returns c = let s = c .before .before .before .before in frames.head-already (s .args .goals) (s .args .frame .now) (c .before .is-head .result) (c .before .is-head .ensures) (c .if1 .taken)
+
 sub-write-usages : tie.Need-sub-write-usages
 sub-write-usages c = search needs
 
@@ -50,6 +51,7 @@ same-length-2 c = search needs
 
 returns-2 : tie.Need-returns-2
 returns-2 c = let s = c .before .before .before .before .before .before .before .before .before in let y = c .before .before .write-usages in frames.head-new (s .args .goals) (s .args .frame .now) (y .last .0) (c .before .before .before .before .before .before .is-head .result) (c .before .before .before .none .result) (s .pre .long) (c .before .before .before .before .before .before .is-head .ensures) (c .before .before .before .before .before .if1 .left) (c .before .before .before .none .ensures) (y .kept .0) (y .ensures)
+
 pub become-head-spec : {M : Type 1} → statement M
 become-head-spec =
     tie.close

@@ -42,6 +42,7 @@ returns c =
     let b = c .before .before .before .before .before .before .become-head in
     let y = c .before .before .count-usage in
     frames.use-frame (s .args .goals) (s .args .frame .now) (b .last .0) (y .last .0) (oneUsage (s .args .kind)) (b .kept .0 ∙ s .pre .long) (b .ensures) (y .kept .0) (y .ensures ∙ sym (one-more (usagesOf (part (b .last .0) 8 40)) (s .args .kind)))
+
 pub count-itself-spec : {M : Type 1} → statement M
 count-itself-spec =
     tie.close

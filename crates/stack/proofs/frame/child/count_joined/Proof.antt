@@ -42,6 +42,7 @@ same-length c = search needs
 
 returns : tie.Need-returns
 returns c = let s = c .before .before .before .before .before .before .before in let y = c .before .before .insert-used in frames.join-frame (s .args .goals) (s .args .frame .now) (y .last .0) (c .before .before .before .before .before .candidate-start .result) (s .args .i) (c .before .before .before .flag .result) (s .args .step) (cycleHead (s .args .step) (s .args .kind)) (s .pre .0 .long) (c .before .before .before .before .before .candidate-start .ensures) (c .before .before .before .flag .ensures ∙ frames.flag-extended (s .args .step)) (y .kept .0) (y .ensures)
+
 pub count-joined-spec : {M : Type 1} → statement M
 count-joined-spec =
     tie.close

@@ -28,6 +28,7 @@ same-length c = search needs
 
 returns : tie.Need-returns
 returns c = let s = c .before .before .before .before in frames.track-none (frameOf (s .args .goals) (s .args .frame .now)) (s .args .i) (oneUsage (s .args .kind)) (c .before .tracks .result) (c .before .tracks .ensures) (not-true (c .before .tracks .result) (c .if1 .taken))
+
 candidate-start-requires : tie.Need-candidate-start-requires
 candidate-start-requires c κs = search needs
 
@@ -51,6 +52,7 @@ same-length-2 c = search needs
 
 returns-2 : tie.Need-returns-2
 returns-2 c = let s = c .before .before .before .before .before .before .before .before .before .before in let y = c .before .before .count in frames.track-frame (s .args .goals) (s .args .frame .now) (y .last .0) (c .before .before .before .before .before .candidate-start .result) (c .before .before .before .before .nested-start .result) (s .args .i) (oneUsage (s .args .kind)) (s .pre .0 .long) (c .before .before .before .before .before .candidate-start .ensures) (c .before .before .before .before .nested-start .ensures) (y .kept .0) (y .ensures)
+
 pub count-tracked-spec : {M : Type 1} → statement M
 count-tracked-spec =
     tie.close

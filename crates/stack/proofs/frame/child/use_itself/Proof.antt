@@ -42,6 +42,7 @@ returns c =
     let b = c .before .before .before .before .before .before .become-head in
     let y = c .before .before .count-nested in
     frames.use-frame (s .args .goals) (s .args .frame .now) (b .last .0) (y .last .0) (s .args .usages) (b .kept .0 ∙ s .pre .long) (b .ensures) (y .kept .0) (y .ensures)
+
 pub use-itself-spec : {M : Type 1} → statement M
 use-itself-spec =
     tie.close
