@@ -298,7 +298,17 @@ pub fn lookup(
 {
     let depth = stack::allowed_depth_for_nested(graph, h.goals, h.divisor, root, height, lower);
     if let Depth::Allowed(available) = depth {
-        return lookup_at_depth(cache, graph, places, h, height, entries, goal, step, available);
+        return lookup_at_depth(
+            cache,
+            graph,
+            places,
+            h,
+            height,
+            entries,
+            goal,
+            step,
+            available,
+        );
     }
     stack::mark_top_overflow(graph, h.goals, height);
     Found::Known(Answer::Overflow)

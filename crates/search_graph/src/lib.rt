@@ -43,7 +43,18 @@ pub fn evaluate(
         (goalFrom (now (book .entry)) h root height entries (now (work .entry)) (now (cache .entry)) goal step lower)
         (now (work .entry)) (now (work .exit)) (now (cache .exit)) (now (places .exit)) r ⌝ }
 {
-    let found = between::look_up(cache, work, places, h, root, height, entries, goal, step, lower);
+    let found = between::look_up(
+        cache,
+        work,
+        places,
+        h,
+        root,
+        height,
+        entries,
+        goal,
+        step,
+        lower,
+    );
     match found {
         Found::Known(answer) => Outcome::Done(answer, entries),
         Found::Push(available) => {
@@ -99,7 +110,19 @@ fn rerun(
     let mut overflow = false;
     let mut kept = entries;
     loop {
-        let o = read_part(book, starts, places, p, cache, work, h, root, height, kept, false);
+        let o = read_part(
+            book,
+            starts,
+            places,
+            p,
+            cache,
+            work,
+            h,
+            root,
+            height,
+            kept,
+            false,
+        );
         let next = between::end_iteration(o, work, h.goals, height, more, overflow);
         match next {
             Iteration::End(t) => {
@@ -217,10 +240,10 @@ fn read_part(
             let mut k = part::count(p);
             while 0 < k {
                 pick::enter_candidate(work, h.goals, height);
-                let below = part::code(t);
-                let o = if let Code::Call = below {
-                    let call = Call::first(t);
-                    let step = call.step;
+                let candidate = part::code(t);
+                let o = if let Code::Call = candidate {
+                    let asked = Call::first(t);
+                    let step = asked.step;
                     evaluate(
                         book,
                         starts,
@@ -231,9 +254,9 @@ fn read_part(
                         root,
                         height,
                         pick.entries,
-                        call.goal,
+                        asked.goal,
                         step,
-                        call.lower,
+                        asked.lower,
                     )
                 } else {
                     read_part(

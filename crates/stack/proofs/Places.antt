@@ -30,9 +30,9 @@ module _ (goals : ℕ) (bs places : List ℕ) (goal i : ℕ) (is : i ≡ getD pl
   choice n t =
       elim t [
         | true ↦ some (record {
-            index = length (stackOf goals n bs);
-            provisionalResult = (frameAt goals n bs) .provisionalResult;
-          })
+          index = length (stackOf goals n bs);
+          provisionalResult = (frameAt goals n bs) .provisionalResult;
+        })
         | false ↦ stackFind (stackOf goals n bs) goal
       ]
 

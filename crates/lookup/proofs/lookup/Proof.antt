@@ -15,8 +15,7 @@ lookup-at-depth-requires : tie.Need-lookup-at-depth-requires
 lookup-at-depth-requires c κs =
     let pre = c .before .before .before .before .before .before .before .before .pre in let q = pre .0 in
     let p = c .before .before .depth in
-    let allowed-depth-for-nested = c .before .before .before .before .allowed-depth-for-nested in
-    (
+    let allowed-depth-for-nested = c .before .before .before .before .allowed-depth-for-nested in (
       record {
         graph = q .graph;
         cache = q .cache;
