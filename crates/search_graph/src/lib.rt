@@ -22,7 +22,8 @@ ghost use Prim.Native.Nat.{_-_, _≤_, _<_};
 ghost use Rattle.book.specs.Parts.{Reads};
 ghost use Rattle.search_graph.specs.Calls.{Running, Comes, goalFrom, TaskComes, taskFrom, partFrom, keptBelow};
 
-// evaluate_goal, with `height` frames on the stack and `entries` provisional entries.
+// evaluate_goal, with `height` frames on the stack and `entries` provisional entries. The place
+// of a goal that is on the stack is its frame's index; other places mean nothing.
 pub fn evaluate(
     book: &[u8],
     starts: &[u16],
