@@ -1,4 +1,5 @@
--- The counts of steps are true after push, pop and rerun, and wherever the skeleton is one whose counts are true.
+-- The counts of steps are true after push, pop and rerun, and wherever the skeleton is one whose counts are true: so
+-- after every evaluation.
 use Prim.Native.Nat.{ℕ}
 use mathlib.Core.Path.{_≡_, refl, sym, ap, _∙_, subst}
 use mathlib.Core.Bool.{Bool}
@@ -9,9 +10,11 @@ use Rattle.definition.specs.Heads.{CycleHeads}
 use Rattle.definition.specs.Steps.{countSteps}
 use Rattle.definition.specs.Stack.{Frame, Stack, stepKinds, CountsTrue}
 use Rattle.definition.specs.Parent.{UpdateParentGoalCtxt, updateParentGoal}
+use Rattle.definition.specs.Part.{Book}
+use Rattle.definition.specs.Graph.{Graph, Outcome, Done, Stopped}
 use Rattle.definition.specs.Task.{rerunFrame}
-use Rattle.definition.specs.Evaluate.{newFrame}
-use Rattle.definition.proofs.Skeleton.{skeleton}
+use Rattle.definition.specs.Evaluate.{newFrame, evaluateGoal}
+use Rattle.definition.proofs.Skeleton.{skeleton, Kept, skeleton-kept}
 
 pub push-counted : (s : Stack) (goals input : ℕ) (step : PathKind) (available : ℕ)
     → CountsTrue s → CountsTrue (newFrame goals input step available s ∷ s)
@@ -45,3 +48,17 @@ skeleton-counted (f ∷ fs) c = (c .0 ∙ ap countSteps (same-kinds (f ∷ fs)),
 -- so they are true of every stack with a skeleton of which they are true
 pub same-counted : (old new : Stack) → skeleton new ≡ skeleton old → CountsTrue old → CountsTrue new
 same-counted old new e c = skeleton-counted new (subst CountsTrue (sym e) (counted-skeleton old c))
+
+-- every evaluation keeps the counts true: the graph that is left, if one is, has true counts
+abbrev Counted : Outcome → Type 0
+Counted (Done g a) = CountsTrue (g .stack)
+Counted (Stopped r) = Unit {0}
+
+pub counts-kept : (b : Book) (off : ℕ) (g : Graph) (goal : ℕ) (step : PathKind) (lower : Bool) → CountsTrue (g .stack)
+    → Counted (evaluateGoal b off g goal step lower)
+counts-kept b off g goal step lower c =
+    by (evaluateGoal b off g goal step lower) (skeleton-kept b off (skeleton (g .stack)) g goal step lower refl)
+  where
+    by : (o : Outcome) → Kept (skeleton (g .stack)) o → Counted o
+    by (Done g1 a) e = same-counted (g .stack) (g1 .stack) e c
+    by (Stopped r) e = tt

@@ -22,7 +22,8 @@ ghost use Prim.Native.Nat.{_-_, _≤_, _<_};
 ghost use Rattle.book.specs.Parts.{Reads};
 ghost use Rattle.search_graph.specs.Calls.{Running, Comes, goalFrom, TaskComes, taskFrom, partFrom, keptBelow};
 
-// evaluate_goal, with `height` frames on the stack and `entries` provisional entries.
+// evaluate_goal, with `height` frames on the stack and `entries` provisional entries. The place
+// of a goal that is on the stack is its frame's index; other places mean nothing.
 pub fn evaluate(
     book: &[u8],
     starts: &[u16],
@@ -240,10 +241,10 @@ fn read_part(
             let mut k = part::count(p);
             while 0 < k {
                 pick::enter_candidate(work, h.goals, height);
-                let below = part::code(t);
-                let o = if let Code::Call = below {
-                    let call = Call::first(t);
-                    let step = call.step;
+                let candidate = part::code(t);
+                let o = if let Code::Call = candidate {
+                    let asked = Call::first(t);
+                    let step = asked.step;
                     evaluate(
                         book,
                         starts,
@@ -254,9 +255,9 @@ fn read_part(
                         root,
                         height,
                         pick.entries,
-                        call.goal,
+                        asked.goal,
                         step,
-                        call.lower,
+                        asked.lower,
                     )
                 } else {
                     read_part(

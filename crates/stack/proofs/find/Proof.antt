@@ -1,10 +1,9 @@
-use mathlib.Core.Path.{_≡_, sym, ap, _∙_}
+use mathlib.Core.Path.{sym, ap, _∙_}
 use mathlib.Core.Option.{Option, some}
 use native.Mathlib.Omega.{arith}
 use Prim.Native.Nat.{ℕ}
 use borrow.Author.Needs.{needs}
 use Rattle.definition.specs.declared.answers.Answer.{Answer}
-use Rattle.definition.specs.Stack.{OnStack}
 use Rattle.stack.proofs.Graph.{frame-bytes}
 use Rattle.stack.proofs.Loops.{read-at}
 use Rattle.stack.proofs.Places.{found-nowhere, found-at, at-below, nowhere-below}
