@@ -67,7 +67,8 @@ fn start(b: &mut [u8], goals: usize, i: usize)
     ensures { λ _. ⌜ (candidateOf goals (now (b .exit)) ≡ candidateOf goals (now (b .entry)))
         × (flagAt (now (b .exit)) i ≡ true) ⌝ }
 {
-    if bits::has(buffer::read_u64(b, 0), i) {
+    let known = bits::has(buffer::read_u64(b, 0), i);
+    if known {
         return;
     }
     put(b, goals, i, HeadUsages::none());

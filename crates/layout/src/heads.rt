@@ -96,7 +96,8 @@ pub fn insert_used(b: &mut [u8], goals: usize, i: usize, paths: u8, kind: PathKi
         return;
     }
     let usages = HeadUsages::one(kind);
-    put(b, goals, i, CycleHead { paths, usages });
+    let head = CycleHead { paths, usages };
+    put(b, goals, i, head);
 }
 
 // How the head of index i is used; not at all where there is none.

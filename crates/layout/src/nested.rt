@@ -34,17 +34,17 @@ pub fn extend_from_child(nested: &mut [u8], step: PathKind, child: &[u8])
     }
 }
 
-// The same in one buffer: the n goals from `to` on, with those of a child from `from` on. Whether
+// The same in one buffer: the goals from `to` on, with those of a child from `from` on. Whether
 // the child has none.
-pub fn extend_within(s: &mut [u8], to: usize, from: usize, n: usize, step: PathKind) -> bool
-    requires { ⌜ (to + n ≤ from) × (from + n ≤ length (now s)) ⌝ }
-    ensures { λ r. ⌜ Extended to from n step (now (s .entry)) (now (s .exit)) r ⌝ }
+pub fn extend_within(s: &mut [u8], to: usize, from: usize, goals: usize, step: PathKind) -> bool
+    requires { ⌜ (to + goals ≤ from) × (from + goals ≤ length (now s)) ⌝ }
+    ensures { λ r. ⌜ Extended to from goals step (now (s .entry)) (now (s .exit)) r ⌝ }
 {
     let weaker = step.weaker_flags();
     let flag = step.flag();
     let mut all: u8 = 0;
     let mut i: usize = 0;
-    while i < n {
+    while i < goals {
         let paths = s[from + i];
         let through = paths::replace_weaker(paths, weaker, flag);
         s[to + i] = s[to + i] | through;

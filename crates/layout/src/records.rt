@@ -102,5 +102,6 @@ pub fn count_head(b: &mut [u8], paths: u8, kind: PathKind)
     ensures { λ _. ⌜ headOf (now (b .exit)) ≡ joinHead (some (headOf (now (b .entry)))) paths (oneUsage kind) ⌝ }
 {
     count_usage(&mut b[1..33], kind);
-    b[0] = b[0] | paths;
+    let before = b[0];
+    b[0] = before | paths;
 }

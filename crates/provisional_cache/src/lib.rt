@@ -106,13 +106,13 @@ fn next_of(graph: &[u8], goals: usize, entries: usize, goal: usize, from: usize)
     requires { ⌜ GraphBytes goals (now graph) × ((entries ≤ 2 * goals) × (from ≤ entries)) ⌝ }
     ensures { λ r. ⌜ NextOf goals entries goal from (now (graph .entry)) r ⌝ }
 {
-    let mut i = from;
-    while i < entries {
-        let entry = entry_at(graph, goals, i);
+    let mut k = from;
+    while k < entries {
+        let entry = entry_at(graph, goals, k);
         if entry::input(entry, goals) == goal {
-            return i;
+            return k;
         }
-        i = i + 1;
+        k = k + 1;
     }
     entries
 }

@@ -144,25 +144,25 @@ fn count_itself(frame: &mut [u8], goals: usize, kind: PathKind)
     );
 }
 
-// A goal on the stack, at index i, by a cycle of a kind.
+// A goal on the stack, at index `head`, by a cycle of a kind.
 pub fn count_head(
     frame: &mut [u8],
     goals: usize,
     own: usize,
     step: PathKind,
-    i: usize,
+    head: usize,
     kind: PathKind,
 )
-    requires { ⌜ FrameBytes goals (now frame) × (i < goals) ⌝ }
-    ensures { λ _. ⌜ FrameChanged goals (addHeadAt step own i (cycleHead step kind)) (now (frame .entry))
+    requires { ⌜ FrameBytes goals (now frame) × (head < goals) ⌝ }
+    ensures { λ _. ⌜ FrameChanged goals (addHeadAt step own head (cycleHead step kind)) (now (frame .entry))
         (now (frame .exit)) ⌝ }
 {
-    count_tracked(frame, goals, i, kind);
-    if i < own {
-        count_joined(frame, goals, step, i, kind);
+    count_tracked(frame, goals, head, kind);
+    if head < own {
+        count_joined(frame, goals, step, head, kind);
         return;
     }
-    if i == own {
+    if head == own {
         count_itself(frame, goals, kind);
     }
 }

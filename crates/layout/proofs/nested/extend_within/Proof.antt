@@ -26,7 +26,7 @@ flag-requires : tie.Need-flag-requires Inv-loop μ-loop
 flag-requires c κs = search needs
 
 loop-holds : tie.Need-loop-holds Inv-loop μ-loop
-loop-holds c = let s = c .before .before .before in extending-start (s .args .s .now) (s .args .to) (s .args .from) (s .args .n) (s .pre .0) (s .pre .1) (c .before .weaker-flags .result) (c .flag .result)
+loop-holds c = let s = c .before .before .before in extending-start (s .args .s .now) (s .args .to) (s .args .from) (s .args .goals) (s .pre .0) (s .pre .1) (c .before .weaker-flags .result) (c .flag .result)
 
 add-paths : tie.Need-add-paths Inv-loop μ-loop
 add-paths c = let p = c .before .before .before .before .before .pre in let b = p .0 in let r = p .1 in let g = c .before .loop .inv .long in let w = c .before .loop .inv .low in omega arith
@@ -59,7 +59,7 @@ loop-again : tie.Need-loop-again Inv-loop μ-loop
 loop-again c =
     let s = c .before .before .before .before .before .before .before .before in
     let l = c .before .before .before .before .loop in
-    extending-turn (s .args .s .now) (s .args .to) (s .args .from) (s .args .n) (s .pre .0) (s .pre .1) (c .before .before .before .before .before .before .weaker-flags .result) (c .before .before .before .before .before .flag .result) (l .s) (l .all) (l .i) (l .inv) (c .before .before .before .loop-test .taken)
+    extending-turn (s .args .s .now) (s .args .to) (s .args .from) (s .args .goals) (s .pre .0) (s .pre .1) (c .before .before .before .before .before .before .weaker-flags .result) (c .before .before .before .before .before .flag .result) (l .s) (l .all) (l .i) (l .inv) (c .before .before .before .loop-test .taken)
     (bitOr (getD (l .s) (s .args .to + l .i) 0) (c .before .replace-weaker .result)) (λ k a b. ap (bitOr (getD (l .s) (s .args .to + l .i) 0)) (c .before .replace-weaker .ensures k a b))
 
 same-length : tie.Need-same-length Inv-loop μ-loop
@@ -69,7 +69,7 @@ returns : tie.Need-returns Inv-loop μ-loop
 returns c =
     let s = c .before .before .before .before .before in
     let l = c .before .loop in
-    extending-done (s .args .s .now) (s .args .to) (s .args .from) (s .args .n) (s .pre .0) (s .pre .1) (c .before .before .before .weaker-flags .result) (c .before .before .flag .result) (l .s) (l .all) (l .i) (l .inv) (c .loop-test .left)
+    extending-done (s .args .s .now) (s .args .to) (s .args .from) (s .args .goals) (s .pre .0) (s .pre .1) (c .before .before .before .weaker-flags .result) (c .before .before .flag .result) (l .s) (l .all) (l .i) (l .inv) (c .loop-test .left)
     (s .args .step) (c .before .before .before .weaker-flags .ensures) (c .before .before .flag .ensures)
 
 pub extend-within-spec : {M : Type 1} → statement M

@@ -30,8 +30,8 @@ part-count-usage-end c = search needs
 count-usage-requires : tie.Need-count-usage-requires
 count-usage-requires c κs = search needs
 
-slice-read-b : tie.Need-slice-read-b
-slice-read-b c = search needs
+slice-read-before : tie.Need-slice-read-before
+slice-read-before c = search needs
 
 slice-write-b : tie.Need-slice-write-b
 slice-write-b c = search needs
@@ -58,7 +58,7 @@ count-head-spec =
     part-count-usage-start
     part-count-usage-end
     count-usage-requires
-    slice-read-b
+    slice-read-before
     slice-write-b
     same-length
     returns)

@@ -29,7 +29,7 @@ same-length : tie.Need-same-length
 same-length c = search needs
 
 returns : tie.Need-returns
-returns c = let s = c .before .before .before .before .before .before .before .before .before .before in frames.head-below (s .args .step) (s .args .own) (s .args .i) (cycleHead (s .args .step) (s .args .kind)) (frameOf (s .args .goals) (s .args .frame .now)) (frameOf (s .args .goals) (c .before .before .before .before .before .before .before .count-tracked .last .0)) (frameOf (s .args .goals) (c .before .before .count-joined .last .0)) (c .before .before .before .before .before .before .before .count-tracked .ensures) (c .before .before .count-joined .ensures) (c .before .before .before .before .if1 .taken)
+returns c = let s = c .before .before .before .before .before .before .before .before .before .before in frames.head-below (s .args .step) (s .args .own) (s .args .head) (cycleHead (s .args .step) (s .args .kind)) (frameOf (s .args .goals) (s .args .frame .now)) (frameOf (s .args .goals) (c .before .before .before .before .before .before .before .count-tracked .last .0)) (frameOf (s .args .goals) (c .before .before .count-joined .last .0)) (c .before .before .before .before .before .before .before .count-tracked .ensures) (c .before .before .count-joined .ensures) (c .before .before .before .before .if1 .taken)
 
 count-itself-requires : tie.Need-count-itself-requires
 count-itself-requires c κs = search needs
@@ -38,13 +38,13 @@ same-length-2 : tie.Need-same-length-2
 same-length-2 c = search needs
 
 returns-2 : tie.Need-returns-2
-returns-2 c = let s = c .before .before .before .before .before .before .before .before .before .before .before in frames.head-own (s .args .step) (s .args .own) (s .args .i) (cycleHead (s .args .step) (s .args .kind)) (frameOf (s .args .goals) (s .args .frame .now)) (frameOf (s .args .goals) (c .before .before .before .before .before .before .before .before .count-tracked .last .0)) (frameOf (s .args .goals) (c .before .before .count-itself .last .0)) (c .before .before .before .before .before .before .before .before .count-tracked .ensures) (c .before .before .count-itself .ensures) (c .before .before .before .before .if2 .taken)
+returns-2 c = let s = c .before .before .before .before .before .before .before .before .before .before .before in frames.head-own (s .args .step) (s .args .own) (s .args .head) (cycleHead (s .args .step) (s .args .kind)) (frameOf (s .args .goals) (s .args .frame .now)) (frameOf (s .args .goals) (c .before .before .before .before .before .before .before .before .count-tracked .last .0)) (frameOf (s .args .goals) (c .before .before .count-itself .last .0)) (c .before .before .before .before .before .before .before .before .count-tracked .ensures) (c .before .before .count-itself .ensures) (c .before .before .before .before .if2 .taken)
 
 same-length-3 : tie.Need-same-length-3
 same-length-3 c = search needs
 
 returns-3 : tie.Need-returns-3
-returns-3 c = let s = c .before .before .before .before .before .before .before in frames.head-above (s .args .step) (s .args .own) (s .args .i) (cycleHead (s .args .step) (s .args .kind)) (frameOf (s .args .goals) (s .args .frame .now)) (frameOf (s .args .goals) (c .before .before .before .before .count-tracked .last .0)) (frameOf (s .args .goals) (c .before .before .before .before .count-tracked .last .0)) (c .before .before .before .before .count-tracked .ensures) refl (c .before .if1 .left) (c .if2 .left)
+returns-3 c = let s = c .before .before .before .before .before .before .before in frames.head-above (s .args .step) (s .args .own) (s .args .head) (cycleHead (s .args .step) (s .args .kind)) (frameOf (s .args .goals) (s .args .frame .now)) (frameOf (s .args .goals) (c .before .before .before .before .count-tracked .last .0)) (frameOf (s .args .goals) (c .before .before .before .before .count-tracked .last .0)) (c .before .before .before .before .count-tracked .ensures) refl (c .before .if1 .left) (c .if2 .left)
 
 pub count-head-spec : {M : Type 1} → statement M
 count-head-spec =
