@@ -18,7 +18,7 @@ extern "C" {
 /* The most bytes of the machine's stack that a call needs, for any book, cache, workspace and
    output: below the caller's stack pointer, with the arguments. 4 KB of it are for the C
    library's memset and memcpy. */
-#define SEARCH_GRAPH_STACK_LEN ((size_t)293 * 1024)
+#define SEARCH_GRAPH_STACK_LEN ((size_t)268 * 1024)
 
 /* The length in bytes of the workspace for a number of goals, 1 to 64; 0 where it is out of
    range. It is 4 * goals * (41 * goals + 24). */

@@ -1,7 +1,7 @@
 -- The loop of `heads::copy`: mask first, then the records that it names.
 use mathlib.Core.Path.{_≡_, refl, sym, ap, _∙_, subst}
 use mathlib.Core.Bool.{Bool, true, false, false≢true}
-use mathlib.Core.Logic.{_⊎_, ⊎-elim}
+use mathlib.Core.Logic.{⊎-elim}
 use mathlib.Core.List.{List, _++_}
 use mathlib.Core.Option.{none, some}
 use Prim.Native.Nat.{ℕ, _+_, _*_, _-_, _^_, _≤_, _<_}
@@ -10,8 +10,6 @@ use native.Mathlib.Decide.{decLt, ℕ-discrete}
 use native.Mathlib.Nat.{add-zero}
 use lib.ListN.{length, getD, set, replicate, List·getD-append}
 use lib.Seq.{getD-set-other, ext-getD}
-use Rattle.definition.specs.declared.heads.CycleHead.{CycleHead}
-use Rattle.definition.specs.Heads.{CycleHeads}
 use Rattle.bits.specs.Masks.{flags, firstPlace, placeOr}
 use Rattle.bits.proofs.Flags.{flags-zero}
 use Rattle.bits.proofs.Marks.{only}
@@ -21,7 +19,7 @@ use Rattle.buffer.proofs.Numbers.{length-bytes}
 use Rattle.buffer.proofs.Regions.{region-region, region-same, region-before, region-after, length-overwrite}
 use Rattle.buffer.proofs.Tables.{length-up}
 use Rattle.layout.specs.Blocks.{headOf, headAt, headsSize, headsOf, flagAt, present}
-use Rattle.layout.specs.Copied.{OthersKept, RecordCopied, BlocksApart, HeadsCopied}
+use Rattle.layout.specs.Copied.{OutsideKept, RecordCopied, BlocksApart, HeadsCopied}
 use Rattle.layout.proofs.Blocks.{kept-set, kept-clear}
 use Rattle.layout.proofs.Written.{number-back, number-before}
 use Rattle.layout.proofs.Frames.{length-heads}
@@ -44,7 +42,7 @@ record-copied bs from to ys whole room b1 e is =
 -- the records that the mask m names are copied, but for those that `left` names
 pub record Copying (goals from to : ℕ) (old : List ℕ) (m left : ℕ) (s : List ℕ) : Type 0 where
   pub long : length s ≡ length old
-  pub others : OthersKept to (headsSize goals) old s
+  pub others : OutsideKept to (headsSize goals) old s
   pub mask : numberOf (region to 8 s) ≡ m
   pub small : left < 2 ^ 64
   pub within : Within left (headsOf goals (region from (headsSize goals) old))

@@ -41,9 +41,6 @@ whole-fits a e h = omega arith
 pub into-fits : (a k x : ℕ) {y n : ℕ} → k + x ≤ y → a + y ≤ n → a + k + x ≤ n
 into-fits a k x p h = omega arith
 
-add-both : (a j : ℕ) {x y : ℕ} → x ≤ y → a + x ≤ a + y + j
-add-both a j h = omega arith
-
 -- record i of n lies in the bytes
 room-of : (size base n i : ℕ) {len : ℕ} → i < n → base + n * size ≤ len → base + i * size + size ≤ len
 room-of size base n i lt h = omega (arith, apart i n size lt)
@@ -97,14 +94,6 @@ module _ (goals base : ℕ) where
   module _ (bs : List ℕ) (long : length bs ≡ base + entriesLength goals) where
     pub entry-room : (k : ℕ) → k < 2 * goals → entryStartFrom goals base k + entrySize goals ≤ length bs
     entry-room k lt = room-of (entrySize goals) base (2 * goals) k lt (at-least long)
-
-    -- ---- a write in entry k, j bytes into it
-    module _ (k j : ℕ) (ys : List ℕ) (lt : k < 2 * goals) (inner : j + length ys ≤ entrySize goals) where
-      pub fits-entry : entryStartFrom goals base k + j + length ys ≤ length bs
-      fits-entry = into-fits (entryStartFrom goals base k) j (length ys) inner (entry-room k lt)
-
-      pub entries-under : (n : ℕ) → n ≤ k → entriesFrom goals base n (overwrite bs (entryStartFrom goals base k + j) ys) ≡ entriesFrom goals base n bs
-      entries-under n le = entries-below n bs (entryStartFrom goals base k + j) ys (add-both base j (mul-le-mul-right (entrySize goals) le)) fits-entry
 
     -- ---- a write of entry k
     module _ (k : ℕ) (ys : List ℕ) (lt : k < 2 * goals) (whole : length ys ≡ entrySize goals) where

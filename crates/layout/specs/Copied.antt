@@ -11,14 +11,14 @@ use Rattle.buffer.specs.Regions.{region, overwrite}
 use Rattle.layout.specs.Blocks.{headSize, headOf, headsSize, headsOf}
 
 -- all but the n bytes from a on is as before
-pub record OthersKept (a n : ℕ) (old new : List ℕ) : Type 0 where
+pub record OutsideKept (a n : ℕ) (old new : List ℕ) : Type 0 where
   pub before : (b m : ℕ) → b + m ≤ a → region b m new ≡ region b m old
   pub behind : (b m : ℕ) → a + n ≤ b → region b m new ≡ region b m old
 
 -- the head at `from` stands at `to` as well
 pub record RecordCopied (from to : ℕ) (old new : List ℕ) : Type 0 where
   pub head : headOf (region to headSize new) ≡ headOf (region from headSize old)
-  pub others : OthersKept to headSize old new
+  pub others : OutsideKept to headSize old new
 
 -- two blocks that have no byte in common
 pub record BlocksApart (goals from to : ℕ) (bs : List ℕ) : Type 0 where
@@ -30,7 +30,7 @@ pub record BlocksApart (goals from to : ℕ) (bs : List ℕ) : Type 0 where
 -- the heads of the block at `from` stand in the block at `to` as well
 pub record HeadsCopied (goals from to : ℕ) (old new : List ℕ) : Type 0 where
   pub heads : headsOf goals (region to (headsSize goals) new) ≡ headsOf goals (region from (headsSize goals) old)
-  pub others : OthersKept to (headsSize goals) old new
+  pub others : OutsideKept to (headsSize goals) old new
 
 -- ---- nested goals
 

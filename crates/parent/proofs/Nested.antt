@@ -18,7 +18,7 @@ use Rattle.layout.specs.Copied.{Extended}
 use Rattle.layout.proofs.Graphs.{frame-room}
 use Rattle.layout.proofs.Frames.{frame-nested}
 use Rattle.layout.proofs.NestedExtended.{length-extended}
-use Rattle.stack.specs.Bytes.{GraphBytes, frameAt, frameBytes}
+use Rattle.stack.specs.Bytes.{GraphBytes, frameAt}
 use Rattle.stack.specs.Child.{reachFrame, extendNested, finishNested}
 use Rattle.stack.specs.Written.{TopWritten}
 use Rattle.stack.proofs.Graph.{frame-put}

@@ -12,13 +12,12 @@ use Rattle.buffer.specs.Tables.{recordAt}
 use Rattle.buffer.proofs.Regions.{region-region}
 use Rattle.buffer.proofs.Tables.{apart, up-same}
 use Rattle.layout.specs.Blocks.{headsSize, headsOf}
-use Rattle.layout.specs.Copied.{BlocksApart, HeadsCopied}
+use Rattle.layout.specs.Copied.{BlocksApart}
 use Rattle.layout.specs.Entry.{entryHeadsStart, entrySize, entryOf}
 use Rattle.layout.specs.Frame.{headsStart, frameSize, frameOf}
-use Rattle.layout.specs.Work.{frameStart, entriesStart, entryStartFrom, entryStart, entriesFrom, entryFrom, entriesOf}
+use Rattle.layout.specs.Work.{frameStart, entriesStart, entryStartFrom, entryStart, entriesFrom, entryFrom}
 use Rattle.layout.proofs.Graphs.{into-fits, entry-room, frame-room, length-entries, entries-at}
 use Rattle.stack.specs.Bytes.{GraphBytes, frameAt}
-use Rattle.provisional_cache.specs.Entries.{entryAt}
 
 -- ---- the bytes around entry k are the same
 module _ (goals base k : ℕ) (old new : List ℕ) where

@@ -2,27 +2,26 @@
 use mathlib.Core.Path.{_≡_, sym, ap, ap₂, _∙_, subst}
 use mathlib.Core.Bool.{Bool}
 use mathlib.Core.List.{List, [], _∷_, _++_}
-use Prim.Native.Nat.{ℕ, _+_, _*_, _≤_, _<_}
+use Prim.Native.Nat.{ℕ, _+_, _*_, _<_}
 use native.Mathlib.Nat.{zero-add}
 use native.Mathlib.Numerals.{add-one}
 use native.Mathlib.Omega.{arith}
-use lib.ListN.{length, getD, set}
+use lib.ListN.{length}
 use Rattle.definition.specs.declared.paths.PathKind.{PathKind}
 use Rattle.definition.specs.declared.answers.Answer.{Answer}
 use Rattle.definition.specs.Graph.{Entry}
 use Rattle.buffer.specs.Regions.{region, overwrite}
 use Rattle.buffer.specs.Tables.{recordAt}
-use Rattle.buffer.proofs.Regions.{length-region, region-before, region-region, region-inside, region-snoc, byte-before, overwrite-snoc, length-overwrite}
+use Rattle.buffer.proofs.Regions.{region-before, region-region}
 use Rattle.buffer.proofs.Tables.{apart, down-same}
 use Rattle.layout.specs.Copied.{HeadsCopied}
 use Rattle.layout.specs.Entry.{entryHeadsStart, entrySize, entryOf}
 use Rattle.layout.specs.Frame.{headsStart, frameSize, frameOf}
 use Rattle.layout.specs.Work.{entriesStart, entryStartFrom, entryStart, entriesLength, frameStart, stackOf, entriesOf}
-use Rattle.layout.proofs.Frames.{entry-heads}
-use Rattle.layout.proofs.Graphs.{into-fits, entry-room, frame-room, fits-entry, fits-whole, entries-under, entries-push-back}
+use Rattle.layout.proofs.Graphs.{fits-whole, entries-push-back}
 use Rattle.stack.specs.Bytes.{GraphBytes, frameBytes, frameAt}
 use Rattle.stack.proofs.Parts.{part, returned}
-use Rattle.provisional_cache.specs.Entries.{EntriesBytes, entryBytes, entryAt, entryOn, withFields, FramesKept}
+use Rattle.provisional_cache.specs.Entries.{EntriesBytes, entryAt, entryOn, withFields, FramesKept}
 use Rattle.provisional_cache.specs.Inserts.{Appended}
 use Rattle.provisional_cache.proofs.Entries.{graph-entries, part-is, entry-back, entry-whole}
 use Rattle.provisional_cache.proofs.Copies.{entries-low, entry-heads-there, frame-heads-there}
@@ -54,10 +53,6 @@ frames-of goals old new e =
 
 -- ---- in bytes that hold the entries from `base` on
 module _ (goals base : ℕ) (bs : List ℕ) (long : length bs ≡ base + entriesLength goals) where
-  -- a write in entry k, j bytes into it
-  pub below-inside : (k j : ℕ) (ys : List ℕ) → k < 2 * goals → j + length ys ≤ entrySize goals → region 0 base (overwrite bs (entryStartFrom goals base k + j) ys) ≡ region 0 base bs
-  below-inside k j ys lt inner = region-before bs (entryStartFrom goals base k + j) ys (fits-entry goals base bs long k j ys lt inner) 0 base (omega arith)
-
   -- a write of entry k
   pub below-whole : (k : ℕ) (ys : List ℕ) → k < 2 * goals → length ys ≡ entrySize goals → region 0 base (overwrite bs (entryStartFrom goals base k) ys) ≡ region 0 base bs
   below-whole k ys lt whole = region-before bs (entryStartFrom goals base k) ys (fits-whole goals base bs long k ys lt whole) 0 base (omega arith)

@@ -1,25 +1,18 @@
 -- What is read of a frame: its nested goals, its heads, the depth that it needs.
-use mathlib.Core.Path.{_≡_, sym, ap, ap₂, _∙_}
-use mathlib.Core.Bool.{Bool}
+use mathlib.Core.Path.{_≡_, ap, _∙_}
 use mathlib.Core.List.{List}
-use Prim.Native.Nat.{ℕ, _+_, _-_, _≤_, _<_}
-use native.Mathlib.Nat.{zero-add}
+use Prim.Native.Nat.{ℕ, _+_, _≤_, _<_}
 use native.Mathlib.Omega.{arith}
-use lib.ListN.{length, getD, set, replicate}
-use lib.Seq.{paste}
+use lib.ListN.{length}
 use Rattle.buffer.specs.Regions.{region}
-use Rattle.buffer.proofs.Loops.{pasted-more, pasted-all}
-use Rattle.buffer.proofs.Regions.{length-region, region-same}
-use Rattle.definition.specs.declared.paths.PathKind.{PathKind}
-use Rattle.definition.specs.Heads.{CycleHeads, headsEmpty}
-use Rattle.definition.specs.Stack.{Stack, requiredDepthOf}
-use Rattle.definition.specs.Parent.{updateParentGoal, Ordinary}
+use Rattle.buffer.proofs.Regions.{length-region}
+use Rattle.definition.specs.Heads.{headsEmpty}
+use Rattle.definition.specs.Stack.{requiredDepthOf}
 use Rattle.layout.specs.Blocks.{headsSize, headsOf}
 use Rattle.layout.specs.Frame.{frameSize, headsStart, nestedStart, frameOf}
 use Rattle.layout.specs.Work.{frameStart}
 use Rattle.layout.proofs.Graphs.{frame-room}
 use Rattle.stack.specs.Bytes.{GraphBytes, frameBytes, frameAt}
-use Rattle.stack.proofs.Parts.{part, returned, part-length, part-back, returned-length}
 
 -- there are as many as goals
 pub nested-length : (goals : ℕ) (bs : List ℕ) (i : ℕ) → GraphBytes goals bs → i < goals → length ((frameAt goals i bs) .nestedGoals) ≡ goals

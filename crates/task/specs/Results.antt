@@ -10,8 +10,8 @@ use Rattle.definition.specs.declared.format.Header.{Header}
 use Rattle.definition.specs.Graph.{finalize}
 use Rattle.definition.specs.Parent.{Ordinary}
 use Rattle.definition.specs.Evaluate.{insertGlobalCache, insertProvisionalCache, insertResult, afterTask}
-use Rattle.layout.specs.Work.{stackOf, entriesOf, graphOf}
-use Rattle.stack.specs.Bytes.{frameBytes, frameAt}
+use Rattle.layout.specs.Work.{graphOf}
+use Rattle.stack.specs.Bytes.{frameAt}
 use Rattle.parent.specs.Updated.{nestedAt, Updated}
 use Rattle.evaluation.specs.declared.Outcome.{Outcome}
 use Rattle.evaluation.specs.declared.Ran.{Ran}

@@ -5,12 +5,6 @@ use Rattle.parent.proofs.Nested.{nested-fits, nested-next, nested-joine
 use borrow.Author.Needs.{needs}
 use Rattle.parent.proofs.extend_nested.Statement.{statement}
 use Rattle.parent.proofs.extend_nested.Tie as tie
-use Rattle.parent.proofs.extend_nested.Reads as reads
-use Rattle.parent.proofs.extend_nested.Lts as lts
-use Rattle.layout.proofs.nested.extend_within.Reads as extend-within-reads
-use Rattle.layout.proofs.offsets.frame_size.Reads as frame-size-reads
-use Rattle.layout.proofs.offsets.frame_start.Reads as frame-start-reads
-use Rattle.layout.proofs.offsets.nested_start.Reads as nested-start-reads
 
 frame-start-requires : tie.Need-frame-start-requires
 frame-start-requires c κs = search needs

@@ -7,10 +7,6 @@ use Rattle.parent.proofs.Update as update
 use borrow.Author.Needs.{needs}
 use Rattle.parent.proofs.update_from_cycle.Statement.{statement}
 use Rattle.parent.proofs.update_from_cycle.Tie as tie
-use Rattle.parent.proofs.update_from_cycle.Reads as reads
-use Rattle.parent.proofs.update_from_cycle.Lts as lts
-use Rattle.parent.proofs.add_cycle.Reads as add-cycle-reads
-use Rattle.parent.proofs.count_head.Reads as count-head-reads
 
 returns : tie.Need-returns
 returns c = let a = c .before .before .args in update.update-none (a .goals) (a .height) (a .graph .now) (a .step) (insertHead (noHeads (a .goals)) (a .head) (flagOf (a .step)) (oneUsage (a .kind))) false (CycleOnStack (a .goal)) (a .reached) (c .if1 .taken)

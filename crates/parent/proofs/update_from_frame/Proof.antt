@@ -12,12 +12,6 @@ use Rattle.parent.proofs.Update as update
 use borrow.Author.Needs.{needs}
 use Rattle.parent.proofs.update_from_frame.Statement.{statement}
 use Rattle.parent.proofs.update_from_frame.Tie as tie
-use Rattle.parent.proofs.update_from_frame.Reads as reads
-use Rattle.parent.proofs.update_from_frame.Lts as lts
-use Rattle.layout.proofs.offsets.frame_start.Reads as frame-start-reads
-use Rattle.parent.proofs.add_evaluated.Reads as add-evaluated-reads
-use Rattle.parent.proofs.add_heads.Reads as add-heads-reads
-use Rattle.parent.proofs.extend_nested.Reads as extend-nested-reads
 
 returns : tie.Need-returns
 returns c = let a = c .before .before .args in update.update-none (a .goals) (a .height) (a .graph .now) (a .step) ((frameAt (a .goals) (a .height) (a .graph .now)) .heads) (a .overflow) (Ordinary (nestedAt (a .goals) (a .height) (a .graph .now))) (a .reached) (c .if1 .taken)

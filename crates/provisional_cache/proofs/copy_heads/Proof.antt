@@ -7,11 +7,6 @@ use Rattle.provisional_cache.proofs.Copies.{copy-apart}
 use borrow.Author.Needs.{needs}
 use Rattle.provisional_cache.proofs.copy_heads.Statement.{statement}
 use Rattle.provisional_cache.proofs.copy_heads.Tie as tie
-use Rattle.provisional_cache.proofs.copy_heads.Reads as reads
-use Rattle.provisional_cache.proofs.copy_heads.Lts as lts
-use Rattle.layout.proofs.heads.copy.Reads as copy-reads
-use Rattle.layout.proofs.offsets.entry_start.Reads as entry-start-reads
-use Rattle.layout.proofs.offsets.frame_start.Reads as frame-start-reads
 
 frame-start-requires : tie.Need-frame-start-requires
 frame-start-requires c κs = search needs

@@ -1,32 +1,17 @@
-use mathlib.Core.Path.{_≡_, refl, sym, ap, _∙_}
-use Prim.Native.Nat.{ℕ, _+_, _*_, _-_, _^_, _≤_, _<_}
-use mathlib.Core.Bool.{Bool, true, false}
+use mathlib.Core.Path.{_≡_, sym, ap, _∙_}
+use Prim.Native.Nat.{ℕ, _+_, _*_, _-_, _≤_}
 use mathlib.Core.List.{List, _++_}
-use mathlib.Core.Option.{none, some}
 use native.Mathlib.Omega.{arith}
-use lib.ListN.{length, getD, set, take, drop}
-use lib.Seq.{set-getD}
-use Rattle.bits.specs.Masks.{flags}
-use Rattle.buffer.specs.Numbers.{numberOf}
-use Rattle.buffer.specs.Regions.{region, overwrite}
-use Rattle.buffer.proofs.Regions.{overwrite-part, length-region, region-before, region-after, region-same}
-use Rattle.buffer.proofs.Tables.{up-at}
-use Rattle.definition.specs.declared.usages.HeadUsages.{HeadUsages}
-use Rattle.definition.specs.declared.heads.CycleHead.{CycleHead}
-use Rattle.definition.specs.Usages.{noUsages, oneUsage, addUsagesFromNested}
-use Rattle.definition.specs.Heads.{joinHead}
-use Rattle.layout.specs.Blocks.{usagesOf, headOf, headsOf, headsSize, flagAt, usagesIn, candidateOf, present}
-use Rattle.layout.specs.AtIndex.{addFromNestedAt}
-use Rattle.layout.proofs.Blocks.{kept-set, kept-clear, block-record}
+use lib.ListN.{length, take, drop}
+use Rattle.buffer.specs.Regions.{region}
+use Rattle.buffer.proofs.Regions.{overwrite-part, length-region}
+use Rattle.definition.specs.Usages.{oneUsage}
+use Rattle.layout.specs.Blocks.{usagesOf}
 use Rattle.definition.specs.Usages.{addUsage}
 use Rattle.layout.proofs.Counted.{one-more, usages-added}
 use borrow.Author.Needs.{needs}
 use Rattle.layout.proofs.candidate.count.Statement.{statement}
 use Rattle.layout.proofs.candidate.count.Tie as tie
-use Rattle.layout.proofs.candidate.count.Reads as reads
-use Rattle.layout.proofs.candidate.count.Lts as lts
-use Rattle.layout.proofs.candidate.start.Reads as start-reads
-use Rattle.layout.proofs.records.count_usage.Reads as count-usage-reads
 
 start-requires : tie.Need-start-requires
 start-requires c κs = search needs

@@ -1,32 +1,18 @@
 use mathlib.Core.Path.{_≡_, refl, sym, ap, _∙_}
-use Prim.Native.Nat.{ℕ, _+_, _*_, _-_, _^_, _≤_, _<_}
-use mathlib.Core.Bool.{Bool, true, false}
-use mathlib.Core.List.{List, _++_}
-use mathlib.Core.Option.{none, some}
-use native.Mathlib.Omega.{arith}
-use lib.ListN.{length, getD, set, take, drop}
+use Prim.Native.Nat.{ℕ}
+use mathlib.Core.Bool.{true, false}
+use mathlib.Core.List.{List}
+use lib.ListN.{getD, set}
 use lib.Seq.{set-getD}
 use Rattle.bits.specs.Masks.{flags}
-use Rattle.buffer.specs.Numbers.{numberOf}
-use Rattle.buffer.specs.Regions.{region, overwrite}
-use Rattle.buffer.proofs.Regions.{overwrite-part, length-region, region-before, region-after, region-same}
 use Rattle.buffer.proofs.Tables.{up-at}
 use Rattle.definition.specs.declared.usages.HeadUsages.{HeadUsages}
-use Rattle.definition.specs.declared.heads.CycleHead.{CycleHead}
-use Rattle.definition.specs.Usages.{noUsages, oneUsage, addUsagesFromNested}
-use Rattle.definition.specs.Heads.{joinHead}
-use Rattle.layout.specs.Blocks.{usagesOf, headOf, headsOf, headsSize, flagAt, usagesIn, candidateOf, present}
-use Rattle.layout.specs.AtIndex.{addFromNestedAt}
-use Rattle.layout.proofs.Blocks.{kept-set, kept-clear, block-record}
+use Rattle.definition.specs.Usages.{noUsages}
+use Rattle.layout.specs.Blocks.{usagesOf, flagAt, usagesIn, candidateOf}
+use Rattle.layout.proofs.Blocks.{kept-clear}
 use borrow.Author.Needs.{needs}
 use Rattle.layout.proofs.candidate.start.Statement.{statement}
 use Rattle.layout.proofs.candidate.start.Tie as tie
-use Rattle.layout.proofs.candidate.start.Reads as reads
-use Rattle.layout.proofs.candidate.start.Lts as lts
-use Rattle.bits.proofs.has.Reads as has-reads
-use Rattle.buffer.proofs.read_u64.Reads as read-u64-reads
-use Rattle.definition.proofs.usages.HeadUsages.none.Reads as none-reads
-use Rattle.layout.proofs.candidate.put.Reads as put-reads
 
 read-u64-requires : tie.Need-read-u64-requires
 read-u64-requires c κs = search needs

@@ -1,33 +1,19 @@
-use mathlib.Core.Path.{_≡_, refl, sym, ap, _∙_}
-use Prim.Native.Nat.{ℕ, _+_, _*_, _-_, _^_, _≤_, _<_}
-use mathlib.Core.Bool.{Bool, true, false}
+use mathlib.Core.Path.{_≡_, sym, ap, _∙_}
+use Prim.Native.Nat.{ℕ, _+_, _*_, _-_, _≤_}
 use mathlib.Core.List.{List, _++_}
-use mathlib.Core.Option.{none, some}
+use mathlib.Core.Option.{some}
 use native.Mathlib.Omega.{arith}
-use lib.ListN.{length, getD, set, take, drop}
-use lib.Seq.{set-getD}
-use Rattle.bits.specs.Masks.{flags}
-use Rattle.buffer.specs.Numbers.{numberOf}
-use Rattle.buffer.specs.Regions.{region, overwrite}
-use Rattle.buffer.proofs.Regions.{overwrite-part, length-region, region-before, region-after, region-same}
-use Rattle.buffer.proofs.Tables.{up-at}
+use lib.ListN.{length, set, take, drop}
+use Rattle.buffer.specs.Regions.{region}
+use Rattle.buffer.proofs.Regions.{overwrite-part, length-region}
 use Rattle.definition.specs.declared.usages.HeadUsages.{HeadUsages}
-use Rattle.definition.specs.declared.heads.CycleHead.{CycleHead}
-use Rattle.definition.specs.Usages.{noUsages, oneUsage, addUsagesFromNested}
+use Rattle.definition.specs.Usages.{oneUsage}
 use Rattle.definition.specs.Heads.{joinHead}
-use Rattle.layout.specs.Blocks.{usagesOf, headOf, headsOf, headsSize, flagAt, usagesIn, candidateOf, present}
-use Rattle.layout.specs.AtIndex.{addFromNestedAt}
-use Rattle.layout.proofs.Blocks.{kept-set, kept-clear, block-record}
+use Rattle.layout.specs.Blocks.{headOf, headsOf}
 use Rattle.layout.proofs.Present.{insert-unknown, head-inserted}
 use borrow.Author.Needs.{needs}
 use Rattle.layout.proofs.heads.insert_used.Statement.{statement}
 use Rattle.layout.proofs.heads.insert_used.Tie as tie
-use Rattle.layout.proofs.heads.insert_used.Reads as reads
-use Rattle.layout.proofs.heads.insert_used.Lts as lts
-use Rattle.definition.proofs.usages.HeadUsages.one.Reads as one-reads
-use Rattle.layout.proofs.heads.has.Reads as has-reads
-use Rattle.layout.proofs.heads.put.Reads as put-reads
-use Rattle.layout.proofs.records.count_head.Reads as count-head-reads
 
 has-requires : tie.Need-has-requires
 has-requires c κs = search needs

@@ -7,11 +7,6 @@ use borrow.Author.Needs.{needs}
 use Rattle.layout.proofs.NestedExtended.{Extending, extending-start, extending-turn, extending-done}
 use Rattle.layout.proofs.nested.extend_within.Statement.{statement}
 use Rattle.layout.proofs.nested.extend_within.Tie as tie
-use Rattle.layout.proofs.nested.extend_within.Reads as reads
-use Rattle.layout.proofs.nested.extend_within.Lts as lts
-use Rattle.definition.proofs.paths.PathKind.flag.Reads as flag-reads
-use Rattle.definition.proofs.paths.PathKind.weaker_flags.Reads as weaker-flags-reads
-use Rattle.definition.proofs.paths.replace_weaker.Reads as replace-weaker-reads
 
 abbrev Inv-loop : tie.InvT-loop
 Inv-loop s₀ to from n weaker flag all₀ i₀ s all i = Extending s₀ to from n weaker flag s all i

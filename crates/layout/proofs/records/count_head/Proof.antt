@@ -1,22 +1,17 @@
 use mathlib.Core.Path.{_≡_, sym, ap, _∙_}
-use Prim.Native.Nat.{ℕ, _+_, _*_, _-_, _^_, _≤_, _<_}
-use mathlib.Core.List.{List, _++_}
+use Prim.Native.Nat.{ℕ}
+use mathlib.Core.List.{List}
 use native.Mathlib.Omega.{arith}
-use lib.ListN.{length, getD, set, take, drop}
+use lib.ListN.{length, getD, set}
 use lib.Bits.{bitOr}
-use Rattle.buffer.specs.Numbers.{numberOf, bytesOf}
 use Rattle.buffer.specs.Regions.{region, overwrite}
 use Rattle.buffer.proofs.Regions.{overwrite-part, length-region, byte-before}
-use Rattle.definition.specs.Paths.{kindNumber}
-use Rattle.definition.specs.Usages.{noUsages, oneUsage, addCounter, addUsagesFromNested}
+use Rattle.definition.specs.Usages.{oneUsage}
 use Rattle.layout.specs.Blocks.{usagesOf, headOf}
 use Rattle.layout.proofs.Counted.{head-joined, one-more}
 use borrow.Author.Needs.{needs}
 use Rattle.layout.proofs.records.count_head.Statement.{statement}
 use Rattle.layout.proofs.records.count_head.Tie as tie
-use Rattle.layout.proofs.records.count_head.Reads as reads
-use Rattle.layout.proofs.records.count_head.Lts as lts
-use Rattle.layout.proofs.records.count_usage.Reads as count-usage-reads
 
 sub-count-usage : tie.Need-sub-count-usage
 sub-count-usage c = search needs

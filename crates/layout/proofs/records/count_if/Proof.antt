@@ -1,22 +1,9 @@
-use mathlib.Core.Path.{_≡_, sym, ap, _∙_}
-use Prim.Native.Nat.{ℕ, _+_, _*_, _-_, _^_, _≤_, _<_}
-use mathlib.Core.List.{List, _++_}
-use native.Mathlib.Omega.{arith}
-use lib.ListN.{length, getD, set, take, drop}
-use lib.Bits.{bitOr}
-use Rattle.buffer.specs.Numbers.{numberOf, bytesOf}
-use Rattle.buffer.specs.Regions.{region, overwrite}
-use Rattle.buffer.proofs.Regions.{overwrite-part, length-region, byte-before}
-use Rattle.definition.specs.Paths.{kindNumber}
-use Rattle.definition.specs.Usages.{noUsages, oneUsage, addCounter, addUsagesFromNested}
-use Rattle.layout.specs.Blocks.{usagesOf, headOf}
+use mathlib.Core.Path.{_∙_}
+use Rattle.layout.specs.Blocks.{usagesOf}
 use Rattle.layout.proofs.Counted.{used-none, used-some}
 use borrow.Author.Needs.{needs}
 use Rattle.layout.proofs.records.count_if.Statement.{statement}
 use Rattle.layout.proofs.records.count_if.Tie as tie
-use Rattle.layout.proofs.records.count_if.Reads as reads
-use Rattle.layout.proofs.records.count_if.Lts as lts
-use Rattle.layout.proofs.records.count_usage.Reads as count-usage-reads
 
 returns : tie.Need-returns
 returns c = used-none (c .before .before .args .n) (usagesOf (c .before .before .args .b .now)) (c .before .before .args .kind) (c .if1 .taken)

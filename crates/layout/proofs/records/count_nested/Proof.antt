@@ -1,22 +1,8 @@
-use mathlib.Core.Path.{_≡_, sym, ap, _∙_}
-use Prim.Native.Nat.{ℕ, _+_, _*_, _-_, _^_, _≤_, _<_}
-use mathlib.Core.List.{List, _++_}
-use native.Mathlib.Omega.{arith}
-use lib.ListN.{length, getD, set, take, drop}
-use lib.Bits.{bitOr}
-use Rattle.buffer.specs.Numbers.{numberOf, bytesOf}
-use Rattle.buffer.specs.Regions.{region, overwrite}
-use Rattle.buffer.proofs.Regions.{overwrite-part, length-region, byte-before}
-use Rattle.definition.specs.Paths.{kindNumber}
-use Rattle.definition.specs.Usages.{noUsages, oneUsage, addCounter, addUsagesFromNested}
-use Rattle.layout.specs.Blocks.{usagesOf, headOf}
+use Rattle.layout.specs.Blocks.{usagesOf}
 use Rattle.layout.proofs.Counted.{kinds-counted}
 use borrow.Author.Needs.{needs}
 use Rattle.layout.proofs.records.count_nested.Statement.{statement}
 use Rattle.layout.proofs.records.count_nested.Tie as tie
-use Rattle.layout.proofs.records.count_nested.Reads as reads
-use Rattle.layout.proofs.records.count_nested.Lts as lts
-use Rattle.layout.proofs.records.count_if.Reads as count-if-reads
 
 count-if-requires : tie.Need-count-if-requires
 count-if-requires c κs = search needs

@@ -1,26 +1,16 @@
-use mathlib.Core.Path.{_≡_, sym, ap, _∙_}
-use Prim.Native.Nat.{ℕ, _+_, _*_, _-_, _^_, _≤_, _<_}
-use mathlib.Core.List.{List, _++_}
+use mathlib.Core.Path.{_≡_, ap, _∙_}
+use Prim.Native.Nat.{ℕ, _*_, _^_, _<_}
+use mathlib.Core.List.{List}
 use native.Mathlib.Omega.{arith}
-use lib.ListN.{length, getD, set, take, drop}
-use lib.Bits.{bitOr}
 use Rattle.buffer.specs.Numbers.{numberOf, bytesOf}
 use Rattle.buffer.specs.Regions.{region, overwrite}
-use Rattle.buffer.proofs.Regions.{overwrite-part, length-region, byte-before}
 use Rattle.definition.specs.Paths.{kindNumber}
-use Rattle.definition.specs.Usages.{noUsages, oneUsage, addCounter, addUsagesFromNested}
-use Rattle.layout.specs.Blocks.{usagesOf, headOf}
+use Rattle.definition.specs.Usages.{addCounter}
+use Rattle.layout.specs.Blocks.{usagesOf}
 use Rattle.layout.proofs.Counted.{kind-low, counter-written}
 use borrow.Author.Needs.{needs}
 use Rattle.layout.proofs.records.count_usage.Statement.{statement}
 use Rattle.layout.proofs.records.count_usage.Tie as tie
-use Rattle.layout.proofs.records.count_usage.Reads as reads
-use Rattle.layout.proofs.records.count_usage.Lts as lts
-use Rattle.buffer.proofs.read_u64.Reads as read-u64-reads
-use Rattle.buffer.proofs.scalars.wide.Reads as wide-reads
-use Rattle.buffer.proofs.write_u64.Reads as write-u64-reads
-use Rattle.definition.proofs.paths.PathKind.number.Reads as number-reads
-use Rattle.definition.proofs.usages.count_one.Reads as count-one-reads
 
 number-requires : tie.Need-number-requires
 number-requires c κs = search needs

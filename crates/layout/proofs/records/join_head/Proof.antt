@@ -1,22 +1,16 @@
-use mathlib.Core.Path.{_≡_, sym, ap, _∙_}
-use Prim.Native.Nat.{ℕ, _+_, _*_, _-_, _^_, _≤_, _<_}
-use mathlib.Core.List.{List, _++_}
+use mathlib.Core.Path.{_≡_, ap, _∙_}
+use Prim.Native.Nat.{ℕ}
+use mathlib.Core.List.{List}
 use native.Mathlib.Omega.{arith}
-use lib.ListN.{length, getD, set, take, drop}
+use lib.ListN.{length, getD, set}
 use lib.Bits.{bitOr}
-use Rattle.buffer.specs.Numbers.{numberOf, bytesOf}
-use Rattle.buffer.specs.Regions.{region, overwrite}
+use Rattle.buffer.specs.Regions.{overwrite}
 use Rattle.buffer.proofs.Regions.{overwrite-part, length-region, byte-before}
-use Rattle.definition.specs.Paths.{kindNumber}
-use Rattle.definition.specs.Usages.{noUsages, oneUsage, addCounter, addUsagesFromNested}
-use Rattle.layout.specs.Blocks.{usagesOf, headOf}
-use Rattle.layout.proofs.Counted.{head-joined, one-more}
+use Rattle.layout.specs.Blocks.{headOf}
+use Rattle.layout.proofs.Counted.{head-joined}
 use borrow.Author.Needs.{needs}
 use Rattle.layout.proofs.records.join_head.Statement.{statement}
 use Rattle.layout.proofs.records.join_head.Tie as tie
-use Rattle.layout.proofs.records.join_head.Reads as reads
-use Rattle.layout.proofs.records.join_head.Lts as lts
-use Rattle.layout.proofs.records.count_nested.Reads as count-nested-reads
 
 sub-count-nested : tie.Need-sub-count-nested
 sub-count-nested c = search needs

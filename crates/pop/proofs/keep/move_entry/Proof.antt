@@ -5,11 +5,6 @@ use Rattle.pop.proofs.Kept.{move-none, move-room, move-apart, moved}
 use borrow.Author.Needs.{needs}
 use Rattle.pop.proofs.keep.move_entry.Statement.{statement}
 use Rattle.pop.proofs.keep.move_entry.Tie as tie
-use Rattle.pop.proofs.keep.move_entry.Reads as reads
-use Rattle.pop.proofs.keep.move_entry.Lts as lts
-use Rattle.buffer.proofs.copy_within.Reads as copy-within-reads
-use Rattle.layout.proofs.heads.copy.Reads as copy-reads
-use Rattle.layout.proofs.offsets.entry_start_from.Reads as entry-start-from-reads
 
 under : (from to : ℕ) → to ≤ from → (from ≡ to → ⊥) → to < from
 under from to le ne = omega (arith, ne)

@@ -1,22 +1,10 @@
-use mathlib.Core.Path.{_≡_, refl, sym, ap, _∙_}
+use mathlib.Core.Path.{sym, ap, _∙_}
 use mathlib.Core.Bool.{Bool}
-use borrow.Author.Tests.{not-true}
-use mathlib.Core.List.{List}
-use Prim.Native.Nat.{ℕ}
-use Rattle.definition.specs.Usages.{oneUsage}
-use Rattle.layout.specs.Blocks.{usagesOf}
 use Rattle.layout.specs.Frame.{frameOf}
-use Rattle.layout.proofs.Counted.{one-more}
-use Rattle.stack.specs.Child.{cycleHead, insertOwn, finishNested}
-use Rattle.stack.proofs.Parts.{part}
-use Rattle.stack.proofs.Child as frames
+use Rattle.stack.specs.Child.{insertOwn, finishNested}
 use borrow.Author.Needs.{needs}
 use Rattle.stack.proofs.frame.child.add_evaluated.Statement.{statement}
 use Rattle.stack.proofs.frame.child.add_evaluated.Tie as tie
-use Rattle.stack.proofs.frame.child.add_evaluated.Reads as reads
-use Rattle.stack.proofs.frame.child.add_evaluated.Lts as lts
-use Rattle.stack.proofs.frame.child.insert_itself.Reads as insert-itself-reads
-use Rattle.stack.proofs.frame.child.reach.Reads as reach-reads
 
 reach-requires : tie.Need-reach-requires
 reach-requires c κs = search needs

@@ -1,23 +1,7 @@
-use mathlib.Core.Path.{_≡_, refl, sym, ap, _∙_}
-use mathlib.Core.Bool.{Bool}
-use borrow.Author.Tests.{not-true}
-use mathlib.Core.List.{List}
-use Prim.Native.Nat.{ℕ}
-use Rattle.definition.specs.Usages.{oneUsage}
-use Rattle.layout.specs.Blocks.{usagesOf}
-use Rattle.layout.specs.Frame.{frameOf}
-use Rattle.layout.proofs.Counted.{one-more}
-use Rattle.stack.specs.Child.{cycleHead, insertOwn, finishNested}
-use Rattle.stack.proofs.Parts.{part}
 use Rattle.stack.proofs.Child as frames
 use borrow.Author.Needs.{needs}
 use Rattle.stack.proofs.frame.child.become_head.Statement.{statement}
 use Rattle.stack.proofs.frame.child.become_head.Tie as tie
-use Rattle.stack.proofs.frame.child.become_head.Reads as reads
-use Rattle.stack.proofs.frame.child.become_head.Lts as lts
-use Rattle.definition.proofs.usages.HeadUsages.none.Reads as none-reads
-use Rattle.layout.proofs.records.write_usages.Reads as write-usages-reads
-use Rattle.stack.proofs.frame.is_head.Reads as is-head-reads
 
 is-head-requires : tie.Need-is-head-requires
 is-head-requires c κs = search needs

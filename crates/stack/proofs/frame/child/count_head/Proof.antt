@@ -1,23 +1,10 @@
-use mathlib.Core.Path.{_≡_, refl, sym, ap, _∙_}
-use mathlib.Core.Bool.{Bool}
-use borrow.Author.Tests.{not-true}
-use mathlib.Core.List.{List}
-use Prim.Native.Nat.{ℕ}
-use Rattle.definition.specs.Usages.{oneUsage}
-use Rattle.layout.specs.Blocks.{usagesOf}
+use mathlib.Core.Path.{refl}
 use Rattle.layout.specs.Frame.{frameOf}
-use Rattle.layout.proofs.Counted.{one-more}
-use Rattle.stack.specs.Child.{cycleHead, insertOwn, finishNested}
-use Rattle.stack.proofs.Parts.{part}
+use Rattle.stack.specs.Child.{cycleHead}
 use Rattle.stack.proofs.Child as frames
 use borrow.Author.Needs.{needs}
 use Rattle.stack.proofs.frame.child.count_head.Statement.{statement}
 use Rattle.stack.proofs.frame.child.count_head.Tie as tie
-use Rattle.stack.proofs.frame.child.count_head.Reads as reads
-use Rattle.stack.proofs.frame.child.count_head.Lts as lts
-use Rattle.stack.proofs.frame.child.count_itself.Reads as count-itself-reads
-use Rattle.stack.proofs.frame.child.count_joined.Reads as count-joined-reads
-use Rattle.stack.proofs.frame.child.count_tracked.Reads as count-tracked-reads
 
 count-tracked-requires : tie.Need-count-tracked-requires
 count-tracked-requires c κs = search needs

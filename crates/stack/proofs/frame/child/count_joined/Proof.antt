@@ -1,23 +1,9 @@
-use mathlib.Core.Path.{_≡_, refl, sym, ap, _∙_}
-use mathlib.Core.Bool.{Bool}
-use borrow.Author.Tests.{not-true}
-use mathlib.Core.List.{List}
-use Prim.Native.Nat.{ℕ}
-use Rattle.definition.specs.Usages.{oneUsage}
-use Rattle.layout.specs.Blocks.{usagesOf}
-use Rattle.layout.specs.Frame.{frameOf}
-use Rattle.layout.proofs.Counted.{one-more}
-use Rattle.stack.specs.Child.{cycleHead, insertOwn, finishNested}
-use Rattle.stack.proofs.Parts.{part}
+use mathlib.Core.Path.{_∙_}
+use Rattle.stack.specs.Child.{cycleHead}
 use Rattle.stack.proofs.Child as frames
 use borrow.Author.Needs.{needs}
 use Rattle.stack.proofs.frame.child.count_joined.Statement.{statement}
 use Rattle.stack.proofs.frame.child.count_joined.Tie as tie
-use Rattle.stack.proofs.frame.child.count_joined.Reads as reads
-use Rattle.stack.proofs.frame.child.count_joined.Lts as lts
-use Rattle.definition.proofs.paths.PathKind.flag.Reads as flag-reads
-use Rattle.layout.proofs.heads.insert_used.Reads as insert-used-reads
-use Rattle.layout.proofs.offsets.candidate_start.Reads as candidate-start-reads
 
 candidate-start-requires : tie.Need-candidate-start-requires
 candidate-start-requires c κs = search needs

@@ -1,24 +1,10 @@
-use mathlib.Core.Path.{_≡_, refl, sym, ap, _∙_}
-use mathlib.Core.Bool.{Bool}
 use borrow.Author.Tests.{not-true}
-use mathlib.Core.List.{List}
-use Prim.Native.Nat.{ℕ}
 use Rattle.definition.specs.Usages.{oneUsage}
-use Rattle.layout.specs.Blocks.{usagesOf}
 use Rattle.layout.specs.Frame.{frameOf}
-use Rattle.layout.proofs.Counted.{one-more}
-use Rattle.stack.specs.Child.{cycleHead, insertOwn, finishNested}
-use Rattle.stack.proofs.Parts.{part}
 use Rattle.stack.proofs.Child as frames
 use borrow.Author.Needs.{needs}
 use Rattle.stack.proofs.frame.child.count_tracked.Statement.{statement}
 use Rattle.stack.proofs.frame.child.count_tracked.Tie as tie
-use Rattle.stack.proofs.frame.child.count_tracked.Reads as reads
-use Rattle.stack.proofs.frame.child.count_tracked.Lts as lts
-use Rattle.layout.proofs.candidate.count.Reads as count-reads
-use Rattle.layout.proofs.offsets.candidate_start.Reads as candidate-start-reads
-use Rattle.layout.proofs.offsets.nested_start.Reads as nested-start-reads
-use Rattle.stack.proofs.frame.tracks.Reads as tracks-reads
 
 tracks-requires : tie.Need-tracks-requires
 tracks-requires c κs = search needs

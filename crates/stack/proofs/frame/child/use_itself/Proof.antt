@@ -1,22 +1,8 @@
-use mathlib.Core.Path.{_≡_, refl, sym, ap, _∙_}
-use mathlib.Core.Bool.{Bool}
-use borrow.Author.Tests.{not-true}
-use mathlib.Core.List.{List}
-use Prim.Native.Nat.{ℕ}
-use Rattle.definition.specs.Usages.{oneUsage}
-use Rattle.layout.specs.Blocks.{usagesOf}
-use Rattle.layout.specs.Frame.{frameOf}
-use Rattle.layout.proofs.Counted.{one-more}
-use Rattle.stack.specs.Child.{cycleHead, insertOwn, finishNested}
-use Rattle.stack.proofs.Parts.{part}
+use mathlib.Core.Path.{_∙_}
 use Rattle.stack.proofs.Child as frames
 use borrow.Author.Needs.{needs}
 use Rattle.stack.proofs.frame.child.use_itself.Statement.{statement}
 use Rattle.stack.proofs.frame.child.use_itself.Tie as tie
-use Rattle.stack.proofs.frame.child.use_itself.Reads as reads
-use Rattle.stack.proofs.frame.child.use_itself.Lts as lts
-use Rattle.layout.proofs.records.count_nested.Reads as count-nested-reads
-use Rattle.stack.proofs.frame.child.become_head.Reads as become-head-reads
 
 become-head-requires : tie.Need-become-head-requires
 become-head-requires c κs = search needs
