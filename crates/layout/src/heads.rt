@@ -87,7 +87,8 @@ pub fn insert(b: &mut [u8], goals: usize, i: usize, paths: u8, usages: HeadUsage
 // The same of a head that is used once.
 pub fn insert_used(b: &mut [u8], goals: usize, i: usize, paths: u8, kind: PathKind)
     requires { ⌜ HeadsBlock goals (now b) × (i < goals) ⌝ }
-    ensures { λ _. ⌜ headsOf goals (now (b .exit)) ≡ insertHead (headsOf goals (now (b .entry))) i paths (oneUsage kind) ⌝ }
+    ensures { λ _. ⌜ headsOf goals (now (b .exit))
+        ≡ insertHead (headsOf goals (now (b .entry))) i paths (oneUsage kind) ⌝ }
 {
     if has(b, goals, i) {
         let a = 8 + i * 33;

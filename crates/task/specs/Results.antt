@@ -20,8 +20,8 @@ use Rattle.evaluation.specs.Outcomes.{outcomeOf, taskOutcomeOf, FewEntries}
 -- the parent learns what the goal came to; the goal's frame is as before
 abbrev pub ParentUpdated : ℕ → ℕ → PathKind → Bool → ℕ → List ℕ → List ℕ → Type 0
 ParentUpdated goals height step overflow reached old new =
-    Updated goals height step ((frameAt goals height old) .heads) overflow (Ordinary (nestedAt goals height old)) reached
-    old new
+    Updated goals height step ((frameAt goals height old) .heads) overflow (Ordinary (nestedAt goals height old))
+    reached old new
 
 -- the result goes to the global cache, which becomes `cacheAfter`
 pub record InGlobalCache (h : Header) (height n goal : ℕ) (overflow : Bool) (answer : Answer) (passes : ℕ)
