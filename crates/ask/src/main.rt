@@ -2,12 +2,12 @@
 // input, and prints a line for each. Started with an argument (`ask passes`) it prints one
 // number more: how often the goal's part was run for the answer.
 ghost use Rattle.std.specs.Prelude.{◌≡◌};
-ghost use Rattle.definition.specs.Reader.{readBook};
+ghost use Rattle.definition.specs.Reader.{read_book};
 ghost use Rattle.definition.specs.Query.{query};
 ghost use Rattle.query.specs.Carried.{Carried};
-ghost use Rattle.question.specs.Lines.{readQuestion};
+ghost use Rattle.question.specs.Lines.{read_question};
 ghost use Rattle.ask.specs.declared.Opened.TheVariants.{Open};
-ghost use Rattle.ask.specs.Program.{openedWith, opened, replied, turned, turn, passesAsked, Lent, Ready};
+ghost use Rattle.ask.specs.Program.{opened_with, opened, replied, turned, turn, passes_asked, Lent, Ready};
 
 use book::BookRead;
 use definition::format::Header;
@@ -33,7 +33,7 @@ const MOST_GOALS: usize = 16;
 // ---- what is read, and what is printed for it
 
 fn opened_with(h: Header) -> Opened
-    ensures { result ≡ openedWith h }
+    ensures { result ≡ opened_with h }
 {
     if MOST_GOALS < h.goals {
         return Opened::Closed(Ending::TooManyGoals);
@@ -42,7 +42,7 @@ fn opened_with(h: Header) -> Opened
 }
 
 fn open(book: &[u8]) -> Opened
-    ensures { result ≡ opened (readBook book.now) }
+    ensures { result ≡ opened (read_book book.now) }
 {
     let mut starts = [0u16; 64];
     let read = book::read(book, &mut starts);
@@ -85,7 +85,7 @@ fn answer_line(book: &[u8], cache: &mut [u8], work: &mut [u8], line: &[u8]) -> T
 
 // How often the part of the goal that a question line asks was run for the answer, after it.
 fn passes(book: &[u8], cache: &[u8], line: &[u8]) -> u8
-    ensures { result ≡ passesAsked book.now cache.now (readQuestion line.now) }
+    ensures { result ≡ passes_asked book.now cache.now (read_question line.now) }
 {
     let read = question::read_question(line);
     let Question::Asked(goal, depth) = read else {
@@ -150,7 +150,7 @@ fn ask(book: &[u8], cache: &mut [u8], work: &mut [u8], shows: bool)
 
 // Answers all questions, with a cache and a workspace for the book.
 fn ask_book(book: &[u8], h: Header, shows: bool)
-    requires { opened (readBook book.now) ≡ Open h }
+    requires { opened (read_book book.now) ≡ Open h }
 {
     let goals = h.goals;
     let mut caches = io::large_buffer();

@@ -17,26 +17,26 @@ pairwise f [] ys = []
 pairwise f (x ∷ xs) [] = []
 pairwise f (x ∷ xs) (y ∷ ys) = f x y ∷ pairwise f xs ys
 
-abbrev pub andNot : Bool → Bool → Bool
-andNot x true = false
-andNot x false = x
+abbrev pub and_not : Bool → Bool → Bool
+and_not x true = false
+and_not x false = x
 
-abbrev pub nextPlace : Option ℕ → Option ℕ
-nextPlace none = none
-nextPlace (some i) = some (suc i)
+abbrev pub next_place : Option ℕ → Option ℕ
+next_place none = none
+next_place (some i) = some (suc i)
 
 -- the first flag that is set
-unfoldable pub firstPlace : List Bool → Option ℕ
-firstPlace [] = none
-firstPlace (true ∷ xs) = some 0
-firstPlace (false ∷ xs) = nextPlace (firstPlace xs)
+unfoldable pub first_place : List Bool → Option ℕ
+first_place [] = none
+first_place (true ∷ xs) = some 0
+first_place (false ∷ xs) = next_place (first_place xs)
 
 -- the last flag that is set
-unfoldable pub lastPlace : List Bool → Option ℕ
-lastPlace [] = none
-lastPlace (true ∷ xs) = elim (lastPlace xs) [ none ↦ some 0 | some i ↦ some (suc i) ]
-lastPlace (false ∷ xs) = nextPlace (lastPlace xs)
+unfoldable pub last_place : List Bool → Option ℕ
+last_place [] = none
+last_place (true ∷ xs) = elim (last_place xs) [ none ↦ some 0 | some i ↦ some (suc i) ]
+last_place (false ∷ xs) = next_place (last_place xs)
 
-abbrev pub placeOr : ℕ → Option ℕ → ℕ
-placeOr d none = d
-placeOr d (some i) = i
+abbrev pub place_or : ℕ → Option ℕ → ℕ
+place_or d none = d
+place_or d (some i) = i

@@ -1,18 +1,18 @@
 // Masks of 64 bits: sets of places. A contract speaks of a mask's flags, the lowest
 // bit first.
 ghost use Rattle.std.specs.Prelude.{◌≡◌, true, false, ◌++◌, ◌-◌, ◌<◌, get_or, set, take, replicate};
-ghost use Rattle.bits.specs.Masks.{flags, firstPlace, lastPlace, placeOr};
+ghost use Rattle.bits.specs.Masks.{flags, first_place, last_place, place_or};
 
 // The lowest place, or 64 where there is none.
 pub fn lowest(m: u64) -> usize
-    ensures { result ≡ placeOr 64 (firstPlace (flags 64 m)) }
+    ensures { result ≡ place_or 64 (first_place (flags 64 m)) }
 {
     u64::trailing_zeros(m) as usize
 }
 
 // The highest place, or 0 where there is none.
 pub fn highest(m: u64) -> usize
-    ensures { result ≡ placeOr 0 (lastPlace (flags 64 m)) }
+    ensures { result ≡ place_or 0 (last_place (flags 64 m)) }
 {
     (63 - u64::leading_zeros(m | 1)) as usize
 }
@@ -57,7 +57,7 @@ pub fn below(m: u64, i: usize) -> u64
 // All places but the lowest.
 pub fn without_lowest(m: u64) -> u64
     requires { 0 < m }
-    ensures { (flags 64 result ≡ set (flags 64 m) (placeOr 64 (firstPlace (flags 64 m))) false) × (result < m) }
+    ensures { (flags 64 result ≡ set (flags 64 m) (place_or 64 (first_place (flags 64 m))) false) × (result < m) }
 {
     m & (m - 1)
 }

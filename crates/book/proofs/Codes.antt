@@ -10,71 +10,71 @@ use borrow.Author.Tests.{ne_eqb}
 use types.Run.{OneOf, miss}
 use denote.Enum.Declared.{tag_of}
 use Rattle.definition.specs.declared.format.Line.{Line}
-use Rattle.definition.specs.Reader.{TakenPart, readCall, readUndecided, read_node, readPick, readByCode}
+use Rattle.definition.specs.Reader.{TakenPart, read_call, read_undecided, read_node, read_pick, read_by_code}
 use Rattle.book.specs.declared.code.Op.TheVariants as kinds
 use Rattle.book.specs.declared.code.Code.{Code}
 use Rattle.book.specs.declared.code.Code.TheVariants as codes
-use Rattle.book.specs.Codes.{code_of, op_of, countBelow}
+use Rattle.book.specs.Codes.{code_of, op_of, count_below}
 use Rattle.book.specs.contracts.code.Code.{the_type}
 
-abbrev pub isGoal : Code → Bool
-isGoal codes.Goal = true
-isGoal codes.Call = false
-isGoal (codes.Group op) = false
-isGoal codes.Pick = false
-isGoal codes.Undecided = false
-isGoal codes.Unknown = false
+abbrev pub is_goal : Code → Bool
+is_goal codes.Goal = true
+is_goal codes.Call = false
+is_goal (codes.Group op) = false
+is_goal codes.Pick = false
+is_goal codes.Undecided = false
+is_goal codes.Unknown = false
 
 module _ (goals : ℕ) (p : Bool) (inner : Bool → List Line → Option TakenPart) (l : Line) (ls : List Line) where
-  abbrev pub readAs : Code → Option TakenPart
-  readAs codes.Goal = none
-  readAs codes.Call = readCall goals l ls
-  readAs (codes.Group op) = read_node (op_of op) (inner p) l ls
-  readAs codes.Pick = readPick p (inner true) l ls
-  readAs codes.Undecided = readUndecided l ls
-  readAs codes.Unknown = none
+  abbrev pub read_as : Code → Option TakenPart
+  read_as codes.Goal = none
+  read_as codes.Call = read_call goals l ls
+  read_as (codes.Group op) = read_node (op_of op) (inner p) l ls
+  read_as codes.Pick = read_pick p (inner true) l ls
+  read_as codes.Undecided = read_undecided l ls
+  read_as codes.Unknown = none
 
-  pub read_as : (n : ℕ) → readByCode goals n p inner l ls ≡ readAs (code_of n)
-  read_as zero = refl
-  read_as (suc zero) = refl
-  read_as (suc (suc zero)) = refl
-  read_as (suc (suc (suc zero))) = refl
-  read_as (suc (suc (suc (suc zero)))) = refl
-  read_as (suc (suc (suc (suc (suc zero))))) = refl
-  read_as (suc (suc (suc (suc (suc (suc zero)))))) = refl
-  read_as (suc (suc (suc (suc (suc (suc (suc n))))))) = refl
+  pub read_as_lem : (n : ℕ) → read_by_code goals n p inner l ls ≡ read_as (code_of n)
+  read_as_lem zero = refl
+  read_as_lem (suc zero) = refl
+  read_as_lem (suc (suc zero)) = refl
+  read_as_lem (suc (suc (suc zero))) = refl
+  read_as_lem (suc (suc (suc (suc zero)))) = refl
+  read_as_lem (suc (suc (suc (suc (suc zero))))) = refl
+  read_as_lem (suc (suc (suc (suc (suc (suc zero)))))) = refl
+  read_as_lem (suc (suc (suc (suc (suc (suc (suc n))))))) = refl
 
 -- a goal's line has the code 1, and no other line
-pub goal-number : (n : ℕ) → eqb n 1 ≡ isGoal (code_of n)
-goal-number zero = refl
-goal-number (suc zero) = refl
-goal-number (suc (suc zero)) = refl
-goal-number (suc (suc (suc zero))) = refl
-goal-number (suc (suc (suc (suc zero)))) = refl
-goal-number (suc (suc (suc (suc (suc zero))))) = refl
-goal-number (suc (suc (suc (suc (suc (suc zero)))))) = refl
-goal-number (suc (suc (suc (suc (suc (suc (suc n))))))) =
+pub goal_number : (n : ℕ) → eqb n 1 ≡ is_goal (code_of n)
+goal_number zero = refl
+goal_number (suc zero) = refl
+goal_number (suc (suc zero)) = refl
+goal_number (suc (suc (suc zero))) = refl
+goal_number (suc (suc (suc (suc zero)))) = refl
+goal_number (suc (suc (suc (suc (suc zero))))) = refl
+goal_number (suc (suc (suc (suc (suc (suc zero)))))) = refl
+goal_number (suc (suc (suc (suc (suc (suc (suc n))))))) =
     ne_eqb (suc (suc (suc (suc (suc (suc (suc n))))))) 1 (λ e. omega arith)
 
 -- a known code's number
-abbrev pub codeNumber : Code → ℕ
-codeNumber codes.Goal = 1
-codeNumber codes.Call = 2
-codeNumber (codes.Group kinds.All) = 3
-codeNumber (codes.Group kinds.Any) = 4
-codeNumber codes.Pick = 5
-codeNumber codes.Undecided = 6
-codeNumber codes.Unknown = 0
+abbrev pub code_number : Code → ℕ
+code_number codes.Goal = 1
+code_number codes.Call = 2
+code_number (codes.Group kinds.All) = 3
+code_number (codes.Group kinds.Any) = 4
+code_number codes.Pick = 5
+code_number codes.Undecided = 6
+code_number codes.Unknown = 0
 
-pub code-number : (n : ℕ) → (code_of n ≡ codes.Unknown → ⊥) → codeNumber (code_of n) ≡ n
-code-number zero h = refl
-code-number (suc zero) h = refl
-code-number (suc (suc zero)) h = refl
-code-number (suc (suc (suc zero))) h = refl
-code-number (suc (suc (suc (suc zero)))) h = refl
-code-number (suc (suc (suc (suc (suc zero))))) h = refl
-code-number (suc (suc (suc (suc (suc (suc zero)))))) h = refl
-code-number (suc (suc (suc (suc (suc (suc (suc n))))))) h = absurd (h refl)
+pub code_number_lem : (n : ℕ) → (code_of n ≡ codes.Unknown → ⊥) → code_number (code_of n) ≡ n
+code_number_lem zero h = refl
+code_number_lem (suc zero) h = refl
+code_number_lem (suc (suc zero)) h = refl
+code_number_lem (suc (suc (suc zero))) h = refl
+code_number_lem (suc (suc (suc (suc zero)))) h = refl
+code_number_lem (suc (suc (suc (suc (suc zero))))) h = refl
+code_number_lem (suc (suc (suc (suc (suc (suc zero)))))) h = refl
+code_number_lem (suc (suc (suc (suc (suc (suc (suc n))))))) h = absurd (h refl)
 
 -- any other number, which is none of these
 pub no_code : (n : ℕ) → (n ≡ 1 → ⊥) → (n ≡ 2 → ⊥) → (n ≡ 3 → ⊥) → (n ≡ 4 → ⊥) → (n ≡ 5 → ⊥) → (n ≡ 6 → ⊥)
@@ -89,18 +89,18 @@ no_code (suc (suc (suc (suc (suc (suc zero)))))) a b c d e f = absurd (f refl)
 no_code (suc (suc (suc (suc (suc (suc (suc n))))))) a b c d e f = refl
 
 -- a known code has one digit
-pub known-digit : (n : ℕ) → (code_of n ≡ codes.Unknown → ⊥) → n ≤ 6
-known-digit zero h = omega arith
-known-digit (suc zero) h = omega arith
-known-digit (suc (suc zero)) h = omega arith
-known-digit (suc (suc (suc zero))) h = omega arith
-known-digit (suc (suc (suc (suc zero)))) h = omega arith
-known-digit (suc (suc (suc (suc (suc zero))))) h = omega arith
-known-digit (suc (suc (suc (suc (suc (suc zero)))))) h = omega arith
-known-digit (suc (suc (suc (suc (suc (suc (suc n))))))) h = absurd (h refl)
+pub known_digit : (n : ℕ) → (code_of n ≡ codes.Unknown → ⊥) → n ≤ 6
+known_digit zero h = omega arith
+known_digit (suc zero) h = omega arith
+known_digit (suc (suc zero)) h = omega arith
+known_digit (suc (suc (suc zero))) h = omega arith
+known_digit (suc (suc (suc (suc zero)))) h = omega arith
+known_digit (suc (suc (suc (suc (suc zero))))) h = omega arith
+known_digit (suc (suc (suc (suc (suc (suc zero)))))) h = omega arith
+known_digit (suc (suc (suc (suc (suc (suc (suc n))))))) h = absurd (h refl)
 
 -- parts stand below a group and a pick, which are variants 2 and 3, and below no other line
-pub some_below : (code : Code) (n : ℕ) → OneOf (2 ∷ 3 ∷ []) (tag_of the_type code) → countBelow code n ≡ n
+pub some_below : (code : Code) (n : ℕ) → OneOf (2 ∷ 3 ∷ []) (tag_of the_type code) → count_below code n ≡ n
 some_below codes.Goal n k = absurd (miss (2 ∷ 3 ∷ []) 0 tt k)
 some_below codes.Call n k = absurd (miss (2 ∷ 3 ∷ []) 1 tt k)
 some_below (codes.Group op) n k = refl
@@ -108,7 +108,7 @@ some_below codes.Pick n k = refl
 some_below codes.Undecided n k = absurd (miss (2 ∷ 3 ∷ []) 4 tt k)
 some_below codes.Unknown n k = absurd (miss (2 ∷ 3 ∷ []) 5 tt k)
 
-pub none_below : (code : Code) (n : ℕ) → OneOf (0 ∷ 1 ∷ 4 ∷ 5 ∷ []) (tag_of the_type code) → countBelow code n ≡ 0
+pub none_below : (code : Code) (n : ℕ) → OneOf (0 ∷ 1 ∷ 4 ∷ 5 ∷ []) (tag_of the_type code) → count_below code n ≡ 0
 none_below codes.Goal n k = refl
 none_below codes.Call n k = refl
 none_below (codes.Group op) n k = absurd (miss (0 ∷ 1 ∷ 4 ∷ 5 ∷ []) 2 tt k)

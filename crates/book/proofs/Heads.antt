@@ -7,65 +7,65 @@ use borrow.Author.Tests.{leb-true, le-leb, lt-leb, eq-eqb, ne_eqb}
 use Rattle.definition.specs.declared.format.Line.{Line}
 use Rattle.definition.specs.declared.paths.PathKind.TheVariants.{ForcedAmbiguity}
 use Rattle.definition.specs.Paths.{kind_of}
-use Rattle.definition.specs.Reader.{headerInRange, headerOf, lengthInRange}
+use Rattle.definition.specs.Reader.{header_in_range, header_of, length_in_range}
 use Rattle.book.specs.Read.{HeaderInRange}
 
-pub other-kind : (n : ℕ) → (n ≡ 0 → ⊥) → (n ≡ 1 → ⊥) → (n ≡ 2 → ⊥) → ForcedAmbiguity ≡ kind_of n
-other-kind zero a b c = absurd (a refl)
-other-kind (suc zero) a b c = absurd (b refl)
-other-kind (suc (suc zero)) a b c = absurd (c refl)
-other-kind (suc (suc (suc n))) a b c = refl
+pub other_kind : (n : ℕ) → (n ≡ 0 → ⊥) → (n ≡ 1 → ⊥) → (n ≡ 2 → ⊥) → ForcedAmbiguity ≡ kind_of n
+other_kind zero a b c = absurd (a refl)
+other_kind (suc zero) a b c = absurd (b refl)
+other_kind (suc (suc zero)) a b c = absurd (c refl)
+other_kind (suc (suc (suc n))) a b c = refl
 
 -- ---- the length
 module _ (n : ℕ) where
-  pub no_lines : (n % 16 ≡ 0 → ⊥) → false ≡ lengthInRange n
+  pub no_lines : (n % 16 ≡ 0 → ⊥) → false ≡ length_in_range n
   no_lines h = rw (ne_eqb (n % 16) 0 h)
 
-  pub short-book : n % 16 ≡ 0 → n < 48 → false ≡ lengthInRange n
-  short-book a h = rw (eq-eqb (n % 16) 0 a, lt-leb 48 n h)
+  pub short_book : n % 16 ≡ 0 → n < 48 → false ≡ length_in_range n
+  short_book a h = rw (eq-eqb (n % 16) 0 a, lt-leb 48 n h)
 
-  pub long-book : n % 16 ≡ 0 → 48 ≤ n → leb n 16000 ≡ lengthInRange n
-  long-book a b = rw (eq-eqb (n % 16) 0 a, le-leb 48 n b)
+  pub long_book : n % 16 ≡ 0 → 48 ≤ n → leb n 16000 ≡ length_in_range n
+  long_book a b = rw (eq-eqb (n % 16) 0 a, le-leb 48 n b)
 
 -- ---- the header
 module _ (l : Line) where
-  pub code_out : 1 < l.code → false ≡ headerInRange l
+  pub code_out : 1 < l.code → false ≡ header_in_range l
   code_out h = rw (lt-leb l.code 1 h)
 
   module _ (a : l.code ≤ 1) where
-    pub no-goals : l.first < 1 → false ≡ headerInRange l
-    no-goals h = rw (le-leb l.code 1 a, lt-leb 1 l.first h)
+    pub no_goals_lem : l.first < 1 → false ≡ header_in_range l
+    no_goals_lem h = rw (le-leb l.code 1 a, lt-leb 1 l.first h)
 
     module _ (b : 1 ≤ l.first) where
-      pub many_goals : 64 < l.first → false ≡ headerInRange l
+      pub many_goals : 64 < l.first → false ≡ header_in_range l
       many_goals h = rw (le-leb l.code 1 a, le-leb 1 l.first b, lt-leb l.first 64 h)
 
       module _ (c : l.first ≤ 64) where
-        pub top-out : 63 < l.second → false ≡ headerInRange l
-        top-out h = rw (le-leb l.code 1 a, le-leb 1 l.first b, le-leb l.first 64 c, lt-leb l.second 63 h)
+        pub top_out : 63 < l.second → false ≡ header_in_range l
+        top_out h = rw (le-leb l.code 1 a, le-leb 1 l.first b, le-leb l.first 64 c, lt-leb l.second 63 h)
 
         module _ (d : l.second ≤ 63) where
-          pub limit-out : 99 < l.third → false ≡ headerInRange l
-          limit-out h = rw (le-leb l.code 1 a, le-leb 1 l.first b, le-leb l.first 64 c, le-leb l.second 63 d, lt-leb l.third 99 h)
+          pub limit_out : 99 < l.third → false ≡ header_in_range l
+          limit_out h = rw (le-leb l.code 1 a, le-leb 1 l.first b, le-leb l.first 64 c, le-leb l.second 63 d, lt-leb l.third 99 h)
 
           module _ (e : l.third ≤ 99) where
-            pub no-divisor : l.fourth < 1 → false ≡ headerInRange l
-            no-divisor h = rw (le-leb l.code 1 a, le-leb 1 l.first b, le-leb l.first 64 c, le-leb l.second 63 d, le-leb l.third 99 e, lt-leb 1 l.fourth h)
+            pub no_divisor : l.fourth < 1 → false ≡ header_in_range l
+            no_divisor h = rw (le-leb l.code 1 a, le-leb 1 l.first b, le-leb l.first 64 c, le-leb l.second 63 d, le-leb l.third 99 e, lt-leb 1 l.fourth h)
 
-            pub divisor-left : 1 ≤ l.fourth → leb l.fourth 99 ≡ headerInRange l
-            divisor-left h = rw (le-leb l.code 1 a, le-leb 1 l.first b, le-leb l.first 64 c, le-leb l.second 63 d, le-leb l.third 99 e, le-leb 1 l.fourth h)
+            pub divisor_left : 1 ≤ l.fourth → leb l.fourth 99 ≡ header_in_range l
+            divisor_left h = rw (le-leb l.code 1 a, le-leb 1 l.first b, le-leb l.first 64 c, le-leb l.second 63 d, le-leb l.third 99 e, le-leb 1 l.fourth h)
 
 -- what its tests say
-pub in-range : (l : Line) → headerInRange l ≡ true → HeaderInRange (headerOf l)
-in-range l e =
+pub in_range : (l : Line) → header_in_range l ≡ true → HeaderInRange (header_of l)
+in_range l e =
     let t = tests (leb l.code 1) (leb 1 l.first) (leb l.first 64) (leb l.second 63) (leb l.third 99) (leb 1 l.fourth) (leb l.fourth 99) e in
     record {
-      some-goals = leb-true 1 l.first t.0;
-      few-goals = leb-true l.first 64 t.1.0;
-      top-fits = leb-true l.second 63 t.1.1.0;
-      limit-fits = leb-true l.third 99 t.1.1.1.0;
+      some_goals = leb-true 1 l.first t.0;
+      few_goals = leb-true l.first 64 t.1.0;
+      top_fits = leb-true l.second 63 t.1.1.0;
+      limit_fits = leb-true l.third 99 t.1.1.1.0;
       divides = leb-true 1 l.fourth t.1.1.1.1.0;
-      divisor-fits = leb-true l.fourth 99 t.1.1.1.1.1;
+      divisor_fits = leb-true l.fourth 99 t.1.1.1.1.1;
     }
   where
     tests : (a b c d e f g : Bool) → a && b && c && d && e && f && g ≡ true → (b ≡ true) × ((c ≡ true) × ((d ≡ true) × ((e ≡ true) × ((f ≡ true) × (g ≡ true)))))

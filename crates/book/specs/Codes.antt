@@ -23,13 +23,13 @@ code_of (suc (suc (suc (suc (suc (suc zero)))))) = Undecided
 code_of (suc (suc (suc (suc (suc (suc (suc n))))))) = Unknown
 
 -- how many parts stand below a part's first line: n, where it starts a group or a pick
-abbrev pub countBelow : Code → ℕ → ℕ
-countBelow Goal n = 0
-countBelow Call n = 0
-countBelow (Group op) n = n
-countBelow Pick n = n
-countBelow Undecided n = 0
-countBelow Unknown n = 0
+abbrev pub count_below : Code → ℕ → ℕ
+count_below Goal n = 0
+count_below Call n = 0
+count_below (Group op) n = n
+count_below Pick n = n
+count_below Undecided n = 0
+count_below Unknown n = 0
 
-abbrev pub partsBelow : Line → ℕ
-partsBelow l = countBelow (code_of l.code) l.first
+abbrev pub parts_below : Line → ℕ
+parts_below l = count_below (code_of l.code) l.first

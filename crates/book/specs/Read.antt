@@ -8,12 +8,12 @@ use Rattle.definition.specs.Reader.{TakenGoals}
 use Rattle.definition.specs.Reader as reader
 use Rattle.book.specs.declared.BookRead.{BookRead}
 use Rattle.book.specs.declared.BookRead.TheVariants.{Accepted, Rejected}
-use Rattle.book.specs.Parts.{partIn, Reads}
+use Rattle.book.specs.Parts.{part_in, Reads}
 
 -- the book's header, or the refusal
-abbrev pub headerRead : reader.BookRead → BookRead
-headerRead (reader.Accepted b) = Accepted b.header
-headerRead (reader.Rejected r) = Rejected r
+abbrev pub header_read : reader.BookRead → BookRead
+header_read (reader.Accepted b) = Accepted b.header
+header_read (reader.Rejected r) = Rejected r
 
 -- ---- the places of the goals' parts
 
@@ -21,7 +21,7 @@ headerRead (reader.Rejected r) = Rejected r
 pub record GoalStarts (goals : ℕ) (parts : List Part) (book : List ℕ) (goal place : ℕ) : Type 0 where
   pub within : place ≤ length book
   pub reads : Reads goals false (drop place book)
-  pub part : part_at parts goal ≡ some (partIn goals false (drop place book))
+  pub part : part_at parts goal ≡ some (part_in goals false (drop place book))
 
 abbrev pub Started : ℕ → List Part → List ℕ → List ℕ → Type 0
 Started goals parts book starts = (goal : ℕ) → goal < goals → GoalStarts goals parts book goal (get_or starts goal 0)
@@ -34,43 +34,43 @@ StartedIf (reader.Rejected r) book starts = Unit {0}
 -- ---- the body
 
 -- every goal has its part, and no line is left
-abbrev pub noLine : List Line → Bool
-noLine [] = true
-noLine (l ∷ ls) = false
+abbrev pub no_line : List Line → Bool
+no_line [] = true
+no_line (l ∷ ls) = false
 
-abbrev pub wholeBody : Option TakenGoals → Bool
-wholeBody none = false
-wholeBody (some t) = noLine t.rest
+abbrev pub whole_body : Option TakenGoals → Bool
+whole_body none = false
+whole_body (some t) = no_line t.rest
 
 abbrev pub StartedBy : Option TakenGoals → ℕ → List ℕ → List ℕ → Type 0
 StartedBy none goals book starts = Unit {0}
 StartedBy (some t) goals book starts = Started goals t.parts book starts
 
 -- ---- a book that was accepted
-abbrev pub bookOr : reader.BookRead → Book
-bookOr (reader.Accepted b) = b
-bookOr (reader.Rejected r) =
+abbrev pub book_or : reader.BookRead → Book
+book_or (reader.Accepted b) = b
+book_or (reader.Rejected r) =
     record { header = record { provisional = false; goals = 0; top = 0; limit = 0; divisor = 0 }; parts = [] }
 
 -- the book that bytes say
-unfoldable pub bookIn : List ℕ → Book
-bookIn bytes = bookOr (reader.readBook bytes)
+unfoldable pub book_in : List ℕ → Book
+book_in bytes = book_or (reader.read_book bytes)
 
 -- they do say one
 abbrev pub IsAccepted : List ℕ → Type 0
-IsAccepted bytes = reader.readBook bytes ≡ reader.Accepted (bookIn bytes)
+IsAccepted bytes = reader.read_book bytes ≡ reader.Accepted (book_in bytes)
 
 pub record HeaderInRange (h : Header) : Type 0 where
-  pub some-goals : 1 ≤ h.goals
-  pub few-goals : h.goals ≤ 64
-  pub top-fits : h.top ≤ 63
-  pub limit-fits : h.limit ≤ 99
+  pub some_goals : 1 ≤ h.goals
+  pub few_goals : h.goals ≤ 64
+  pub top_fits : h.top ≤ 63
+  pub limit_fits : h.limit ≤ 99
   pub divides : 1 ≤ h.divisor
-  pub divisor-fits : h.divisor ≤ 99
+  pub divisor_fits : h.divisor ≤ 99
 
 -- bytes say a book with this header, and the places of its goals' parts are in `starts`
 pub record IsBook (bytes starts : List ℕ) (h : Header) : Type 0 where
   pub accepted : IsAccepted bytes
-  pub header : (bookIn bytes).header ≡ h
-  pub in-range : HeaderInRange h
-  pub started : Started h.goals (bookIn bytes).parts bytes starts
+  pub header : (book_in bytes).header ≡ h
+  pub in_range : HeaderInRange h
+  pub started : Started h.goals (book_in bytes).parts bytes starts

@@ -1,10 +1,10 @@
 // A number in three columns, written.
 ghost use Rattle.std.specs.Prelude.{◌≡◌};
-ghost use Rattle.definition.specs.Line.{leadingColumn, lastColumn, columns};
+ghost use Rattle.definition.specs.Line.{leading_column, last_column, columns};
 
 // A number's last column: its last digit.
 pub fn last(n: u16) -> u8
-    ensures { result ≡ lastColumn n }
+    ensures { result ≡ last_column n }
 {
     48 + (n % 10) as u8
 }
@@ -12,7 +12,7 @@ pub fn last(n: u16) -> u8
 // A column before the last: the last digit of what is left of the number, or a space
 // where nothing is.
 pub fn leading(n: u16) -> u8
-    ensures { result ≡ leadingColumn n }
+    ensures { result ≡ leading_column n }
 {
     if n == 0 {
         return 32;

@@ -2,9 +2,9 @@
 ghost use Rattle.std.specs.Prelude.{◌≡◌, Bool, List, ◌≤◌, length};
 ghost use Rattle.std.proofs.Math.Option.{Option};
 ghost use Rattle.definition.specs.declared.format.Line.{Line};
-ghost use Rattle.definition.specs.Reader.{TakenPart, usesFirst, readByCode, readPart, isGoalLine, readGoal};
-ghost use Rattle.book.specs.Lines.{lineIn, linesIn};
-ghost use Rattle.book.specs.Grammar.{afterPart, afterBytes, afterOpened, openedIf, goalFits, callFits, undecidedFits, pickFits};
+ghost use Rattle.definition.specs.Reader.{TakenPart, uses_first, read_by_code, read_part, is_goal_line, read_goal};
+ghost use Rattle.book.specs.Lines.{line_in, lines_in};
+ghost use Rattle.book.specs.Grammar.{after_part, after_bytes, after_opened, opened_if, goal_fits, call_fits, undecided_fits, pick_fits};
 
 use crate::code::Code;
 use crate::line;
@@ -22,7 +22,7 @@ pub enum Opened {
 // Whether only the code and the first number are used.
 fn uses_first(s: &[u8]) -> bool
     requires { 16 ≤ length s.now }
-    ensures { result ≡ usesFirst (lineIn s.now) }
+    ensures { result ≡ uses_first (line_in s.now) }
 {
     if !line::is_zero_at(s, 6) {
         return false;
@@ -35,7 +35,7 @@ fn uses_first(s: &[u8]) -> bool
 
 fn call_fits(s: &[u8], goals: usize) -> bool
     requires { 16 ≤ length s.now }
-    ensures { result ≡ callFits goals (lineIn s.now) }
+    ensures { result ≡ call_fits goals (line_in s.now) }
 {
     let goal = line::field_at(s, 3) as usize;
     if goals <= goal {
@@ -52,7 +52,7 @@ fn call_fits(s: &[u8], goals: usize) -> bool
 
 fn undecided_fits(s: &[u8]) -> bool
     requires { 16 ≤ length s.now }
-    ensures { result ≡ undecidedFits (lineIn s.now) }
+    ensures { result ≡ undecided_fits (line_in s.now) }
 {
     if !line::is_zero_at(s, 3) {
         return false;
@@ -63,7 +63,7 @@ fn undecided_fits(s: &[u8]) -> bool
 // A pick never stands inside a pick.
 fn pick_fits(s: &[u8], in_pick: bool) -> bool
     requires { 16 ≤ length s.now }
-    ensures { result ≡ pickFits in_pick (lineIn s.now) }
+    ensures { result ≡ pick_fits in_pick (line_in s.now) }
 {
     if in_pick {
         return false;
@@ -72,7 +72,7 @@ fn pick_fits(s: &[u8], in_pick: bool) -> bool
 }
 
 fn opened_if(fits: bool, count: u16, in_pick: bool) -> Opened
-    ensures { result ≡ openedIf fits count in_pick }
+    ensures { result ≡ opened_if fits count in_pick }
 {
     if fits {
         return Opened::Parts(count, in_pick);
@@ -83,8 +83,8 @@ fn opened_if(fits: bool, count: u16, in_pick: bool) -> Opened
 fn opened_by(s: &[u8], goals: usize, in_pick: bool) -> Opened
     requires { 16 ≤ length s.now }
     ensures { (inner : Bool → List Line → Option TakenPart) (ls : List Line)
-        → afterOpened result inner ls ≡ afterPart
-        (readByCode goals (lineIn s.now).code in_pick inner (lineIn s.now) ls) }
+        → after_opened result inner ls ≡ after_part
+        (read_by_code goals (line_in s.now).code in_pick inner (line_in s.now) ls) }
 {
     let number = line::field_at(s, 0);
     let code = Code::of_number(number);
@@ -103,8 +103,8 @@ fn opened_by(s: &[u8], goals: usize, in_pick: bool) -> Opened
 // How many bytes the part takes that s starts with, where it nests at most `nest` deep;
 // 0 where s starts with none.
 fn part_size(s: &[u8], goals: usize, nest: u8, in_pick: bool) -> usize
-    ensures { (afterBytes result s.now
-        ≡ afterPart (readPart goals nest in_pick (linesIn s.now))) × (result ≤ length s.now) }
+    ensures { (after_bytes result s.now
+        ≡ after_part (read_part goals nest in_pick (lines_in s.now))) × (result ≤ length s.now) }
 {
     if nest == 0 {
         return 0;
@@ -132,7 +132,7 @@ fn part_size(s: &[u8], goals: usize, nest: u8, in_pick: bool) -> usize
 // Whether a goal's line has this goal's number.
 fn goal_fits(s: &[u8], goal: usize) -> bool
     requires { 16 ≤ length s.now }
-    ensures { result ≡ goalFits goal (lineIn s.now) }
+    ensures { result ≡ goal_fits goal (line_in s.now) }
 {
     let number = line::field_at(s, 3) as usize;
     if number != goal {
@@ -143,7 +143,7 @@ fn goal_fits(s: &[u8], goal: usize) -> bool
 
 fn is_goal_line(s: &[u8], goal: usize) -> bool
     requires { 16 ≤ length s.now }
-    ensures { result ≡ isGoalLine goal (lineIn s.now) }
+    ensures { result ≡ is_goal_line goal (line_in s.now) }
 {
     let code = Code::of_number(line::field_at(s, 0));
     match code {
@@ -159,7 +159,7 @@ fn is_goal_line(s: &[u8], goal: usize) -> bool
 // How many bytes a goal's line and its part take that s starts with; 0 where s starts
 // with none.
 pub fn goal_size(s: &[u8], goals: usize, goal: usize) -> usize
-    ensures { (afterBytes result s.now ≡ afterPart (readGoal goals goal (linesIn s.now)))
+    ensures { (after_bytes result s.now ≡ after_part (read_goal goals goal (lines_in s.now)))
         × (result ≤ length s.now) }
 {
     if s.len() < 16 {

@@ -1,11 +1,11 @@
 // A book's first line.
 ghost use Rattle.std.specs.Prelude.{◌≡◌};
-ghost use Rattle.definition.specs.Reader.{headerInRange, headerOf};
+ghost use Rattle.definition.specs.Reader.{header_in_range, header_of};
 
 use definition::format::{Header, Line};
 
 pub fn in_range(l: Line) -> bool
-    ensures { result ≡ headerInRange l }
+    ensures { result ≡ header_in_range l }
 {
     if 1 < l.code {
         return false;
@@ -29,7 +29,7 @@ pub fn in_range(l: Line) -> bool
 }
 
 pub fn of_line(l: Line) -> Header
-    ensures { result ≡ headerOf l }
+    ensures { result ≡ header_of l }
 {
     Header {
         provisional: l.code == 1,

@@ -8,9 +8,9 @@ pub mod line;
 pub mod part;
 
 ghost use Rattle.std.specs.Prelude.{◌≡◌, ◌≤◌, length, drop};
-ghost use Rattle.definition.specs.Reader.{lengthInRange, readGoals, readBook};
-ghost use Rattle.book.specs.Lines.{linesIn};
-ghost use Rattle.book.specs.Read.{headerRead, StartedIf, wholeBody, StartedBy};
+ghost use Rattle.definition.specs.Reader.{length_in_range, read_goals, read_book};
+ghost use Rattle.book.specs.Lines.{lines_in};
+ghost use Rattle.book.specs.Read.{header_read, StartedIf, whole_body, StartedBy};
 
 use definition::format::Header;
 use definition::replies::Refusal;
@@ -22,7 +22,7 @@ pub enum BookRead {
 }
 
 fn length_fits(n: usize) -> bool
-    ensures { result ≡ lengthInRange n }
+    ensures { result ≡ length_in_range n }
 {
     if n % 16 != 0 {
         return false;
@@ -37,8 +37,8 @@ fn length_fits(n: usize) -> bool
 // `starts` takes the place of each goal's part.
 fn read_body(book: &[u8], starts: &mut [u16], goals: usize) -> bool
     requires { (16 ≤ length book.now) × ((length book.now ≤ 16000) × (goals ≤ length starts.old)) }
-    ensures { (result ≡ wholeBody (readGoals goals 0 goals (linesIn (drop 16 book.now))))
-        × StartedBy (readGoals goals 0 goals (linesIn (drop 16 book.now))) goals book.now
+    ensures { (result ≡ whole_body (read_goals goals 0 goals (lines_in (drop 16 book.now))))
+        × StartedBy (read_goals goals 0 goals (lines_in (drop 16 book.now))) goals book.now
         starts.new }
 {
     let mut at: usize = 16;
@@ -58,8 +58,8 @@ fn read_body(book: &[u8], starts: &mut [u16], goals: usize) -> bool
 // The book's header, or refusal 1 to 4. `starts` takes the place of each goal's part.
 pub fn read(book: &[u8], starts: &mut [u16]) -> BookRead
     requires { length starts.old ≡ 64 }
-    ensures { (result ≡ headerRead (readBook book.now))
-        × StartedIf (readBook book.now) book.now starts.new }
+    ensures { (result ≡ header_read (read_book book.now))
+        × StartedIf (read_book book.now) book.now starts.new }
 {
     if !length_fits(book.len()) {
         return BookRead::Rejected(Refusal::BookLength);

@@ -1,13 +1,13 @@
 // A line of a book: 16 bytes, five fields of three columns and a newline.
 ghost use Rattle.std.specs.Prelude.{◌≡◌, ◌&&◌, ◌+◌, ◌≤◌, ◌<◌, eqb, length};
-ghost use Rattle.definition.specs.Line.{isDigit, isSpace, isLeadingDigit, isField, digitValue, fieldValue};
+ghost use Rattle.definition.specs.Line.{is_digit, is_space, is_leading_digit, is_field, digit_value, field_value};
 ghost use Rattle.definition.specs.Reader.{lines_of};
-ghost use Rattle.book.specs.Lines.{fieldIn, lineIn, fieldFits, lineFits, linesIf};
+ghost use Rattle.book.specs.Lines.{field_in, line_in, field_fits, line_fits, lines_if};
 
 use definition::format::Line;
 
 fn is_digit(c: u8) -> bool
-    ensures { result ≡ isDigit c }
+    ensures { result ≡ is_digit c }
 {
     if c < 48 {
         return false;
@@ -17,7 +17,7 @@ fn is_digit(c: u8) -> bool
 
 // A digit that can stand first.
 fn is_leading_digit(c: u8) -> bool
-    ensures { result ≡ isLeadingDigit c }
+    ensures { result ≡ is_leading_digit c }
 {
     if c < 49 {
         return false;
@@ -33,14 +33,14 @@ fn wide(c: u8) -> u32
 
 // Whether two columns are spaces, by one comparison.
 fn both_spaces(x: u8, y: u8) -> bool
-    ensures { result ≡ isSpace x && isSpace y }
+    ensures { result ≡ is_space x && is_space y }
 {
     wide(x) + 256 * wide(y) == 8224
 }
 
 // Whether three columns are a field: right-justified after spaces, no leading zero.
 pub fn is_field(x: u8, y: u8, z: u8) -> bool
-    ensures { result ≡ isField x y z }
+    ensures { result ≡ is_field x y z }
 {
     if !is_digit(z) {
         return false;
@@ -59,7 +59,7 @@ pub fn is_field(x: u8, y: u8, z: u8) -> bool
 
 // The value of a column; a space counts as 0.
 fn digit(c: u8) -> u16
-    ensures { (result ≡ digitValue c) × (result ≤ 207) }
+    ensures { (result ≡ digit_value c) × (result ≤ 207) }
 {
     if c < 48 {
         return 0;
@@ -69,7 +69,7 @@ fn digit(c: u8) -> u16
 
 // The number that a field says.
 pub fn field(x: u8, y: u8, z: u8) -> u16
-    ensures { result ≡ fieldValue x y z }
+    ensures { result ≡ field_value x y z }
 {
     if both_spaces(x, y) {
         return digit(z);
@@ -79,7 +79,7 @@ pub fn field(x: u8, y: u8, z: u8) -> u16
 
 // Whether a field says 0: no column is above '0'.
 fn is_zero(x: u8, y: u8, z: u8) -> bool
-    ensures { result ≡ eqb (fieldValue x y z) 0 }
+    ensures { result ≡ eqb (field_value x y z) 0 }
 {
     if 48 < z {
         return false;
@@ -96,15 +96,15 @@ fn is_zero(x: u8, y: u8, z: u8) -> bool
 // The number of the field whose first column is at place i.
 pub fn field_at(s: &[u8], i: usize) -> u16
     requires { i + 2 < length s.now }
-    ensures { result ≡ fieldIn s.now i }
+    ensures { result ≡ field_in s.now i }
 {
     field(s[i], s[i + 1], s[i + 2])
 }
 
 // The same where it has one digit: the columns before the last say nothing.
 pub fn digit_at(s: &[u8], i: usize) -> u16
-    requires { (i + 2 < length s.now) × (fieldIn s.now i ≤ 9) }
-    ensures { result ≡ fieldIn s.now i }
+    requires { (i + 2 < length s.now) × (field_in s.now i ≤ 9) }
+    ensures { result ≡ field_in s.now i }
 {
     digit(s[i + 2])
 }
@@ -112,7 +112,7 @@ pub fn digit_at(s: &[u8], i: usize) -> u16
 // Whether the field whose first column is at place i says 0.
 pub fn is_zero_at(s: &[u8], i: usize) -> bool
     requires { i + 2 < length s.now }
-    ensures { result ≡ eqb (fieldIn s.now i) 0 }
+    ensures { result ≡ eqb (field_in s.now i) 0 }
 {
     is_zero(s[i], s[i + 1], s[i + 2])
 }
@@ -120,7 +120,7 @@ pub fn is_zero_at(s: &[u8], i: usize) -> bool
 // The numbers of the first line.
 pub fn first(s: &[u8]) -> Line
     requires { 16 ≤ length s.now }
-    ensures { result ≡ lineIn s.now }
+    ensures { result ≡ line_in s.now }
 {
     Line {
         code: field_at(s, 0),
@@ -134,7 +134,7 @@ pub fn first(s: &[u8]) -> Line
 // Whether a field stands at place i.
 fn fits_at(s: &[u8], i: usize) -> bool
     requires { i + 2 < length s.now }
-    ensures { result ≡ fieldFits s.now i }
+    ensures { result ≡ field_fits s.now i }
 {
     is_field(s[i], s[i + 1], s[i + 2])
 }
@@ -142,7 +142,7 @@ fn fits_at(s: &[u8], i: usize) -> bool
 // Whether the first line is well-formed.
 fn first_fits(s: &[u8]) -> bool
     requires { 16 ≤ length s.now }
-    ensures { result ≡ lineFits s.now }
+    ensures { result ≡ line_fits s.now }
 {
     if !fits_at(s, 0) {
         return false;
@@ -164,7 +164,7 @@ fn first_fits(s: &[u8]) -> bool
 
 // Whether every line of a book is well-formed.
 pub fn all_fit(book: &[u8]) -> bool
-    ensures { lines_of book.now ≡ linesIf result book.now }
+    ensures { lines_of book.now ≡ lines_if result book.now }
 {
     let mut t = book;
     while 16 <= t.len() {

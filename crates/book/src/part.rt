@@ -1,8 +1,8 @@
 // The parts of a book that was read.
 ghost use Rattle.std.specs.Prelude.{◌≡◌, ◌≤◌, ◌<◌, length, get_or, drop};
 ghost use Rattle.definition.specs.Paths.{kind_of};
-ghost use Rattle.book.specs.Lines.{lineIn};
-ghost use Rattle.book.specs.Codes.{code_of, partsBelow};
+ghost use Rattle.book.specs.Lines.{line_in};
+ghost use Rattle.book.specs.Codes.{code_of, parts_below};
 ghost use Rattle.book.specs.Parts.{StartsPart, Passed};
 ghost use Rattle.book.specs.Calls.{call_of};
 
@@ -30,7 +30,7 @@ pub fn of_goal<'a>(book: &'a [u8], starts: &[u16], goal: usize) -> &'a [u8]
 // What the code of the first line says.
 pub fn code(part: &[u8]) -> Code
     requires { StartsPart part.now }
-    ensures { result ≡ code_of (lineIn part.now).code }
+    ensures { result ≡ code_of (line_in part.now).code }
 {
     Code::of_number(line::digit_at(part, 0))
 }
@@ -38,7 +38,7 @@ pub fn code(part: &[u8]) -> Code
 // How many parts stand below the first line of a group.
 pub fn count(part: &[u8]) -> usize
     requires { StartsPart part.now }
-    ensures { (result ≡ (lineIn part.now).first) × (result < 65536) }
+    ensures { (result ≡ (line_in part.now).first) × (result < 65536) }
 {
     line::field_at(part, 3) as usize
 }
@@ -46,7 +46,7 @@ pub fn count(part: &[u8]) -> usize
 // How many parts stand below the first line.
 fn below(part: &[u8]) -> usize
     requires { StartsPart part.now }
-    ensures { (result ≡ partsBelow (lineIn part.now)) × (result < 65536) }
+    ensures { (result ≡ parts_below (line_in part.now)) × (result < 65536) }
 {
     let first = code(part);
     match first {
@@ -84,8 +84,8 @@ pub fn kind(number: u16) -> PathKind
 impl Call {
     // The call of the first line.
     pub fn first(part: &[u8]) -> Call
-        requires { StartsPart part.now × (code_of (lineIn part.now).code ≡ Code.Call) }
-        ensures { result ≡ call_of (lineIn part.now) }
+        requires { StartsPart part.now × (code_of (line_in part.now).code ≡ Code.Call) }
+        ensures { result ≡ call_of (line_in part.now) }
     {
         let step = kind(line::digit_at(part, 6));
         Call {

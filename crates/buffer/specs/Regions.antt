@@ -9,6 +9,6 @@ region a n bs = take n (drop a bs)
 abbrev pub overwrite : List ℕ → ℕ → List ℕ → List ℕ
 overwrite bs a ys = take a bs ++ (ys ++ drop (length ys) (drop a bs))
 
-abbrev pub allZero : List ℕ → Bool
-allZero [] = true
-allZero (b ∷ bs) = eqb b 0 && allZero bs
+abbrev pub all_zero : List ℕ → Bool
+all_zero [] = true
+all_zero (b ∷ bs) = eqb b 0 && all_zero bs

@@ -3,7 +3,7 @@ pub mod scalars;
 
 ghost use Rattle.std.specs.Prelude.{◌≡◌, ◌+◌, ◌*◌, ◌%◌, ◌<◌, ◌≤◌, length, get_or, set, replicate};
 ghost use Rattle.buffer.specs.Numbers.{number_of, bytes_of};
-ghost use Rattle.buffer.specs.Regions.{region, overwrite, allZero};
+ghost use Rattle.buffer.specs.Regions.{region, overwrite, all_zero};
 
 // The byte at a place, 0 past the end.
 pub fn get(s: &[u8], i: usize) -> u8
@@ -115,7 +115,7 @@ pub fn copy_within(s: &mut [u8], from: usize, to: usize, n: usize)
 
 // Whether every byte is 0: 8 at once, the last 8 again, so that none is left over.
 pub fn all_zero(s: &[u8]) -> bool
-    ensures { result ≡ allZero s.now }
+    ensures { result ≡ all_zero s.now }
 {
     let n = s.len();
     if n < 8 {
@@ -133,7 +133,7 @@ pub fn all_zero(s: &[u8]) -> bool
 
 // The same, byte by byte.
 fn each_zero(s: &[u8]) -> bool
-    ensures { result ≡ allZero s.now }
+    ensures { result ≡ all_zero s.now }
 {
     let mut i: usize = 0;
     while i < s.len() {

@@ -3,17 +3,17 @@
 // index `own`, the top of the stack. The merged usages of a pick lie behind the graph.
 ghost use Rattle.std.specs.Prelude.{◌≡◌, ◌+◌, ◌<◌, ◌≤◌};
 ghost use Rattle.std.proofs.Math.Option.{none, some};
-ghost use Rattle.definition.specs.Usages.{mergeUsages};
-ghost use Rattle.definition.specs.Candidates.{noCandidateUsages, setCandidateUsages, candidateUsagesOf, headsCover, canIgnore, ignoreOnTop};
-ghost use Rattle.layout.specs.Blocks.{UsagesBlock, candidateOf};
+ghost use Rattle.definition.specs.Usages.{merge_usages};
+ghost use Rattle.definition.specs.Candidates.{no_candidate_usages, set_candidate_usages, candidate_usages_of, heads_cover, can_ignore, ignore_on_top};
+ghost use Rattle.layout.specs.Blocks.{UsagesBlock, candidate_of};
 ghost use Rattle.layout.specs.Frame.{frame_of};
-ghost use Rattle.layout.specs.Work.{mergedOf};
+ghost use Rattle.layout.specs.Work.{merged_of};
 ghost use Rattle.stack.specs.Bytes.{FrameBytes, GraphBytes};
 ghost use Rattle.stack.specs.Written.{StackChanged};
-ghost use Rattle.evaluation.specs.Workspace.{WorkBytes, stackIn};
-ghost use Rattle.layout.specs.AtIndex.{addAt};
-ghost use Rattle.stack.specs.Tracked.{ignoreHeadAt, ignoreHeads, ignoreOwn};
-ghost use Rattle.candidates.specs.Written.{mergedBytes, topBytes, MergedWritten, MergedChanged, WorkWritten, WorkTopChanged};
+ghost use Rattle.evaluation.specs.Workspace.{WorkBytes, stack_in};
+ghost use Rattle.layout.specs.AtIndex.{add_at};
+ghost use Rattle.stack.specs.Tracked.{ignore_head_at, ignore_heads, ignore_own};
+ghost use Rattle.candidates.specs.Written.{merged_bytes, top_bytes, MergedWritten, MergedChanged, WorkWritten, WorkTopChanged};
 
 use definition::usages::HeadUsages;
 use layout::{candidate, offsets};
@@ -23,7 +23,7 @@ use stack::frame::tracked;
 
 pub fn enter_single_candidate(graph: &mut [u8], goals: usize, own: usize)
     requires { GraphBytes goals graph.old × (own < goals) }
-    ensures { StackChanged goals (own + 1) (setCandidateUsages (some (noCandidateUsages goals)))
+    ensures { StackChanged goals (own + 1) (set_candidate_usages (some (no_candidate_usages goals)))
         graph.old graph.new }
 {
     let start = offsets::frame_start(goals, own);
@@ -33,7 +33,7 @@ pub fn enter_single_candidate(graph: &mut [u8], goals: usize, own: usize)
 
 pub fn finish_single_candidate(graph: &mut [u8], goals: usize, own: usize)
     requires { GraphBytes goals graph.old × (own < goals) }
-    ensures { StackChanged goals (own + 1) (setCandidateUsages none) graph.old graph.new }
+    ensures { StackChanged goals (own + 1) (set_candidate_usages none) graph.old graph.new }
 {
     let start = offsets::frame_start(goals, own);
     let end = start + offsets::frame_size(goals);
@@ -45,7 +45,7 @@ pub fn finish_single_candidate(graph: &mut [u8], goals: usize, own: usize)
 // The bytes of the frame.
 fn top(work: &[u8], goals: usize, own: usize) -> &[u8]
     requires { WorkBytes goals work.now × (own < goals) }
-    ensures { result.now ≡ topBytes goals own work.now }
+    ensures { result.now ≡ top_bytes goals own work.now }
 {
     let start = offsets::frame_start(goals, own);
     let end = start + offsets::frame_size(goals);
@@ -55,7 +55,7 @@ fn top(work: &[u8], goals: usize, own: usize) -> &[u8]
 // The bytes of the merged usages.
 fn merged(work: &[u8], goals: usize, own: usize) -> &[u8]
     requires { WorkBytes goals work.now × (own < goals) }
-    ensures { result.now ≡ mergedBytes goals own work.now }
+    ensures { result.now ≡ merged_bytes goals own work.now }
 {
     let start = offsets::merged_start(goals, own);
     let end = start + offsets::block_size(goals);
@@ -67,7 +67,7 @@ fn merged(work: &[u8], goals: usize, own: usize) -> &[u8]
 // A pick begins: nothing is merged.
 pub fn start(work: &mut [u8], goals: usize, own: usize)
     requires { WorkBytes goals work.old × (own < goals) }
-    ensures { MergedWritten goals own (noCandidateUsages goals) work.old work.new }
+    ensures { MergedWritten goals own (no_candidate_usages goals) work.old work.new }
 {
     let start = offsets::merged_start(goals, own);
     let end = start + offsets::block_size(goals);
@@ -77,7 +77,7 @@ pub fn start(work: &mut [u8], goals: usize, own: usize)
 // The merged usages of index i, with u.
 fn add_at(work: &mut [u8], goals: usize, own: usize, i: usize, u: HeadUsages)
     requires { WorkBytes goals work.old × ((own < goals) × (i < goals)) }
-    ensures { MergedChanged goals own (addAt i u) work.old work.new }
+    ensures { MergedChanged goals own (add_at i u) work.old work.new }
 {
     let start = offsets::merged_start(goals, own);
     let end = start + offsets::block_size(goals);
@@ -88,7 +88,7 @@ fn add_at(work: &mut [u8], goals: usize, own: usize, i: usize, u: HeadUsages)
 pub fn merge(work: &mut [u8], goals: usize, own: usize)
     requires { WorkBytes goals work.old × (own < goals) }
     ensures { MergedChanged goals own
-        (λ us. mergeUsages us (candidateUsagesOf goals (stackIn goals (own + 1) work.old))) work.old
+        (λ us. merge_usages us (candidate_usages_of goals (stack_in goals (own + 1) work.old))) work.old
         work.new }
 {
     let mut left = tracked::mask(top(work, goals, own), goals);
@@ -105,8 +105,8 @@ pub fn merge(work: &mut [u8], goals: usize, own: usize)
 // Whether usages can be taken from the heads below the frame f.
 fn heads_cover(f: &[u8], b: &[u8], goals: usize, own: usize) -> bool
     requires { FrameBytes goals f.now × (UsagesBlock goals b.now × (own ≤ goals)) }
-    ensures { result ≡ headsCover own (frame_of goals f.now).heads
-        (candidateOf goals b.now) }
+    ensures { result ≡ heads_cover own (frame_of goals f.now).heads
+        (candidate_of goals b.now) }
 {
     let mut left = bits::below(candidate::mask(b, goals), own);
     while 0 < left {
@@ -123,7 +123,7 @@ fn heads_cover(f: &[u8], b: &[u8], goals: usize, own: usize) -> bool
 // Whether no subtraction fails where the merged usages are ignored.
 pub fn can_ignore(work: &[u8], goals: usize, own: usize) -> bool
     requires { WorkBytes goals work.now × (own < goals) }
-    ensures { result ≡ canIgnore (mergedOf goals own work.now) (stackIn goals (own + 1) work.now) }
+    ensures { result ≡ can_ignore (merged_of goals own work.now) (stack_in goals (own + 1) work.now) }
 {
     let f = top(work, goals, own);
     let b = merged(work, goals, own);
@@ -137,7 +137,7 @@ pub fn can_ignore(work: &[u8], goals: usize, own: usize) -> bool
 // The usages u are taken from the head at index i.
 fn ignore_head(work: &mut [u8], goals: usize, own: usize, i: usize, u: HeadUsages)
     requires { WorkBytes goals work.old × ((own < goals) × (i < goals)) }
-    ensures { WorkTopChanged goals own (ignoreHeadAt i u) work.old work.new }
+    ensures { WorkTopChanged goals own (ignore_head_at i u) work.old work.new }
 {
     let start = offsets::frame_start(goals, own);
     let end = start + offsets::frame_size(goals);
@@ -147,7 +147,7 @@ fn ignore_head(work: &mut [u8], goals: usize, own: usize, i: usize, u: HeadUsage
 // The usages u are taken from the frame's own.
 fn ignore_own(work: &mut [u8], goals: usize, own: usize, u: HeadUsages)
     requires { WorkBytes goals work.old × (own < goals) }
-    ensures { WorkTopChanged goals own (ignoreOwn u) work.old work.new }
+    ensures { WorkTopChanged goals own (ignore_own u) work.old work.new }
 {
     let start = offsets::frame_start(goals, own);
     let end = start + offsets::frame_size(goals);
@@ -157,7 +157,7 @@ fn ignore_own(work: &mut [u8], goals: usize, own: usize, u: HeadUsages)
 // The merged usages are taken from the heads.
 fn ignore_at_heads(work: &mut [u8], goals: usize, own: usize)
     requires { WorkBytes goals work.old × (own < goals) }
-    ensures { WorkTopChanged goals own (ignoreHeads (mergedOf goals own work.old))
+    ensures { WorkTopChanged goals own (ignore_heads (merged_of goals own work.old))
         work.old work.new }
 {
     let mut left = candidate::mask(merged(work, goals, own), goals);
@@ -173,7 +173,7 @@ fn ignore_at_heads(work: &mut [u8], goals: usize, own: usize)
 pub fn ignore(work: &mut [u8], goals: usize, own: usize)
     requires { WorkBytes goals work.old × (own < goals) }
     ensures { WorkWritten goals (own + 1)
-        (ignoreOnTop (mergedOf goals own work.old) (stackIn goals (own + 1) work.old))
+        (ignore_on_top (merged_of goals own work.old) (stack_in goals (own + 1) work.old))
         work.old work.new }
 {
     ignore_at_heads(work, goals, own);

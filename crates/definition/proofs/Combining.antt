@@ -5,7 +5,7 @@ use mathlib.Core.Bool.{Bool, true, false, ◌&&◌, ◌||◌, beq}
 use lib.Dec.{T}
 use Rattle.definition.specs.declared.answers.Answer.{Answer}
 use Rattle.definition.specs.declared.answers.Answer.TheVariants.{No, Yes, Undecided, Overflow}
-use Rattle.definition.specs.Answers.{combine, isAmbiguous, sameAnswer}
+use Rattle.definition.specs.Answers.{combine, is_ambiguous, same_answer}
 use Rattle.definition.specs.Combining.{Combines}
 use Rattle.definition.proofs.Numbers.{same→≡}
 use Rattle.definition.proofs.Tests.{and_left, and_right}
@@ -21,8 +21,8 @@ at f t Undecided = and_left (f Undecided) _ (and_right (f Yes) _ (and_right (f N
 at f t Overflow = and_right (f Undecided) _ (and_right (f Yes) _ (and_right (f No) _ t))
 
 -- and of every two
-at-two : (f : Answer → Answer → Bool) → T (every λ a. every (f a)) → (a b : Answer) → T (f a b)
-at-two f t a b = at (f a) (at (λ a. every (f a)) t a) b
+at_two : (f : Answer → Answer → Bool) → T (every λ a. every (f a)) → (a b : Answer) → T (f a b)
+at_two f t a b = at (f a) (at (λ a. every (f a)) t a) b
 
 pub combines : Combines combine
 unfolding combine
@@ -30,19 +30,19 @@ combines =
     record {
       associative = λ a b c.
           same→≡ _ _
-          (at-two (λ b c. sameAnswer (combine (combine a b) c) (combine a (combine b c)))
-          (at (λ a. every λ b. every λ c. sameAnswer (combine (combine a b) c) (combine a (combine b c))) tt a) b c);
-      commutative = λ a b. same→≡ _ _ (at-two (λ a b. sameAnswer (combine a b) (combine b a)) tt a b);
-      from-no = λ a. same→≡ _ _ (at (λ a. sameAnswer (combine No a) a) tt a);
-      from-yes = after-yes;
+          (at_two (λ b c. same_answer (combine (combine a b) c) (combine a (combine b c)))
+          (at (λ a. every λ b. every λ c. same_answer (combine (combine a b) c) (combine a (combine b c))) tt a) b c);
+      commutative = λ a b. same→≡ _ _ (at_two (λ a b. same_answer (combine a b) (combine b a)) tt a b);
+      from_no = λ a. same→≡ _ _ (at (λ a. same_answer (combine No a) a) tt a);
+      from_yes = after_yes;
       ambiguous = maybes;
     }
   where
-    after-yes : (a : Answer) → a ≢ No → combine Yes a ≡ a
-    after-yes No h = absurd (h refl)
-    after-yes Yes h = refl
-    after-yes Undecided h = refl
-    after-yes Overflow h = refl
+    after_yes : (a : Answer) → a ≢ No → combine Yes a ≡ a
+    after_yes No h = absurd (h refl)
+    after_yes Yes h = refl
+    after_yes Undecided h = refl
+    after_yes Overflow h = refl
 
     equal : (s t : Bool) → T (beq s t) → s ≡ t
     equal true true e = refl
@@ -50,5 +50,5 @@ combines =
     equal false true e = absurd e
     equal false false e = refl
 
-    maybes : (a b : Answer) → isAmbiguous (combine a b) ≡ isAmbiguous a || isAmbiguous b
-    maybes a b = equal _ _ (at-two (λ x y. beq (isAmbiguous (combine x y)) (isAmbiguous x || isAmbiguous y)) tt a b)
+    maybes : (a b : Answer) → is_ambiguous (combine a b) ≡ is_ambiguous a || is_ambiguous b
+    maybes a b = equal _ _ (at_two (λ x y. beq (is_ambiguous (combine x y)) (is_ambiguous x || is_ambiguous y)) tt a b)

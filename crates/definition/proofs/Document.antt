@@ -6,9 +6,9 @@ use lib.ListN.{replicate, take, get_or}
 use Rattle.definition.specs.declared.replies.Refusal.TheVariants.{ProvisionalCacheFull, CacheConflict}
 use Rattle.definition.specs.declared.replies.Response.TheVariants.{Refused}
 use Rattle.definition.specs.Answers.{combine}
-use Rattle.definition.specs.Usages.{counterLimit}
-use Rattle.definition.specs.Query.{query, workLength}
-use Rattle.definition.proofs.Example.{line, book, Example, Right, replyTo, noExample, each_right, workFor}
+use Rattle.definition.specs.Usages.{counter_limit}
+use Rattle.definition.specs.Query.{query, work_length}
+use Rattle.definition.proofs.Example.{line, book, Example, Right, reply_to, no_example, each_right, work_for}
 
 -- ---- the table: books of one goal, T 5, V 1, cache on
 abbrev pub row : List (List ℕ) → ℕ → ℕ → ℕ → Example
@@ -16,7 +16,7 @@ row part limit depth answer =
     record {
       bytes = book (line 1 1 5 limit 1 ∷ line 1 0 0 0 0 ∷ part);
       goals = 1;
-      cacheLength = 35;
+      cache_length = 35;
       goal = 0;
       depth = depth;
       answer = answer;
@@ -48,14 +48,14 @@ table =
     ∷ []
 
 -- the twelve examples
-pub examples : (k : ℕ) → k < 12 → Right (get_or table k noExample)
-unfolding counterLimit combine
+pub examples : (k : ℕ) → k < 12 → Right (get_or table k no_example)
+unfolding counter_limit combine
 examples = each_right table tt
 
 -- after line four the success slot is 1, 0, 1, 1, 3
-pub slot-after-four : take 5 (replyTo (get_or table 3 noExample)).cache ≡ 1 ∷ 0 ∷ 1 ∷ 1 ∷ 3 ∷ []
-unfolding counterLimit combine
-slot-after-four = refl
+pub slot_after_four : take 5 (reply_to (get_or table 3 no_example)).cache ≡ 1 ∷ 0 ∷ 1 ∷ 1 ∷ 3 ∷ []
+unfolding counter_limit combine
+slot_after_four = refl
 
 -- refusal 10: goal 0 a pick of eight calls; the seventh entry is one too many
 abbrev pub book10 : List ℕ
@@ -64,13 +64,13 @@ book10 =
     ∷ line 2 1 0 1 0 ∷ line 2 2 0 1 0 ∷ line 2 1 1 1 0 ∷ line 2 2 1 1 0 ∷ line 2 1 2 1 0 ∷ line 2 2 2 1 0 ∷ line 2 1 3 1 0 ∷ line 2 2 3 1 0
     ∷ line 1 1 0 0 0 ∷ line 2 0 0 1 0 ∷ line 1 2 0 0 0 ∷ line 2 0 0 1 0 ∷ [])
 
-pub refusal-10 : query book10 (replicate 84 0) (workFor 3) 0 2
-    ≡ record { response = Refused ProvisionalCacheFull; cache = replicate 84 0; work = replicate (workLength 3) 0 }
-unfolding counterLimit combine
-refusal-10 = refl
+pub refusal_10 : query book10 (replicate 84 0) (work_for 3) 0 2
+    ≡ record { response = Refused ProvisionalCacheFull; cache = replicate 84 0; work = replicate (work_length 3) 0 }
+unfolding counter_limit combine
+refusal_10 = refl
 
 -- refusal 11: a cache written by hand says Yes, required depth 5, for an empty any, asked at depth 3
-pub refusal-11 : query (get_or table 0 noExample).bytes (1 ∷ 1 ∷ 5 ∷ 1 ∷ 0 ∷ replicate 30 0) (workFor 1) 0 3
-    ≡ record { response = Refused CacheConflict; cache = replicate 35 0; work = replicate (workLength 1) 0 }
-unfolding counterLimit combine
-refusal-11 = refl
+pub refusal_11 : query (get_or table 0 no_example).bytes (1 ∷ 1 ∷ 5 ∷ 1 ∷ 0 ∷ replicate 30 0) (work_for 1) 0 3
+    ≡ record { response = Refused CacheConflict; cache = replicate 35 0; work = replicate (work_length 1) 0 }
+unfolding counter_limit combine
+refusal_11 = refl

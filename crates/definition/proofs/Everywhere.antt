@@ -20,8 +20,8 @@ at f (x ∷ xs) t (suc k) h =
     at (λ k. f (suc k)) xs (and_right (f 0 x) (every (λ k. f (suc k)) xs) t) k (le_of_suc-le-suc h)
 
 -- a test of every number below n
-abbrev pub everyBelow : (ℕ → Bool) → ℕ → Bool
-everyBelow f n = every (λ k x. f k) (replicate n 0)
+abbrev pub every_below : (ℕ → Bool) → ℕ → Bool
+every_below f n = every (λ k x. f k) (replicate n 0)
 
-pub at-number : (f : ℕ → Bool) (n : ℕ) → T (everyBelow f n) → (k : ℕ) → k < n → T (f k)
-at-number f n t k h = at (λ k x. f k) (replicate n 0) t k (subst (λ (m : ℕ). k < m) (sym (length-replicate n 0)) h)
+pub at_number : (f : ℕ → Bool) (n : ℕ) → T (every_below f n) → (k : ℕ) → k < n → T (f k)
+at_number f n t k h = at (λ k x. f k) (replicate n 0) t k (subst (λ (m : ℕ). k < m) (sym (length-replicate n 0)) h)

@@ -6,8 +6,8 @@ use mathlib.Core.Bool.{Bool, true, false, ◌&&◌}
 use mathlib.Core.List.{List, [], ◌∷◌, ◌++◌}
 use lib.Dec.{eqb, T, eqb→eq}
 use lib.ListN.{length, replicate, get_or, take}
-use Rattle.definition.specs.Answers.{responseAnswer, responseRefusal}
-use Rattle.definition.specs.Query.{Reply, query, workLength}
+use Rattle.definition.specs.Answers.{response_answer, response_refusal}
+use Rattle.definition.specs.Query.{Reply, query, work_length}
 use Rattle.definition.proofs.Tests.{and_left, and_right}
 
 -- ---- a book's bytes
@@ -38,11 +38,11 @@ bytes (suc n) x = x % 256 ∷ bytes n (x / 256)
 pub record Expected : Type 0 where
   pub goal : ℕ
   pub depth : ℕ
-  pub workLength : ℕ
+  pub work_length : ℕ
   pub answer : ℕ
   pub refusal : ℕ
-  pub workByte : ℕ
-  pub workSeen : ℕ
+  pub work_byte : ℕ
+  pub work_seen : ℕ
   pub cache : List ℕ
 
 abbrev pub same : List ℕ → List ℕ → Bool
@@ -53,55 +53,55 @@ same (x ∷ xs) (y ∷ ys) = eqb x y && same xs ys
 
 abbrev pub replied : Reply → Expected → Bool
 replied r e =
-    eqb (responseAnswer r.response) e.answer && eqb (responseRefusal r.response) e.refusal
-    && same r.cache e.cache && same (take e.workSeen r.work) (replicate e.workSeen e.workByte)
+    eqb (response_answer r.response) e.answer && eqb (response_refusal r.response) e.refusal
+    && same r.cache e.cache && same (take e.work_seen r.work) (replicate e.work_seen e.work_byte)
 
 -- each query has the cache that the one before left
 abbrev pub agrees : List ℕ → List ℕ → List Expected → Bool
 agrees bs cache [] = true
 agrees bs cache (e ∷ es) =
-    replied (query bs cache (replicate e.workLength 7) e.goal e.depth) e && agrees bs e.cache es
+    replied (query bs cache (replicate e.work_length 7) e.goal e.depth) e && agrees bs e.cache es
 
 -- ---- a query on a cache of zeros: what it must come to
 pub record Example : Type 0 where
   pub bytes : List ℕ
   pub goals : ℕ
-  pub cacheLength : ℕ
+  pub cache_length : ℕ
   pub goal : ℕ
   pub depth : ℕ
   pub answer : ℕ
   pub refusal : ℕ
 
 -- the workspace holds anything
-abbrev pub workFor : ℕ → List ℕ
-workFor goals = replicate (workLength goals) 7
+abbrev pub work_for : ℕ → List ℕ
+work_for goals = replicate (work_length goals) 7
 
-abbrev pub replyTo : Example → Reply
-replyTo e = query e.bytes (replicate e.cacheLength 0) (workFor e.goals) e.goal e.depth
+abbrev pub reply_to : Example → Reply
+reply_to e = query e.bytes (replicate e.cache_length 0) (work_for e.goals) e.goal e.depth
 
 pub record Right (e : Example) : Type 0 where
-  pub answered : responseAnswer (replyTo e).response ≡ e.answer
-  pub refused : responseRefusal (replyTo e).response ≡ e.refusal
+  pub answered : response_answer (reply_to e).response ≡ e.answer
+  pub refused : response_refusal (reply_to e).response ≡ e.refusal
 
 -- ---- from one computed test over a table to each of its examples
 abbrev pub right : Example → Bool
-right e = eqb (responseAnswer (replyTo e).response) e.answer && eqb (responseRefusal (replyTo e).response) e.refusal
+right e = eqb (response_answer (reply_to e).response) e.answer && eqb (response_refusal (reply_to e).response) e.refusal
 
-abbrev pub allRight : List Example → Bool
-allRight [] = true
-allRight (e ∷ es) = right e && allRight es
+abbrev pub all_right : List Example → Bool
+all_right [] = true
+all_right (e ∷ es) = right e && all_right es
 
 is_right : (e : Example) → T (right e) → Right e
 is_right e t =
     record {
-      answered = eqb→eq _ _ (and_left (eqb (responseAnswer (replyTo e).response) e.answer) (eqb (responseRefusal (replyTo e).response) e.refusal) t);
-      refused = eqb→eq _ _ (and_right (eqb (responseAnswer (replyTo e).response) e.answer) (eqb (responseRefusal (replyTo e).response) e.refusal) t);
+      answered = eqb→eq _ _ (and_left (eqb (response_answer (reply_to e).response) e.answer) (eqb (response_refusal (reply_to e).response) e.refusal) t);
+      refused = eqb→eq _ _ (and_right (eqb (response_answer (reply_to e).response) e.answer) (eqb (response_refusal (reply_to e).response) e.refusal) t);
     }
 
-abbrev pub noExample : Example
-noExample = record { bytes = []; goals = 0; cacheLength = 0; goal = 0; depth = 0; answer = 0; refusal = 1 }
+abbrev pub no_example : Example
+no_example = record { bytes = []; goals = 0; cache_length = 0; goal = 0; depth = 0; answer = 0; refusal = 1 }
 
-pub each_right : (es : List Example) → T (allRight es) → (k : ℕ) → k < length es → Right (get_or es k noExample)
+pub each_right : (es : List Example) → T (all_right es) → (k : ℕ) → k < length es → Right (get_or es k no_example)
 each_right [] t k h = absurd (not-suc-le-zero h)
-each_right (e ∷ es) t zero h = is_right e (and_left (right e) (allRight es) t)
-each_right (e ∷ es) t (suc k) h = each_right es (and_right (right e) (allRight es) t) k (le_of_suc-le-suc h)
+each_right (e ∷ es) t zero h = is_right e (and_left (right e) (all_right es) t)
+each_right (e ∷ es) t (suc k) h = each_right es (and_right (right e) (all_right es) t) k (le_of_suc-le-suc h)

@@ -12,35 +12,35 @@ use Rattle.definition.specs.declared.answers.Answer.TheVariants.{No, Yes, Undeci
 use Rattle.definition.specs.declared.endings.Fixpoint.TheVariants.{First, Later}
 use Rattle.definition.specs.declared.endings.Ending.{Ending}
 use Rattle.definition.specs.declared.endings.Ending.TheVariants as ending
-use Rattle.definition.specs.Paths.{emptyPath}
-use Rattle.definition.specs.Usages.{noUsages, oneUsage}
+use Rattle.definition.specs.Paths.{empty_path}
+use Rattle.definition.specs.Usages.{no_usages, one_usage}
 use Rattle.definition.specs.Heads.{CycleHeads}
-use Rattle.definition.specs.Steps.{noSteps}
+use Rattle.definition.specs.Steps.{no_steps}
 use Rattle.definition.specs.Stack.{Frame}
 use Rattle.definition.specs.Graph.{Entry, Graph}
-use Rattle.definition.specs.Endings.{endingOf, pop}
+use Rattle.definition.specs.Endings.{ending_of, pop}
 
 -- ---- the frame of goal 1 on that of goal 0, which is its head; all steps are inductive
 abbrev inductively : ℕ → HeadUsages → CycleHead
 inductively paths usages = record { paths = paths; usages = usages }
 
 abbrev once : HeadUsages
-once = oneUsage Inductive
+once = one_usage Inductive
 
 abbrev frame : ℕ → Option Answer → CycleHeads → Option HeadUsages → Frame
 frame goal provisional heads usages =
     record {
       input = goal;
-      stepKindFromParent = Inductive;
-      availableDepth = 0;
-      minReachedAvailableDepth = 0;
-      provisionalResult = provisional;
+      step_kind_from_parent = Inductive;
+      available_depth = 0;
+      min_reached_available_depth = 0;
+      provisional_result = provisional;
       heads = heads;
-      encounteredOverflow = false;
+      encountered_overflow = false;
       usages = usages;
-      candidateUsages = none;
-      nestedGoals = 0 ∷ 0 ∷ [];
-      stepCounts = noSteps;
+      candidate_usages = none;
+      nested_goals = 0 ∷ 0 ∷ [];
+      step_counts = no_steps;
     }
 
 abbrev own : CycleHeads
@@ -48,19 +48,19 @@ own = some (inductively 2 once) ∷ none ∷ []
 
 -- ---- which ending applies: `left` reruns are allowed
 abbrev ends : ℕ → Option Answer → Option HeadUsages → Answer → Ending
-ends left provisional usages answer = endingOf left (frame 1 provisional own usages) answer
+ends left provisional usages answer = ending_of left (frame 1 provisional own usages) answer
 
-heads-no-ring : ends 3 none none Yes ≡ ending.Nothing
-heads-no-ring = refl
+heads_no_ring : ends 3 none none Yes ≡ ending.Nothing
+heads_no_ring = refl
 
-as-it-began : ends 3 none (some once) No ≡ ending.Fixpoint (First Inductive)
-as-it-began = refl
+as_it_began : ends 3 none (some once) No ≡ ending.Fixpoint (First Inductive)
+as_it_began = refl
 
 as_before : ends 3 (some Yes) (some once) Yes ≡ ending.Fixpoint Later
 as_before = refl
 
-not-used : ends 3 (some Yes) (some noUsages) No ≡ ending.NoUsages
-not-used = refl
+not_used : ends 3 (some Yes) (some no_usages) No ≡ ending.NoUsages
+not_used = refl
 
 ambiguous : ends 3 (some Yes) (some once) Undecided ≡ ending.Ambiguity Undecided
 ambiguous = refl
@@ -74,7 +74,7 @@ none_left = refl
 -- ---- what is left of the entries: those of goals 2 to 4 used goal 1, that of goal 5 only came by it, that of goal 6 did not
 abbrev entry : ℕ → Answer → CycleHeads → Entry
 entry goal result heads =
-    record { input = goal; encounteredOverflow = false; heads = heads; pathFromHead = Inductive; result = result }
+    record { input = goal; encountered_overflow = false; heads = heads; path_from_head = Inductive; result = result }
 
 abbrev under1 : HeadUsages → CycleHeads
 under1 usages = none ∷ some (inductively 2 usages) ∷ []
@@ -82,16 +82,16 @@ under1 usages = none ∷ some (inductively 2 usages) ∷ []
 abbrev graph : Graph
 graph =
     record {
-      rootDepth = 0;
+      root_depth = 0;
       stack = frame 1 (some Yes) own (some once) ∷ frame 0 none (none ∷ none ∷ []) (some once) ∷ [];
-      provisionalCache =
+      provisional_cache =
           entry 2 Yes (under1 once)
           ∷ entry 3 Undecided (under1 once)
-          ∷ entry 4 Overflow (under1 (oneUsage Coinductive))
-          ∷ entry 5 No (under1 noUsages)
+          ∷ entry 4 Overflow (under1 (one_usage Coinductive))
+          ∷ entry 5 No (under1 no_usages)
           ∷ entry 6 No (some (inductively 2 once) ∷ none ∷ [])
           ∷ [];
-      globalCache = [];
+      global_cache = [];
     }
 
 abbrev goals : List Entry → List ℕ
@@ -99,19 +99,19 @@ goals [] = []
 goals (e ∷ es) = e.input ∷ goals es
 
 abbrev left : Ending → List ℕ
-left e = goals (pop e graph).provisionalCache
+left e = goals (pop e graph).provisional_cache
 
-nothing-follows : left ending.Nothing ≡ 2 ∷ 3 ∷ 4 ∷ 5 ∷ 6 ∷ []
-nothing-follows = refl
+nothing_follows : left ending.Nothing ≡ 2 ∷ 3 ∷ 4 ∷ 5 ∷ 6 ∷ []
+nothing_follows = refl
 
-later-fixpoint : left (ending.Fixpoint Later) ≡ 2 ∷ 3 ∷ 4 ∷ 5 ∷ 6 ∷ []
-later-fixpoint = refl
+later_fixpoint : left (ending.Fixpoint Later) ≡ 2 ∷ 3 ∷ 4 ∷ 5 ∷ 6 ∷ []
+later_fixpoint = refl
 
-first-fixpoint : left (ending.Fixpoint (First Inductive)) ≡ 2 ∷ 3 ∷ 5 ∷ 6 ∷ []
-first-fixpoint = refl
+first_fixpoint : left (ending.Fixpoint (First Inductive)) ≡ 2 ∷ 3 ∷ 5 ∷ 6 ∷ []
+first_fixpoint = refl
 
-no-usages : left ending.NoUsages ≡ 5 ∷ 6 ∷ []
-no-usages = refl
+no_usages_lem : left ending.NoUsages ≡ 5 ∷ 6 ∷ []
+no_usages_lem = refl
 
 ambiguity : left (ending.Ambiguity Undecided) ≡ 3 ∷ 5 ∷ 6 ∷ []
 ambiguity = refl
@@ -127,10 +127,10 @@ abbrev heads : List Entry → List CycleHeads
 heads [] = []
 heads (e ∷ es) = e.heads ∷ heads es
 
-moved : heads (pop ending.NoUsages graph).provisionalCache
-    ≡ (some (inductively emptyPath noUsages) ∷ none ∷ []) ∷ (some (inductively 2 once) ∷ none ∷ []) ∷ []
+moved : heads (pop ending.NoUsages graph).provisional_cache
+    ≡ (some (inductively empty_path no_usages) ∷ none ∷ []) ∷ (some (inductively 2 once) ∷ none ∷ []) ∷ []
 moved = refl
 
-stayed : heads (pop ending.Rerun graph).provisionalCache
-    ≡ under1 noUsages ∷ (some (inductively 2 once) ∷ none ∷ []) ∷ []
+stayed : heads (pop ending.Rerun graph).provisional_cache
+    ≡ under1 no_usages ∷ (some (inductively 2 once) ∷ none ∷ []) ∷ []
 stayed = refl

@@ -4,8 +4,8 @@ use Prim.Native.Nat.{ℕ, ◌<◌}
 use mathlib.Core.List.{List, [], ◌∷◌}
 use lib.ListN.{get_or}
 use Rattle.definition.specs.Answers.{combine}
-use Rattle.definition.specs.Usages.{counterLimit}
-use Rattle.definition.proofs.Example.{line, Example, Right, noExample, each_right}
+use Rattle.definition.specs.Usages.{counter_limit}
+use Rattle.definition.proofs.Example.{line, Example, Right, no_example, each_right}
 use Rattle.definition.proofs.Document.{row, call, yes}
 
 abbrev all : ℕ → List ℕ
@@ -56,6 +56,6 @@ table =
     ∷ row (any 3 ∷ undecided ∷ overflow ∷ yes ∷ []) 1 1 3
     ∷ []
 
-pub maybes : (k : ℕ) → k < 20 → Right (get_or table k noExample)
-unfolding counterLimit combine
+pub maybes : (k : ℕ) → k < 20 → Right (get_or table k no_example)
+unfolding counter_limit combine
 maybes = each_right table tt

@@ -2,8 +2,8 @@
 use mathlib.Core.Path.{◌≡◌, refl}
 use mathlib.Core.List.{[], ◌∷◌}
 use Rattle.definition.specs.declared.paths.PathKind.TheVariants.{Inductive, Unknown, Coinductive, ForcedAmbiguity}
-use Rattle.definition.specs.Steps.{countSteps}
+use Rattle.definition.specs.Steps.{count_steps}
 
-counted : countSteps (Unknown ∷ Inductive ∷ Unknown ∷ ForcedAmbiguity ∷ Coinductive ∷ Unknown ∷ Coinductive ∷ [])
+counted : count_steps (Unknown ∷ Inductive ∷ Unknown ∷ ForcedAmbiguity ∷ Coinductive ∷ Unknown ∷ Coinductive ∷ [])
     ≡ record { inductive = 1; unknown = 3; coinductive = 2; forced = 1 }
 counted = refl

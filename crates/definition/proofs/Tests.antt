@@ -11,5 +11,5 @@ pub and_right : (a b : Bool) → T (a && b) → T b
 and_right true b t = t
 and_right false b t = absurd t
 
-pub not-second : (a b : Bool) → b ≡ false → a && b ≡ false
-not-second a b e = ap (λ (t : Bool). a && t) e ∙ and-false a
+pub not_second : (a b : Bool) → b ≡ false → a && b ≡ false
+not_second a b e = ap (λ (t : Bool). a && t) e ∙ and-false a

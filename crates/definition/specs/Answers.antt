@@ -9,11 +9,11 @@ use Rattle.definition.specs.declared.replies.Refusal.TheVariants.{BookLength, Bo
 use Rattle.definition.specs.declared.replies.Response.{Response}
 use Rattle.definition.specs.declared.replies.Response.TheVariants.{Answered, Refused}
 
-abbrev pub answerNumber : Answer → ℕ
-answerNumber No = 0
-answerNumber Yes = 1
-answerNumber Undecided = 2
-answerNumber Overflow = 3
+abbrev pub answer_number : Answer → ℕ
+answer_number No = 0
+answer_number Yes = 1
+answer_number Undecided = 2
+answer_number Overflow = 3
 
 abbrev pub answer_of : ℕ → Answer
 answer_of zero = No
@@ -21,57 +21,57 @@ answer_of (suc zero) = Yes
 answer_of (suc (suc zero)) = Undecided
 answer_of (suc (suc (suc n))) = Overflow
 
-abbrev pub sameAnswer : Answer → Answer → Bool
-sameAnswer a b = eqb (answerNumber a) (answerNumber b)
+abbrev pub same_answer : Answer → Answer → Bool
+same_answer a b = eqb (answer_number a) (answer_number b)
 
 -- what all, any and pick make of two answers that do not decide them: 2 where one of them is 2 (document 02, item 4),
 -- else the one with the higher number. Proofs go by its laws (Combining.antt)
 unfoldable pub combine : Answer → Answer → Answer
 combine a b =
-    elim (sameAnswer a Undecided || sameAnswer b Undecided) [
+    elim (same_answer a Undecided || same_answer b Undecided) [
       | true ↦ Undecided
-      | false ↦ elim (leb (answerNumber a) (answerNumber b)) [ true ↦ b | false ↦ a ]
+      | false ↦ elim (leb (answer_number a) (answer_number b)) [ true ↦ b | false ↦ a ]
     ]
 
-abbrev pub initialProvisionalResult : PathKind → Answer
-initialProvisionalResult Inductive = No
-initialProvisionalResult Unknown = Undecided
-initialProvisionalResult Coinductive = Yes
-initialProvisionalResult ForcedAmbiguity = Overflow
+abbrev pub initial_provisional_result : PathKind → Answer
+initial_provisional_result Inductive = No
+initial_provisional_result Unknown = Undecided
+initial_provisional_result Coinductive = Yes
+initial_provisional_result ForcedAmbiguity = Overflow
 
 -- is_initial_provisional_result: the inverse; here every answer has a kind
-abbrev pub initialKind : Answer → PathKind
-initialKind No = Inductive
-initialKind Yes = Coinductive
-initialKind Undecided = Unknown
-initialKind Overflow = ForcedAmbiguity
+abbrev pub initial_kind : Answer → PathKind
+initial_kind No = Inductive
+initial_kind Yes = Coinductive
+initial_kind Undecided = Unknown
+initial_kind Overflow = ForcedAmbiguity
 
 -- is_ambiguous_result; an ambiguous answer is its own kind of ambiguity
-abbrev pub isAmbiguous : Answer → Bool
-isAmbiguous No = false
-isAmbiguous Yes = false
-isAmbiguous Undecided = true
-isAmbiguous Overflow = true
+abbrev pub is_ambiguous : Answer → Bool
+is_ambiguous No = false
+is_ambiguous Yes = false
+is_ambiguous Undecided = true
+is_ambiguous Overflow = true
 
-abbrev pub refusalNumber : Refusal → ℕ
-refusalNumber BookLength = 1
-refusalNumber BookLine = 2
-refusalNumber BookHeader = 3
-refusalNumber BookBody = 4
-refusalNumber UnknownGoal = 5
-refusalNumber DepthAboveTop = 6
-refusalNumber CacheLength = 7
-refusalNumber CacheForm = 8
-refusalNumber WorkLength = 9
-refusalNumber ProvisionalCacheFull = 10
-refusalNumber CacheConflict = 11
-refusalNumber Unreachable = 255
+abbrev pub refusal_number : Refusal → ℕ
+refusal_number BookLength = 1
+refusal_number BookLine = 2
+refusal_number BookHeader = 3
+refusal_number BookBody = 4
+refusal_number UnknownGoal = 5
+refusal_number DepthAboveTop = 6
+refusal_number CacheLength = 7
+refusal_number CacheForm = 8
+refusal_number WorkLength = 9
+refusal_number ProvisionalCacheFull = 10
+refusal_number CacheConflict = 11
+refusal_number Unreachable = 255
 
 -- a refused query carries answer 0, which is then no verdict; refusal 0 says that it was accepted
-abbrev pub responseAnswer : Response → ℕ
-responseAnswer (Answered a) = answerNumber a
-responseAnswer (Refused r) = 0
+abbrev pub response_answer : Response → ℕ
+response_answer (Answered a) = answer_number a
+response_answer (Refused r) = 0
 
-abbrev pub responseRefusal : Response → ℕ
-responseRefusal (Answered a) = 0
-responseRefusal (Refused r) = refusalNumber r
+abbrev pub response_refusal : Response → ℕ
+response_refusal (Answered a) = 0
+response_refusal (Refused r) = refusal_number r

@@ -2,54 +2,54 @@
 use Rattle.std.specs.Prelude.{ℕ, zero, suc, Bool, true, ◌&&◌, List, [], ◌∷◌, length, get_or, replicate}
 use Rattle.std.proofs.Math.Option.{Option, none, some}
 use Rattle.definition.specs.declared.usages.HeadUsages.{HeadUsages}
-use Rattle.definition.specs.Usages.{noUsages, ignoreUsages, usagesCover}
-use Rattle.definition.specs.Heads.{CycleHeads, ignoreAtHeads, usagesAt}
-use Rattle.definition.specs.Stack.{withHeads, withUsages, withCandidateUsages, Stack}
-use Rattle.definition.specs.Parent.{orNoUsages}
-use Rattle.definition.specs.Graph.{Graph, withStack}
+use Rattle.definition.specs.Usages.{no_usages, ignore_usages, usages_cover}
+use Rattle.definition.specs.Heads.{CycleHeads, ignore_at_heads, usages_at}
+use Rattle.definition.specs.Stack.{with_heads, with_usages, with_candidate_usages, Stack}
+use Rattle.definition.specs.Parent.{or_no_usages}
+use Rattle.definition.specs.Graph.{Graph, with_stack}
 
 -- CandidateHeadUsages::default
-abbrev pub noCandidateUsages : ℕ → List HeadUsages
-noCandidateUsages goals = replicate goals noUsages
+abbrev pub no_candidate_usages : ℕ → List HeadUsages
+no_candidate_usages goals = replicate goals no_usages
 
-abbrev pub setCandidateUsages : Option (List HeadUsages) → Stack → Stack
-setCandidateUsages c [] = []
-setCandidateUsages c (f ∷ fs) = withCandidateUsages f c ∷ fs
+abbrev pub set_candidate_usages : Option (List HeadUsages) → Stack → Stack
+set_candidate_usages c [] = []
+set_candidate_usages c (f ∷ fs) = with_candidate_usages f c ∷ fs
 
-abbrev pub enterSingleCandidate : ℕ → Graph → Graph
-enterSingleCandidate goals g = withStack g (setCandidateUsages (some (noCandidateUsages goals)) g.stack)
+abbrev pub enter_single_candidate : ℕ → Graph → Graph
+enter_single_candidate goals g = with_stack g (set_candidate_usages (some (no_candidate_usages goals)) g.stack)
 
-abbrev pub candidateUsagesOf : ℕ → Stack → List HeadUsages
-candidateUsagesOf goals [] = noCandidateUsages goals
-candidateUsagesOf goals (f ∷ fs) = elim f.candidateUsages [ none ↦ noCandidateUsages goals | some us ↦ us ]
+abbrev pub candidate_usages_of : ℕ → Stack → List HeadUsages
+candidate_usages_of goals [] = no_candidate_usages goals
+candidate_usages_of goals (f ∷ fs) = elim f.candidate_usages [ none ↦ no_candidate_usages goals | some us ↦ us ]
 
 -- finish_single_candidate takes the usages from the frame and hands them back
-abbrev pub finishedUsages : ℕ → Graph → List HeadUsages
-finishedUsages goals g = candidateUsagesOf goals g.stack
+abbrev pub finished_usages : ℕ → Graph → List HeadUsages
+finished_usages goals g = candidate_usages_of goals g.stack
 
-abbrev pub finishSingleCandidate : Graph → Graph
-finishSingleCandidate g = withStack g (setCandidateUsages none g.stack)
+abbrev pub finish_single_candidate : Graph → Graph
+finish_single_candidate g = with_stack g (set_candidate_usages none g.stack)
 
 -- ---- ignore_candidate_head_usages
-abbrev pub ignoreOwnUsages : Option HeadUsages → HeadUsages → Option HeadUsages
-ignoreOwnUsages none u = none
-ignoreOwnUsages (some own) u = some (ignoreUsages own u)
+abbrev pub ignore_own_usages : Option HeadUsages → HeadUsages → Option HeadUsages
+ignore_own_usages none u = none
+ignore_own_usages (some own) u = some (ignore_usages own u)
 
 -- a frame has no head at its own index, so that `ignoreAtHeads` goes over every index
-abbrev pub ignoreOnTop : List HeadUsages → Stack → Stack
-ignoreOnTop us [] = []
-ignoreOnTop us (f ∷ fs) =
-    withUsages (withHeads f (ignoreAtHeads f.heads us)) (ignoreOwnUsages f.usages (get_or us (length fs) noUsages)) ∷ fs
+abbrev pub ignore_on_top : List HeadUsages → Stack → Stack
+ignore_on_top us [] = []
+ignore_on_top us (f ∷ fs) =
+    with_usages (with_heads f (ignore_at_heads f.heads us)) (ignore_own_usages f.usages (get_or us (length fs) no_usages)) ∷ fs
 
-abbrev pub ignoreCandidateHeadUsages : Graph → List HeadUsages → Graph
-ignoreCandidateHeadUsages g us = withStack g (ignoreOnTop us g.stack)
+abbrev pub ignore_candidate_head_usages : Graph → List HeadUsages → Graph
+ignore_candidate_head_usages g us = with_stack g (ignore_on_top us g.stack)
 
 -- no subtraction fails: at the heads below an index, and at the frame's own usages
-abbrev pub headsCover : ℕ → CycleHeads → List HeadUsages → Bool
-headsCover zero hs us = true
-headsCover (suc i) hs us = usagesCover (usagesAt hs i) (get_or us i noUsages) && headsCover i hs us
+abbrev pub heads_cover : ℕ → CycleHeads → List HeadUsages → Bool
+heads_cover zero hs us = true
+heads_cover (suc i) hs us = usages_cover (usages_at hs i) (get_or us i no_usages) && heads_cover i hs us
 
-abbrev pub canIgnore : List HeadUsages → Stack → Bool
-canIgnore us [] = true
-canIgnore us (f ∷ fs) =
-    headsCover (length fs) f.heads us && usagesCover (orNoUsages f.usages) (get_or us (length fs) noUsages)
+abbrev pub can_ignore : List HeadUsages → Stack → Bool
+can_ignore us [] = true
+can_ignore us (f ∷ fs) =
+    heads_cover (length fs) f.heads us && usages_cover (or_no_usages f.usages) (get_or us (length fs) no_usages)

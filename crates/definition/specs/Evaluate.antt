@@ -7,19 +7,19 @@ use Rattle.definition.specs.declared.answers.Answer.{Answer}
 use Rattle.definition.specs.declared.answers.Answer.TheVariants.{No, Yes, Undecided, Overflow}
 use Rattle.definition.specs.declared.format.Header.{Header}
 use Rattle.definition.specs.declared.replies.Refusal.TheVariants.{ProvisionalCacheFull, CacheConflict, Unreachable}
-use Rattle.definition.specs.Usages.{mergeUsages}
-use Rattle.definition.specs.Answers.{combine, sameAnswer}
-use Rattle.definition.specs.Heads.{noHeads, headsEmpty, highestIndex}
-use Rattle.definition.specs.Nested.{noNestedGoals}
-use Rattle.definition.specs.Steps.{countSteps}
-use Rattle.definition.specs.Stack.{Frame, Stack, stepKinds, cyclePathKind}
+use Rattle.definition.specs.Usages.{merge_usages}
+use Rattle.definition.specs.Answers.{combine, same_answer}
+use Rattle.definition.specs.Heads.{no_heads, heads_empty, highest_index}
+use Rattle.definition.specs.Nested.{no_nested_goals}
+use Rattle.definition.specs.Steps.{count_steps}
+use Rattle.definition.specs.Stack.{Frame, Stack, step_kinds, cycle_path_kind}
 use Rattle.definition.specs.Part.{All, Any, Pick, Part, Parts, Call, Node, UndecidedLine, End, Then, Book, part_at}
-use Rattle.definition.specs.Graph.{Graph, Entry, withStack, withProvisionalCache, withGlobalCache, Outcome, Done, Stopped, and_then, unlessFound, EvaluationResult}
-use Rattle.definition.specs.Parent.{updateParentGoal, handleOverflow, Ordinary}
-use Rattle.definition.specs.GlobalCache.{cacheInsert}
-use Rattle.definition.specs.Lookup.{allowedDepthForNested, lookupProvisionalCache, lookupGlobalCache, checkCycleOnStack}
-use Rattle.definition.specs.Candidates.{noCandidateUsages, enterSingleCandidate, finishedUsages, finishSingleCandidate, canIgnore, ignoreCandidateHeadUsages}
-use Rattle.definition.specs.Task.{TaskOutcome, Evaluated, TaskStopped, evaluateGoalInTask}
+use Rattle.definition.specs.Graph.{Graph, Entry, with_stack, with_provisional_cache, with_global_cache, Outcome, Done, Stopped, and_then, unless_found, EvaluationResult}
+use Rattle.definition.specs.Parent.{update_parent_goal, handle_overflow, Ordinary}
+use Rattle.definition.specs.GlobalCache.{cache_insert}
+use Rattle.definition.specs.Lookup.{allowed_depth_for_nested, lookup_provisional_cache, lookup_global_cache, check_cycle_on_stack}
+use Rattle.definition.specs.Candidates.{no_candidate_usages, enter_single_candidate, finished_usages, finish_single_candidate, can_ignore, ignore_candidate_head_usages}
+use Rattle.definition.specs.Task.{TaskOutcome, Evaluated, TaskStopped, evaluate_goal_in_task}
 
 -- evaluate_goal on a goal, its step from the parent, and whether to lower the depth
 abbrev pub Evaluator : Type 0
@@ -28,137 +28,137 @@ Evaluator = Graph → ℕ → PathKind → Bool → Outcome
 -- ---- compute_goal: a part is evaluated over how a goal is
 
 -- after the candidates: `met`, a Yes was met; where a subtraction would fail the Rust panics, and none does
-abbrev pub endPick : Bool → Answer → List HeadUsages → Graph → Outcome
-endPick true combined others g =
-    elim (canIgnore others g.stack) [ true ↦ Done (ignoreCandidateHeadUsages g others) Yes | false ↦ Stopped Unreachable ]
-endPick false combined others g = Done g combined
+abbrev pub end_pick : Bool → Answer → List HeadUsages → Graph → Outcome
+end_pick true combined others g =
+    elim (can_ignore others g.stack) [ true ↦ Done (ignore_candidate_head_usages g others) Yes | false ↦ Stopped Unreachable ]
+end_pick false combined others g = Done g combined
 
-abbrev pub mergeUnless : Bool → List HeadUsages → List HeadUsages → List HeadUsages
-mergeUnless true others usages = others
-mergeUnless false others usages = mergeUsages others usages
+abbrev pub merge_unless : Bool → List HeadUsages → List HeadUsages → List HeadUsages
+merge_unless true others usages = others
+merge_unless false others usages = merge_usages others usages
 
 module _ (evaluate : Evaluator) (goals : ℕ) where
   abbrev mutual
-    pub evalPart : Part → Graph → Outcome
-    evalPart (Call goal kind lower) g = evaluate g goal kind lower
-    evalPart (Node All ps) g = evalAll ps Yes g
-    evalPart (Node Any ps) g = evalAny ps No g
-    evalPart (Node Pick ps) g = evalPick ps false No (noCandidateUsages goals) g
-    evalPart UndecidedLine g = Done g Undecided
+    pub eval_part : Part → Graph → Outcome
+    eval_part (Call goal kind lower) g = evaluate g goal kind lower
+    eval_part (Node All ps) g = eval_all ps Yes g
+    eval_part (Node Any ps) g = eval_any ps No g
+    eval_part (Node Pick ps) g = eval_pick ps false No (no_candidate_usages goals) g
+    eval_part UndecidedLine g = Done g Undecided
 
     -- stops at a No
-    pub evalAll : Parts → Answer → Graph → Outcome
-    evalAll End combined g = Done g combined
-    evalAll (Then p ps) combined g =
-        and_then (evalPart p g) λ g1 a. elim (sameAnswer a No) [ true ↦ Done g1 No | false ↦ evalAll ps (combine combined a) g1 ]
+    pub eval_all : Parts → Answer → Graph → Outcome
+    eval_all End combined g = Done g combined
+    eval_all (Then p ps) combined g =
+        and_then (eval_part p g) λ g1 a. elim (same_answer a No) [ true ↦ Done g1 No | false ↦ eval_all ps (combine combined a) g1 ]
 
     -- stops at a Yes
-    pub evalAny : Parts → Answer → Graph → Outcome
-    evalAny End combined g = Done g combined
-    evalAny (Then p ps) combined g =
-        and_then (evalPart p g) λ g1 a. elim (sameAnswer a Yes) [ true ↦ Done g1 Yes | false ↦ evalAny ps (combine combined a) g1 ]
+    pub eval_any : Parts → Answer → Graph → Outcome
+    eval_any End combined g = Done g combined
+    eval_any (Then p ps) combined g =
+        and_then (eval_part p g) λ g1 a. elim (same_answer a Yes) [ true ↦ Done g1 Yes | false ↦ eval_any ps (combine combined a) g1 ]
 
     -- evaluates every candidate; `others`: the merged usages of all but the first Yes
-    pub evalPick : Parts → Bool → Answer → List HeadUsages → Graph → Outcome
-    evalPick End met combined others g = endPick met combined others g
-    evalPick (Then p ps) met combined others g =
-        and_then (evalPart p (enterSingleCandidate goals g)) λ g1 a.
-        evalPick ps (met || sameAnswer a Yes) (combine combined a)
-        (mergeUnless (not met && sameAnswer a Yes) others (finishedUsages goals g1)) (finishSingleCandidate g1)
+    pub eval_pick : Parts → Bool → Answer → List HeadUsages → Graph → Outcome
+    eval_pick End met combined others g = end_pick met combined others g
+    eval_pick (Then p ps) met combined others g =
+        and_then (eval_part p (enter_single_candidate goals g)) λ g1 a.
+        eval_pick ps (met || same_answer a Yes) (combine combined a)
+        (merge_unless (not met && same_answer a Yes) others (finished_usages goals g1)) (finish_single_candidate g1)
 
 -- a called goal is one of the book's
-abbrev pub computeGoal : Evaluator → Book → ℕ → Graph → Outcome
-computeGoal evaluate b input g =
-    elim (part_at b.parts input) [ none ↦ Stopped Unreachable | some p ↦ evalPart evaluate b.header.goals p g ]
+abbrev pub compute_goal : Evaluator → Book → ℕ → Graph → Outcome
+compute_goal evaluate b input g =
+    elim (part_at b.parts input) [ none ↦ Stopped Unreachable | some p ↦ eval_part evaluate b.header.goals p g ]
 
 -- ---- evaluate_goal
 
 -- a new frame on the stack s
-abbrev pub newFrame : ℕ → ℕ → PathKind → ℕ → Stack → Frame
-newFrame goals input step available s =
+abbrev pub new_frame : ℕ → ℕ → PathKind → ℕ → Stack → Frame
+new_frame goals input step available s =
     record {
       input = input;
-      stepKindFromParent = step;
-      availableDepth = available;
-      minReachedAvailableDepth = available;
-      provisionalResult = none;
-      heads = noHeads goals;
-      encounteredOverflow = false;
+      step_kind_from_parent = step;
+      available_depth = available;
+      min_reached_available_depth = available;
+      provisional_result = none;
+      heads = no_heads goals;
+      encountered_overflow = false;
       usages = none;
-      candidateUsages = none;
-      nestedGoals = noNestedGoals goals;
-      stepCounts = countSteps (step ∷ stepKinds s);
+      candidate_usages = none;
+      nested_goals = no_nested_goals goals;
+      step_counts = count_steps (step ∷ step_kinds s);
     }
 
-abbrev pub newEntry : Graph → ℕ → PathKind → EvaluationResult → Entry
-newEntry g input step r =
+abbrev pub new_entry : Graph → ℕ → PathKind → EvaluationResult → Entry
+new_entry g input step r =
     record {
       input = input;
-      encounteredOverflow = r.encounteredOverflow;
+      encountered_overflow = r.encountered_overflow;
       heads = r.heads;
-      pathFromHead = cyclePathKind g.stack step (highestIndex r.heads);
+      path_from_head = cycle_path_kind g.stack step (highest_index r.heads);
       result = r.result;
     }
 
 -- refused where 2 G entries are live already
-abbrev pub insertProvisionalCache : Header → Graph → ℕ → PathKind → EvaluationResult → Outcome
-insertProvisionalCache h g input step r =
-    elim (leb (2 * h.goals) (length g.provisionalCache)) [
+abbrev pub insert_provisional_cache : Header → Graph → ℕ → PathKind → EvaluationResult → Outcome
+insert_provisional_cache h g input step r =
+    elim (leb (2 * h.goals) (length g.provisional_cache)) [
       | true ↦ Stopped ProvisionalCacheFull
-      | false ↦ Done (withProvisionalCache g (g.provisionalCache ++ (newEntry g input step r ∷ []))) r.result
+      | false ↦ Done (with_provisional_cache g (g.provisional_cache ++ (new_entry g input step r ∷ []))) r.result
     ]
 
 -- refused where the slot holds a different result
-abbrev pub insertInSlot : Header → Graph → ℕ → EvaluationResult → Outcome
-insertInSlot h g input r =
-    elim (cacheInsert h g.globalCache input r) [
+abbrev pub insert_in_slot : Header → Graph → ℕ → EvaluationResult → Outcome
+insert_in_slot h g input r =
+    elim (cache_insert h g.global_cache input r) [
       | none ↦ Stopped CacheConflict
-      | some cache ↦ Done (withGlobalCache g cache) r.result
+      | some cache ↦ Done (with_global_cache g cache) r.result
     ]
 
 -- a required depth is never above the top depth, so that there is a slot
-abbrev pub insertGlobalCache : Header → Graph → ℕ → EvaluationResult → Outcome
-insertGlobalCache h g input r =
-    elim (leb r.requiredDepth h.top) [ true ↦ insertInSlot h g input r | false ↦ Stopped Unreachable ]
+abbrev pub insert_global_cache : Header → Graph → ℕ → EvaluationResult → Outcome
+insert_global_cache h g input r =
+    elim (leb r.required_depth h.top) [ true ↦ insert_in_slot h g input r | false ↦ Stopped Unreachable ]
 
-abbrev pub insertResult : Header → Graph → ℕ → PathKind → EvaluationResult → Outcome
-insertResult h g input step r =
-    elim (headsEmpty r.heads) [
-      | true ↦ insertGlobalCache h g input r
-      | false ↦ elim h.provisional [ true ↦ insertProvisionalCache h g input step r | false ↦ Done g r.result ]
+abbrev pub insert_result : Header → Graph → ℕ → PathKind → EvaluationResult → Outcome
+insert_result h g input step r =
+    elim (heads_empty r.heads) [
+      | true ↦ insert_global_cache h g input r
+      | false ↦ elim h.provisional [ true ↦ insert_provisional_cache h g input step r | false ↦ Done g r.result ]
     ]
 
 -- the frame was evaluated and popped: the parent is updated, and the result kept
-abbrev pub afterTask : Header → ℕ → PathKind → ℕ → TaskOutcome → Outcome
-afterTask h input step available (TaskStopped r) = Stopped r
-afterTask h input step available (Evaluated g r) =
-    insertResult h
-    (withStack g
-    (updateParentGoal g.stack step r.heads r.encounteredOverflow (Ordinary r.nestedGoals) (available - r.requiredDepth)))
+abbrev pub after_task : Header → ℕ → PathKind → ℕ → TaskOutcome → Outcome
+after_task h input step available (TaskStopped r) = Stopped r
+after_task h input step available (Evaluated g r) =
+    insert_result h
+    (with_stack g
+    (update_parent_goal g.stack step r.heads r.encountered_overflow (Ordinary r.nested_goals) (available - r.required_depth)))
     input step r
 
 -- L reruns less one are allowed, so that L = 0 acts as 1
-abbrev pub evaluateNewFrame : Header → (ℕ → Graph → Outcome) → Graph → ℕ → PathKind → ℕ → Outcome
-evaluateNewFrame h compute g input step available =
-    afterTask h input step available
-    (evaluateGoalInTask (compute input) (pred h.limit) 1 false
-    (withStack g (newFrame h.goals input step available g.stack ∷ g.stack)))
+abbrev pub evaluate_new_frame : Header → (ℕ → Graph → Outcome) → Graph → ℕ → PathKind → ℕ → Outcome
+evaluate_new_frame h compute g input step available =
+    after_task h input step available
+    (evaluate_goal_in_task (compute input) (pred h.limit) 1 false
+    (with_stack g (new_frame h.goals input step available g.stack ∷ g.stack)))
 
-abbrev pub evaluateAtDepth : Header → (ℕ → Graph → Outcome) → Graph → ℕ → PathKind → ℕ → Outcome
-evaluateAtDepth h compute g input step available =
-    unlessFound (lookupProvisionalCache h g input step available)
-    (unlessFound (lookupGlobalCache h g input step available)
-    (unlessFound (checkCycleOnStack h g input step available)
-    (evaluateNewFrame h compute g input step available)))
+abbrev pub evaluate_at_depth : Header → (ℕ → Graph → Outcome) → Graph → ℕ → PathKind → ℕ → Outcome
+evaluate_at_depth h compute g input step available =
+    unless_found (lookup_provisional_cache h g input step available)
+    (unless_found (lookup_global_cache h g input step available)
+    (unless_found (check_cycle_on_stack h g input step available)
+    (evaluate_new_frame h compute g input step available)))
 
-abbrev pub evaluateGoalWith : Header → (ℕ → Graph → Outcome) → Evaluator
-evaluateGoalWith h compute g input step lower =
-    elim (allowedDepthForNested h g.rootDepth g.stack lower) [
-      | none ↦ Done (withStack g (handleOverflow g.stack)) Overflow
-      | some available ↦ evaluateAtDepth h compute g input step available
+abbrev pub evaluate_goal_with : Header → (ℕ → Graph → Outcome) → Evaluator
+evaluate_goal_with h compute g input step lower =
+    elim (allowed_depth_for_nested h g.root_depth g.stack lower) [
+      | none ↦ Done (with_stack g (handle_overflow g.stack)) Overflow
+      | some available ↦ evaluate_at_depth h compute g input step available
     ]
 
 -- `off` goals are not on the stack. At 0 all are, so that a lookup or a cycle answers and nothing is computed
-abbrev pub evaluateGoal : Book → ℕ → Evaluator
-evaluateGoal b zero = evaluateGoalWith b.header (λ input g. Stopped Unreachable)
-evaluateGoal b (suc off) = evaluateGoalWith b.header (computeGoal (evaluateGoal b off) b)
+abbrev pub evaluate_goal : Book → ℕ → Evaluator
+evaluate_goal b zero = evaluate_goal_with b.header (λ input g. Stopped Unreachable)
+evaluate_goal b (suc off) = evaluate_goal_with b.header (compute_goal (evaluate_goal b off) b)

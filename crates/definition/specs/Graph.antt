@@ -6,43 +6,43 @@ use Rattle.definition.specs.declared.answers.Answer.{Answer}
 use Rattle.definition.specs.declared.replies.Refusal.{Refusal}
 use Rattle.definition.specs.Heads.{CycleHeads}
 use Rattle.definition.specs.Nested.{NestedGoals}
-use Rattle.definition.specs.Stack.{Frame, Stack, requiredDepthOf}
+use Rattle.definition.specs.Stack.{Frame, Stack, required_depth_of}
 
 -- ProvisionalCacheEntry. The entries of all goals are one list, in the order of insertion
 pub record Entry : Type 0 where
   pub input : ℕ
-  pub encounteredOverflow : Bool
+  pub encountered_overflow : Bool
   pub heads : CycleHeads
-  pub pathFromHead : PathKind
+  pub path_from_head : PathKind
   pub result : Answer
 
 -- ---- an entry with one field that is another
-abbrev pub withEntryHeads : Entry → CycleHeads → Entry
-withEntryHeads e hs =
-    record { input = e.input; encounteredOverflow = e.encounteredOverflow; heads = hs; pathFromHead = e.pathFromHead; result = e.result }
+abbrev pub with_entry_heads : Entry → CycleHeads → Entry
+with_entry_heads e hs =
+    record { input = e.input; encountered_overflow = e.encountered_overflow; heads = hs; path_from_head = e.path_from_head; result = e.result }
 
-abbrev pub withPathFromHead : Entry → PathKind → Entry
-withPathFromHead e path =
-    record { input = e.input; encounteredOverflow = e.encounteredOverflow; heads = e.heads; pathFromHead = path; result = e.result }
+abbrev pub with_path_from_head : Entry → PathKind → Entry
+with_path_from_head e path =
+    record { input = e.input; encountered_overflow = e.encountered_overflow; heads = e.heads; path_from_head = path; result = e.result }
 
 -- `globalCache` is document 01's notebook, in its bytes
 pub record Graph : Type 0 where
-  pub rootDepth : ℕ
+  pub root_depth : ℕ
   pub stack : Stack
-  pub provisionalCache : List Entry
-  pub globalCache : List ℕ
+  pub provisional_cache : List Entry
+  pub global_cache : List ℕ
 
-abbrev pub withStack : Graph → Stack → Graph
-withStack g s =
-    record { rootDepth = g.rootDepth; stack = s; provisionalCache = g.provisionalCache; globalCache = g.globalCache }
+abbrev pub with_stack : Graph → Stack → Graph
+with_stack g s =
+    record { root_depth = g.root_depth; stack = s; provisional_cache = g.provisional_cache; global_cache = g.global_cache }
 
-abbrev pub withProvisionalCache : Graph → List Entry → Graph
-withProvisionalCache g es =
-    record { rootDepth = g.rootDepth; stack = g.stack; provisionalCache = es; globalCache = g.globalCache }
+abbrev pub with_provisional_cache : Graph → List Entry → Graph
+with_provisional_cache g es =
+    record { root_depth = g.root_depth; stack = g.stack; provisional_cache = es; global_cache = g.global_cache }
 
-abbrev pub withGlobalCache : Graph → List ℕ → Graph
-withGlobalCache g cache =
-    record { rootDepth = g.rootDepth; stack = g.stack; provisionalCache = g.provisionalCache; globalCache = cache }
+abbrev pub with_global_cache : Graph → List ℕ → Graph
+with_global_cache g cache =
+    record { root_depth = g.root_depth; stack = g.stack; provisional_cache = g.provisional_cache; global_cache = cache }
 
 -- what an evaluation comes to; a refusal carries no state
 pub data Outcome : Type 0 where
@@ -55,26 +55,26 @@ and_then (Done g a) next = next g a
 and_then (Stopped r) next = Stopped r
 
 -- the next lookup, unless this one found something
-abbrev pub unlessFound : Option Outcome → Outcome → Outcome
-unlessFound (some o) next = o
-unlessFound none next = next
+abbrev pub unless_found : Option Outcome → Outcome → Outcome
+unless_found (some o) next = o
+unless_found none next = next
 
 -- `passes` is document 02's, item 8: how often the goal's part was run
 pub record EvaluationResult : Type 0 where
-  pub encounteredOverflow : Bool
-  pub requiredDepth : ℕ
+  pub encountered_overflow : Bool
+  pub required_depth : ℕ
   pub heads : CycleHeads
-  pub nestedGoals : NestedGoals
+  pub nested_goals : NestedGoals
   pub result : Answer
   pub passes : ℕ
 
 abbrev pub finalize : Frame → Bool → Answer → ℕ → EvaluationResult
 finalize f overflow result passes =
     record {
-      encounteredOverflow = overflow;
-      requiredDepth = requiredDepthOf f;
+      encountered_overflow = overflow;
+      required_depth = required_depth_of f;
       heads = f.heads;
-      nestedGoals = f.nestedGoals;
+      nested_goals = f.nested_goals;
       result = result;
       passes = passes;
     }

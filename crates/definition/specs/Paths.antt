@@ -5,11 +5,11 @@ use Rattle.definition.specs.declared.paths.PathKind.{PathKind}
 use Rattle.definition.specs.declared.paths.PathKind.TheVariants.{Inductive, Unknown, Coinductive, ForcedAmbiguity}
 
 -- the number that a call line has for a kind
-abbrev pub kindNumber : PathKind → ℕ
-kindNumber Inductive = 0
-kindNumber Unknown = 1
-kindNumber Coinductive = 2
-kindNumber ForcedAmbiguity = 3
+abbrev pub kind_number : PathKind → ℕ
+kind_number Inductive = 0
+kind_number Unknown = 1
+kind_number Coinductive = 2
+kind_number ForcedAmbiguity = 3
 
 abbrev pub kind_of : ℕ → PathKind
 kind_of zero = Inductive
@@ -17,60 +17,60 @@ kind_of (suc zero) = Unknown
 kind_of (suc (suc zero)) = Coinductive
 kind_of (suc (suc (suc n))) = ForcedAmbiguity
 
-abbrev pub sameKind : PathKind → PathKind → Bool
-sameKind a b = eqb (kindNumber a) (kindNumber b)
+abbrev pub same_kind : PathKind → PathKind → Bool
+same_kind a b = eqb (kind_number a) (kind_number b)
 
 -- PathKind::extend: the later of the two in the order of the kinds
 abbrev pub extend : PathKind → PathKind → PathKind
-extend a b = elim (leb (kindNumber a) (kindNumber b)) [ true ↦ b | false ↦ a ]
+extend a b = elim (leb (kind_number a) (kind_number b)) [ true ↦ b | false ↦ a ]
 
-abbrev pub extendAll : PathKind → List PathKind → PathKind
-extendAll k [] = k
-extendAll k (s ∷ ss) = extendAll (extend k s) ss
+abbrev pub extend_all : PathKind → List PathKind → PathKind
+extend_all k [] = k
+extend_all k (s ∷ ss) = extend_all (extend k s) ss
 
 -- PathsToNested::EMPTY
-abbrev pub emptyPath : ℕ
-emptyPath = 1
+abbrev pub empty_path : ℕ
+empty_path = 1
 
 -- From<PathKind> for PathsToNested
-abbrev pub flagOf : PathKind → ℕ
-flagOf Inductive = 2
-flagOf Unknown = 4
-flagOf Coinductive = 8
-flagOf ForcedAmbiguity = 16
+abbrev pub flag_of : PathKind → ℕ
+flag_of Inductive = 2
+flag_of Unknown = 4
+flag_of Coinductive = 8
+flag_of ForcedAmbiguity = 16
 
 -- the flags of the weaker paths, which `extend_with` a kind replaces
-abbrev pub weakerFlags : PathKind → ℕ
-weakerFlags Inductive = 1
-weakerFlags Unknown = 3
-weakerFlags Coinductive = 7
-weakerFlags ForcedAmbiguity = 15
+abbrev pub weaker_flags : PathKind → ℕ
+weaker_flags Inductive = 1
+weaker_flags Unknown = 3
+weaker_flags Coinductive = 7
+weaker_flags ForcedAmbiguity = 15
 
-abbrev pub containsPath : ℕ → PathKind → Bool
-containsPath p k = eqb (bit_and p (flagOf k)) (flagOf k)
+abbrev pub contains_path : ℕ → PathKind → Bool
+contains_path p k = eqb (bit_and p (flag_of k)) (flag_of k)
 
 -- intersects, remove, insert
-abbrev pub extendWith : ℕ → PathKind → ℕ
-extendWith p k =
-    elim (eqb (bit_and p (weakerFlags k)) 0) [
+abbrev pub extend_with : ℕ → PathKind → ℕ
+extend_with p k =
+    elim (eqb (bit_and p (weaker_flags k)) 0) [
       | true ↦ p
-      | false ↦ bit_or (bit_and p (255 - weakerFlags k)) (flagOf k)
+      | false ↦ bit_or (bit_and p (255 - weaker_flags k)) (flag_of k)
     ]
 
-abbrev pub pathKinds : List PathKind
-pathKinds = Inductive ∷ Unknown ∷ Coinductive ∷ ForcedAmbiguity ∷ []
+abbrev pub path_kinds : List PathKind
+path_kinds = Inductive ∷ Unknown ∷ Coinductive ∷ ForcedAmbiguity ∷ []
 
-abbrev pub containedIn : ℕ → List PathKind → List PathKind
-containedIn p [] = []
-containedIn p (k ∷ ks) = elim (containsPath p k) [ true ↦ k ∷ containedIn p ks | false ↦ containedIn p ks ]
+abbrev pub contained_in : ℕ → List PathKind → List PathKind
+contained_in p [] = []
+contained_in p (k ∷ ks) = elim (contains_path p k) [ true ↦ k ∷ contained_in p ks | false ↦ contained_in p ks ]
 
 -- iter_paths skips the empty path
-abbrev pub iterPaths : ℕ → List PathKind
-iterPaths p = containedIn p pathKinds
+abbrev pub iter_paths : ℕ → List PathKind
+iter_paths p = contained_in p path_kinds
 
-abbrev pub extendWithEach : ℕ → List PathKind → ℕ
-extendWithEach p [] = 0
-extendWithEach p (k ∷ ks) = bit_or (extendWith p k) (extendWithEach p ks)
+abbrev pub extend_with_each : ℕ → List PathKind → ℕ
+extend_with_each p [] = 0
+extend_with_each p (k ∷ ks) = bit_or (extend_with p k) (extend_with_each p ks)
 
-abbrev pub extendWithPaths : ℕ → ℕ → ℕ
-extendWithPaths p q = extendWithEach p (iterPaths q)
+abbrev pub extend_with_paths : ℕ → ℕ → ℕ
+extend_with_paths p q = extend_with_each p (iter_paths q)

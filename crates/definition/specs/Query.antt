@@ -8,9 +8,9 @@ use Rattle.definition.specs.declared.replies.Response.{Response}
 use Rattle.definition.specs.declared.replies.Response.TheVariants.{Answered, Refused}
 use Rattle.definition.specs.Part.{Book}
 use Rattle.definition.specs.Graph.{Graph, Outcome, Done, Stopped}
-use Rattle.definition.specs.Reader.{Accepted, Rejected, readBook}
-use Rattle.definition.specs.CacheForm.{cacheLength, cacheFits}
-use Rattle.definition.specs.Evaluate.{evaluateGoal}
+use Rattle.definition.specs.Reader.{Accepted, Rejected, read_book}
+use Rattle.definition.specs.CacheForm.{cache_length, cache_fits}
+use Rattle.definition.specs.Evaluate.{evaluate_goal}
 
 -- the response, and the bytes of the cache and of the workspace afterwards
 pub record Reply : Type 0 where
@@ -19,8 +19,8 @@ pub record Reply : Type 0 where
   pub work : List ℕ
 
 -- the published length of the workspace
-abbrev pub workLength : ℕ → ℕ
-workLength goals = 4 * goals * (41 * goals + 24)
+abbrev pub work_length : ℕ → ℕ
+work_length goals = 4 * goals * (41 * goals + 24)
 
 -- ---- the refusals 5 to 9
 pub record Check : Type 0 where
@@ -32,23 +32,23 @@ abbrev pub checks : Book → List ℕ → List ℕ → ℕ → ℕ → List Chec
 checks b cache work goal depth =
     record { passed = ltb goal b.header.goals; otherwise = UnknownGoal }
     ∷ record { passed = leb depth b.header.top; otherwise = DepthAboveTop }
-    ∷ record { passed = eqb (length cache) (cacheLength b.header); otherwise = CacheLength }
-    ∷ record { passed = cacheFits b.header cache; otherwise = CacheForm }
-    ∷ record { passed = eqb (length work) (workLength b.header.goals); otherwise = WorkLength }
+    ∷ record { passed = eqb (length cache) (cache_length b.header); otherwise = CacheLength }
+    ∷ record { passed = cache_fits b.header cache; otherwise = CacheForm }
+    ∷ record { passed = eqb (length work) (work_length b.header.goals); otherwise = WorkLength }
     ∷ []
 
-abbrev pub firstFailed : List Check → Option Refusal
-firstFailed [] = none
-firstFailed (c ∷ cs) = elim c.passed [ true ↦ firstFailed cs | false ↦ some c.otherwise ]
+abbrev pub first_failed : List Check → Option Refusal
+first_failed [] = none
+first_failed (c ∷ cs) = elim c.passed [ true ↦ first_failed cs | false ↦ some c.otherwise ]
 
 -- ---- the evaluation
 
 -- SearchGraph::new(depth)
-abbrev pub newGraph : ℕ → List ℕ → Graph
-newGraph depth cache = record { rootDepth = depth; stack = []; provisionalCache = []; globalCache = cache }
+abbrev pub new_graph : ℕ → List ℕ → Graph
+new_graph depth cache = record { root_depth = depth; stack = []; provisional_cache = []; global_cache = cache }
 
-abbrev pub evaluateRoot : Book → List ℕ → ℕ → ℕ → Outcome
-evaluateRoot b cache goal depth = evaluateGoal b b.header.goals (newGraph depth cache) goal Inductive true
+abbrev pub evaluate_root : Book → List ℕ → ℕ → ℕ → Outcome
+evaluate_root b cache goal depth = evaluate_goal b b.header.goals (new_graph depth cache) goal Inductive true
 
 -- ---- the reply
 abbrev pub zeros : List ℕ → List ℕ
@@ -59,20 +59,20 @@ abbrev pub untouched : Refusal → List ℕ → List ℕ → Reply
 untouched r cache work = record { response = Refused r; cache = cache; work = work }
 
 -- refusals 10 and 11 fill both with zeros; an accepted query fills the workspace with zeros
-abbrev pub replyOf : List ℕ → List ℕ → Outcome → Reply
-replyOf cache work (Done g a) = record { response = Answered a; cache = g.globalCache; work = zeros work }
-replyOf cache work (Stopped r) = record { response = Refused r; cache = zeros cache; work = zeros work }
+abbrev pub reply_of : List ℕ → List ℕ → Outcome → Reply
+reply_of cache work (Done g a) = record { response = Answered a; cache = g.global_cache; work = zeros work }
+reply_of cache work (Stopped r) = record { response = Refused r; cache = zeros cache; work = zeros work }
 
-abbrev pub queryBook : Book → List ℕ → List ℕ → ℕ → ℕ → Reply
-queryBook b cache work goal depth =
-    elim (firstFailed (checks b cache work goal depth)) [
+abbrev pub query_book : Book → List ℕ → List ℕ → ℕ → ℕ → Reply
+query_book b cache work goal depth =
+    elim (first_failed (checks b cache work goal depth)) [
       | some r ↦ untouched r cache work
-      | none ↦ replyOf cache work (evaluateRoot b cache goal depth)
+      | none ↦ reply_of cache work (evaluate_root b cache goal depth)
     ]
 
 abbrev pub query : List ℕ → List ℕ → List ℕ → ℕ → ℕ → Reply
 query bytes cache work goal depth =
-    elim (readBook bytes) [
+    elim (read_book bytes) [
       | Rejected r ↦ untouched r cache work
-      | Accepted b ↦ queryBook b cache work goal depth
+      | Accepted b ↦ query_book b cache work goal depth
     ]

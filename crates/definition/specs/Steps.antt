@@ -9,20 +9,20 @@ pub record StepCounts : Type 0 where
   pub coinductive : ℕ
   pub forced : ℕ
 
-abbrev pub noSteps : StepCounts
-noSteps = record { inductive = 0; unknown = 0; coinductive = 0; forced = 0 }
+abbrev pub no_steps : StepCounts
+no_steps = record { inductive = 0; unknown = 0; coinductive = 0; forced = 0 }
 
 -- one more of a kind
-abbrev pub countStep : PathKind → StepCounts → StepCounts
-countStep Inductive c =
+abbrev pub count_step : PathKind → StepCounts → StepCounts
+count_step Inductive c =
     record { inductive = suc c.inductive; unknown = c.unknown; coinductive = c.coinductive; forced = c.forced }
-countStep Unknown c =
+count_step Unknown c =
     record { inductive = c.inductive; unknown = suc c.unknown; coinductive = c.coinductive; forced = c.forced }
-countStep Coinductive c =
+count_step Coinductive c =
     record { inductive = c.inductive; unknown = c.unknown; coinductive = suc c.coinductive; forced = c.forced }
-countStep ForcedAmbiguity c =
+count_step ForcedAmbiguity c =
     record { inductive = c.inductive; unknown = c.unknown; coinductive = c.coinductive; forced = suc c.forced }
 
-abbrev pub countSteps : List PathKind → StepCounts
-countSteps [] = noSteps
-countSteps (k ∷ ks) = countStep k (countSteps ks)
+abbrev pub count_steps : List PathKind → StepCounts
+count_steps [] = no_steps
+count_steps (k ∷ ks) = count_step k (count_steps ks)

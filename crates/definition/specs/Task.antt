@@ -7,51 +7,51 @@ use Rattle.definition.specs.declared.endings.Ending.{Ending}
 use Rattle.definition.specs.declared.endings.Ending.TheVariants as ending
 use Rattle.definition.specs.declared.replies.Refusal.{Refusal}
 use Rattle.definition.specs.declared.replies.Refusal.TheVariants.{Unreachable}
-use Rattle.definition.specs.Usages.{noUsages}
-use Rattle.definition.specs.Stack.{Frame, withProvisionalResult, withOverflow, withUsages, withCandidateUsages, Stack}
-use Rattle.definition.specs.Graph.{Graph, withStack, Outcome, Done, Stopped, EvaluationResult, finalize}
-use Rattle.definition.specs.Endings.{endingOf, pop}
+use Rattle.definition.specs.Usages.{no_usages}
+use Rattle.definition.specs.Stack.{Frame, with_provisional_result, with_overflow, with_usages, with_candidate_usages, Stack}
+use Rattle.definition.specs.Graph.{Graph, with_stack, Outcome, Done, Stopped, EvaluationResult, finalize}
+use Rattle.definition.specs.Endings.{ending_of, pop}
 
 pub data TaskOutcome : Type 0 where
   Evaluated : Graph → EvaluationResult → TaskOutcome
   TaskStopped : Refusal → TaskOutcome
 
 -- heads and nested goals are kept; overflow, usages and candidate usages are reset
-abbrev pub rerunFrame : Frame → Answer → Frame
-rerunFrame f result =
-    withCandidateUsages (withUsages (withOverflow (withProvisionalResult f (some result)) false) (some noUsages)) none
+abbrev pub rerun_frame : Frame → Answer → Frame
+rerun_frame f result =
+    with_candidate_usages (with_usages (with_overflow (with_provisional_result f (some result)) false) (some no_usages)) none
 
-abbrev pub pushRerun : Graph → Frame → Answer → Graph
-pushRerun g f result = withStack g (rerunFrame f result ∷ g.stack)
+abbrev pub push_rerun : Graph → Frame → Answer → Graph
+push_rerun g f result = with_stack g (rerun_frame f result ∷ g.stack)
 
 -- the frame f was popped with that ending, and g is left; `next` is the next turn of the loop, `pass` the number of this
 -- one
-abbrev pub afterPop : (Bool → Graph → TaskOutcome) → ℕ → Bool → Frame → Answer → Ending → Graph → TaskOutcome
-afterPop next pass overflow f result ending.Nothing g = Evaluated g (finalize f overflow result pass)
-afterPop next pass overflow f result (ending.Fixpoint fixpoint) g = Evaluated g (finalize f overflow result pass)
-afterPop next pass overflow f result ending.NoUsages g = Evaluated g (finalize f overflow result pass)
-afterPop next pass overflow f result (ending.Ambiguity kind) g = Evaluated g (finalize f overflow result pass)
-afterPop next pass overflow f result ending.Overflow g = Evaluated g (finalize f overflow Overflow pass)
-afterPop next pass overflow f result ending.Rerun g = next overflow (pushRerun g f result)
+abbrev pub after_pop : (Bool → Graph → TaskOutcome) → ℕ → Bool → Frame → Answer → Ending → Graph → TaskOutcome
+after_pop next pass overflow f result ending.Nothing g = Evaluated g (finalize f overflow result pass)
+after_pop next pass overflow f result (ending.Fixpoint fixpoint) g = Evaluated g (finalize f overflow result pass)
+after_pop next pass overflow f result ending.NoUsages g = Evaluated g (finalize f overflow result pass)
+after_pop next pass overflow f result (ending.Ambiguity kind) g = Evaluated g (finalize f overflow result pass)
+after_pop next pass overflow f result ending.Overflow g = Evaluated g (finalize f overflow Overflow pass)
+after_pop next pass overflow f result ending.Rerun g = next overflow (push_rerun g f result)
 
 -- the graph's stack decides; there is always a frame to pop
-abbrev pub endIteration : ℕ → ℕ → (Bool → Graph → TaskOutcome) → Bool → Graph → Answer → Stack → TaskOutcome
-endIteration left pass next overflow g result [] = TaskStopped Unreachable
-endIteration left pass next overflow g result (f ∷ fs) =
-    afterPop next pass (overflow || f.encounteredOverflow) f result (endingOf left f result)
-    (pop (endingOf left f result) (withStack g (f ∷ fs)))
+abbrev pub end_iteration : ℕ → ℕ → (Bool → Graph → TaskOutcome) → Bool → Graph → Answer → Stack → TaskOutcome
+end_iteration left pass next overflow g result [] = TaskStopped Unreachable
+end_iteration left pass next overflow g result (f ∷ fs) =
+    after_pop next pass (overflow || f.encountered_overflow) f result (ending_of left f result)
+    (pop (ending_of left f result) (with_stack g (f ∷ fs)))
 
 abbrev pub iteration : ℕ → ℕ → (Bool → Graph → TaskOutcome) → Bool → Outcome → TaskOutcome
 iteration left pass next overflow (Stopped r) = TaskStopped r
-iteration left pass next overflow (Done g result) = endIteration left pass next overflow g result g.stack
+iteration left pass next overflow (Done g result) = end_iteration left pass next overflow g result g.stack
 
 -- the turn after the last one that is allowed: none is taken
-abbrev pub noTurn : Bool → Graph → TaskOutcome
-noTurn overflow g = TaskStopped Unreachable
+abbrev pub no_turn : Bool → Graph → TaskOutcome
+no_turn overflow g = TaskStopped Unreachable
 
 -- `left` reruns are allowed: where none is, none follows. `pass` is the number of this iteration, from 1 on, and goes into
 -- the result as how often the part was run. `overflow`: an earlier iteration met it
-abbrev pub evaluateGoalInTask : (Graph → Outcome) → ℕ → ℕ → Bool → Graph → TaskOutcome
-evaluateGoalInTask compute zero pass overflow g = iteration zero pass noTurn overflow (compute g)
-evaluateGoalInTask compute (suc left) pass overflow g =
-    iteration (suc left) pass (evaluateGoalInTask compute left (suc pass)) overflow (compute g)
+abbrev pub evaluate_goal_in_task : (Graph → Outcome) → ℕ → ℕ → Bool → Graph → TaskOutcome
+evaluate_goal_in_task compute zero pass overflow g = iteration zero pass no_turn overflow (compute g)
+evaluate_goal_in_task compute (suc left) pass overflow g =
+    iteration (suc left) pass (evaluate_goal_in_task compute left (suc pass)) overflow (compute g)

@@ -5,81 +5,81 @@ use Rattle.definition.specs.declared.paths.PathKind.{PathKind}
 use Rattle.definition.specs.declared.paths.PathKind.TheVariants.{Inductive, Unknown, Coinductive, ForcedAmbiguity}
 use Rattle.definition.specs.declared.usages.HeadUsages.{HeadUsages}
 
-unfoldable pub counterLimit : ℕ
-counterLimit = 4294967296
+unfoldable pub counter_limit : ℕ
+counter_limit = 4294967296
 
-abbrev pub addCounter : ℕ → ℕ → ℕ
-addCounter a b = elim (leb counterLimit a) [ true ↦ a | false ↦ min (a + b) counterLimit ]
+abbrev pub add_counter : ℕ → ℕ → ℕ
+add_counter a b = elim (leb counter_limit a) [ true ↦ a | false ↦ min (a + b) counter_limit ]
 
-abbrev pub subtractCounter : ℕ → ℕ → ℕ
-subtractCounter a b = elim (leb counterLimit a) [ true ↦ a | false ↦ a - b ]
+abbrev pub subtract_counter : ℕ → ℕ → ℕ
+subtract_counter a b = elim (leb counter_limit a) [ true ↦ a | false ↦ a - b ]
 
 -- where this is false, checked_sub of the Rust fails
-abbrev pub counterCovers : ℕ → ℕ → Bool
-counterCovers a b = leb counterLimit a || leb b a
+abbrev pub counter_covers : ℕ → ℕ → Bool
+counter_covers a b = leb counter_limit a || leb b a
 
-abbrev pub atMostOne : ℕ → ℕ
-atMostOne n = min n 1
+abbrev pub at_most_one : ℕ → ℕ
+at_most_one n = min n 1
 
 -- HeadUsages::default
-abbrev pub noUsages : HeadUsages
-noUsages = record { inductive = 0; unknown = 0; coinductive = 0; forced = 0 }
+abbrev pub no_usages : HeadUsages
+no_usages = record { inductive = 0; unknown = 0; coinductive = 0; forced = 0 }
 
-abbrev pub addUsages : HeadUsages → HeadUsages → HeadUsages
-addUsages u v =
+abbrev pub add_usages : HeadUsages → HeadUsages → HeadUsages
+add_usages u v =
     record {
-      inductive = addCounter u.inductive v.inductive;
-      unknown = addCounter u.unknown v.unknown;
-      coinductive = addCounter u.coinductive v.coinductive;
-      forced = addCounter u.forced v.forced;
+      inductive = add_counter u.inductive v.inductive;
+      unknown = add_counter u.unknown v.unknown;
+      coinductive = add_counter u.coinductive v.coinductive;
+      forced = add_counter u.forced v.forced;
     }
 
-abbrev pub oneUsage : PathKind → HeadUsages
-oneUsage Inductive = record { inductive = 1; unknown = 0; coinductive = 0; forced = 0 }
-oneUsage Unknown = record { inductive = 0; unknown = 1; coinductive = 0; forced = 0 }
-oneUsage Coinductive = record { inductive = 0; unknown = 0; coinductive = 1; forced = 0 }
-oneUsage ForcedAmbiguity = record { inductive = 0; unknown = 0; coinductive = 0; forced = 1 }
+abbrev pub one_usage : PathKind → HeadUsages
+one_usage Inductive = record { inductive = 1; unknown = 0; coinductive = 0; forced = 0 }
+one_usage Unknown = record { inductive = 0; unknown = 1; coinductive = 0; forced = 0 }
+one_usage Coinductive = record { inductive = 0; unknown = 0; coinductive = 1; forced = 0 }
+one_usage ForcedAmbiguity = record { inductive = 0; unknown = 0; coinductive = 0; forced = 1 }
 
-abbrev pub addUsage : HeadUsages → PathKind → HeadUsages
-addUsage u k = addUsages u (oneUsage k)
+abbrev pub add_usage : HeadUsages → PathKind → HeadUsages
+add_usage u k = add_usages u (one_usage k)
 
-abbrev pub addUsagesFromNested : HeadUsages → HeadUsages → HeadUsages
-addUsagesFromNested u v =
+abbrev pub add_usages_from_nested : HeadUsages → HeadUsages → HeadUsages
+add_usages_from_nested u v =
     record {
-      inductive = addCounter u.inductive (atMostOne v.inductive);
-      unknown = addCounter u.unknown (atMostOne v.unknown);
-      coinductive = addCounter u.coinductive (atMostOne v.coinductive);
-      forced = addCounter u.forced (atMostOne v.forced);
+      inductive = add_counter u.inductive (at_most_one v.inductive);
+      unknown = add_counter u.unknown (at_most_one v.unknown);
+      coinductive = add_counter u.coinductive (at_most_one v.coinductive);
+      forced = add_counter u.forced (at_most_one v.forced);
     }
 
-abbrev pub ignoreUsages : HeadUsages → HeadUsages → HeadUsages
-ignoreUsages u v =
+abbrev pub ignore_usages : HeadUsages → HeadUsages → HeadUsages
+ignore_usages u v =
     record {
-      inductive = subtractCounter u.inductive v.inductive;
-      unknown = subtractCounter u.unknown v.unknown;
-      coinductive = subtractCounter u.coinductive v.coinductive;
-      forced = subtractCounter u.forced v.forced;
+      inductive = subtract_counter u.inductive v.inductive;
+      unknown = subtract_counter u.unknown v.unknown;
+      coinductive = subtract_counter u.coinductive v.coinductive;
+      forced = subtract_counter u.forced v.forced;
     }
 
 -- no subtraction of `ignoreUsages u v` fails
-abbrev pub usagesCover : HeadUsages → HeadUsages → Bool
-usagesCover u v =
-    counterCovers u.inductive v.inductive
-    && (counterCovers u.unknown v.unknown
-    && (counterCovers u.coinductive v.coinductive && counterCovers u.forced v.forced))
+abbrev pub usages_cover : HeadUsages → HeadUsages → Bool
+usages_cover u v =
+    counter_covers u.inductive v.inductive
+    && (counter_covers u.unknown v.unknown
+    && (counter_covers u.coinductive v.coinductive && counter_covers u.forced v.forced))
 
 abbrev pub is_empty : HeadUsages → Bool
 is_empty u = eqb u.inductive 0 && eqb u.unknown 0 && eqb u.coinductive 0 && eqb u.forced 0
 
 -- true for every kind where all counters are 0
-abbrev pub isSingle : HeadUsages → PathKind → Bool
-isSingle u Inductive = eqb u.unknown 0 && eqb u.coinductive 0 && eqb u.forced 0
-isSingle u Unknown = eqb u.inductive 0 && eqb u.coinductive 0 && eqb u.forced 0
-isSingle u Coinductive = eqb u.inductive 0 && eqb u.unknown 0 && eqb u.forced 0
-isSingle u ForcedAmbiguity = eqb u.inductive 0 && eqb u.unknown 0 && eqb u.coinductive 0
+abbrev pub is_single : HeadUsages → PathKind → Bool
+is_single u Inductive = eqb u.unknown 0 && eqb u.coinductive 0 && eqb u.forced 0
+is_single u Unknown = eqb u.inductive 0 && eqb u.coinductive 0 && eqb u.forced 0
+is_single u Coinductive = eqb u.inductive 0 && eqb u.unknown 0 && eqb u.forced 0
+is_single u ForcedAmbiguity = eqb u.inductive 0 && eqb u.unknown 0 && eqb u.coinductive 0
 
 -- CandidateHeadUsages: usages by stack index. A head that is absent in the Rust has no usages here
-abbrev pub mergeUsages : List HeadUsages → List HeadUsages → List HeadUsages
-mergeUsages [] vs = []
-mergeUsages (u ∷ us) [] = u ∷ us
-mergeUsages (u ∷ us) (v ∷ vs) = addUsages u v ∷ mergeUsages us vs
+abbrev pub merge_usages : List HeadUsages → List HeadUsages → List HeadUsages
+merge_usages [] vs = []
+merge_usages (u ∷ us) [] = u ∷ us
+merge_usages (u ∷ us) (v ∷ vs) = add_usages u v ∷ merge_usages us vs

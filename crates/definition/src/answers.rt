@@ -1,6 +1,6 @@
 // Answers of goals.
 ghost use Rattle.std.specs.Prelude.{◌≡◌};
-ghost use Rattle.definition.specs.Answers.{answerNumber, answer_of, sameAnswer, combine, initialProvisionalResult, initialKind, isAmbiguous};
+ghost use Rattle.definition.specs.Answers.{answer_number, answer_of, same_answer, combine, initial_provisional_result, initial_kind, is_ambiguous};
 
 use crate::paths::PathKind;
 
@@ -15,7 +15,7 @@ pub enum Answer {
 
 impl Answer {
     pub fn number(self) -> u8
-        ensures { result ≡ answerNumber self }
+        ensures { result ≡ answer_number self }
     {
         match self {
             Answer::No => 0,
@@ -38,7 +38,7 @@ impl Answer {
     }
 
     pub fn same(self, other: Answer) -> bool
-        ensures { result ≡ sameAnswer self other }
+        ensures { result ≡ same_answer self other }
     {
         self.number() == other.number()
     }
@@ -62,7 +62,7 @@ impl Answer {
     }
 
     pub fn is_ambiguous(self) -> bool
-        ensures { result ≡ isAmbiguous self }
+        ensures { result ≡ is_ambiguous self }
     {
         match self {
             Answer::No => false,
@@ -74,7 +74,7 @@ impl Answer {
 
     // What a cycle of a kind is taken for before its first iteration ends.
     pub fn initial_result(kind: PathKind) -> Answer
-        ensures { result ≡ initialProvisionalResult kind }
+        ensures { result ≡ initial_provisional_result kind }
     {
         match kind {
             PathKind::Inductive => Answer::No,
@@ -86,7 +86,7 @@ impl Answer {
 
     // The kind of the cycles that are first taken for this answer.
     pub fn initial_kind(self) -> PathKind
-        ensures { result ≡ initialKind self }
+        ensures { result ≡ initial_kind self }
     {
         match self {
             Answer::No => PathKind::Inductive,

@@ -1,7 +1,7 @@
 // Paths between goals.
 ghost use Rattle.std.specs.Prelude.{◌≡◌};
-ghost use Rattle.definition.specs.Paths.{kindNumber, kind_of, sameKind, extend, emptyPath, flagOf, weakerFlags};
-ghost use Rattle.definition.specs.Paths.{containsPath, extendWith, extendWithPaths};
+ghost use Rattle.definition.specs.Paths.{kind_number, kind_of, same_kind, extend, empty_path, flag_of, weaker_flags};
+ghost use Rattle.definition.specs.Paths.{contains_path, extend_with, extend_with_paths};
 ghost use Rattle.definition.specs.Table.{Extensions};
 ghost use Rattle.definition.specs.declared.paths.PathKind.{PathKind};
 
@@ -24,7 +24,7 @@ pub struct PathsToNested {
 impl PathKind {
     // The number that a call line has for the kind.
     pub fn number(self) -> u8
-        ensures { result ≡ kindNumber self }
+        ensures { result ≡ kind_number self }
     {
         match self {
             PathKind::Inductive => 0,
@@ -47,7 +47,7 @@ impl PathKind {
     }
 
     pub fn same(self, other: PathKind) -> bool
-        ensures { result ≡ sameKind self other }
+        ensures { result ≡ same_kind self other }
     {
         self.number() == other.number()
     }
@@ -65,7 +65,7 @@ impl PathKind {
 
     // The kind's flag in a set of paths.
     pub fn flag(self) -> u8
-        ensures { result ≡ flagOf self }
+        ensures { result ≡ flag_of self }
     {
         match self {
             PathKind::Inductive => 2,
@@ -77,7 +77,7 @@ impl PathKind {
 
     // The flags below the kind's own.
     pub fn weaker_flags(self) -> u8
-        ensures { result ≡ weakerFlags self }
+        ensures { result ≡ weaker_flags self }
     {
         match self {
             PathKind::Inductive => 1,
@@ -91,7 +91,7 @@ impl PathKind {
 // The set with a kind's flag for those below it, given both.
 pub fn replace_weaker(bits: u8, weaker: u8, flag: u8) -> u8
     ensures { (kind : PathKind)
-        → weaker ≡ weakerFlags kind → flag ≡ flagOf kind → result ≡ extendWith bits kind }
+        → weaker ≡ weaker_flags kind → flag ≡ flag_of kind → result ≡ extend_with bits kind }
 {
     if bits & weaker == 0 {
         return bits;
@@ -102,19 +102,19 @@ pub fn replace_weaker(bits: u8, weaker: u8, flag: u8) -> u8
 impl PathsToNested {
     // The set of the empty path.
     pub fn empty_path() -> PathsToNested
-        ensures { result.bits ≡ emptyPath }
+        ensures { result.bits ≡ empty_path }
     {
         PathsToNested { bits: 1 }
     }
 
     pub fn from_kind(kind: PathKind) -> PathsToNested
-        ensures { result.bits ≡ flagOf kind }
+        ensures { result.bits ≡ flag_of kind }
     {
         PathsToNested { bits: kind.flag() }
     }
 
     pub fn contains(self, kind: PathKind) -> bool
-        ensures { result ≡ containsPath self.bits kind }
+        ensures { result ≡ contains_path self.bits kind }
     {
         let flag = kind.flag();
         self.bits & flag == flag
@@ -122,7 +122,7 @@ impl PathsToNested {
 
     // The paths, each gone on with by a path of a kind.
     pub fn extend_with(self, kind: PathKind) -> PathsToNested
-        ensures { result.bits ≡ extendWith self.bits kind }
+        ensures { result.bits ≡ extend_with self.bits kind }
     {
         let weaker = kind.weaker_flags();
         let flag = kind.flag();
@@ -136,7 +136,7 @@ impl PathsToNested {
     // in `self` each extension keeps them.
     pub fn extend_with_paths(self, rest: PathsToNested, table: &[u8; 1024]) -> PathsToNested
         requires { Extensions table.now }
-        ensures { result.bits ≡ extendWithPaths self.bits rest.bits }
+        ensures { result.bits ≡ extend_with_paths self.bits rest.bits }
     {
         let a = self.bits % 32;
         let b = rest.bits % 32;

@@ -1,6 +1,6 @@
 // What a query comes to.
 ghost use Rattle.std.specs.Prelude.{◌≡◌, ◌+◌, ◌*◌};
-ghost use Rattle.definition.specs.Answers.{refusalNumber, responseAnswer, responseRefusal};
+ghost use Rattle.definition.specs.Answers.{refusal_number, response_answer, response_refusal};
 
 use crate::answers::Answer;
 
@@ -32,7 +32,7 @@ pub enum Response {
 impl Refusal {
     // Document 01's number.
     pub fn number(self) -> u32
-        ensures { result ≡ refusalNumber self }
+        ensures { result ≡ refusal_number self }
     {
         match self {
             Refusal::BookLength => 1,
@@ -60,7 +60,7 @@ fn wide(n: u8) -> u32
 impl Response {
     // Answer and refusal in one number.
     pub fn code(self) -> u32
-        ensures { result ≡ responseAnswer self + 256 * responseRefusal self }
+        ensures { result ≡ response_answer self + 256 * response_refusal self }
     {
         match self {
             Response::Answered(answer) => wide(answer.number()),

@@ -1,6 +1,6 @@
 // Usages of cycle heads.
 ghost use Rattle.std.specs.Prelude.{◌≡◌, ◌&&◌, eqb};
-ghost use Rattle.definition.specs.Usages.{addCounter, subtractCounter, counterCovers, noUsages, oneUsage, addUsages, ignoreUsages, usagesCover, is_empty, isSingle};
+ghost use Rattle.definition.specs.Usages.{add_counter, subtract_counter, counter_covers, no_usages, one_usage, add_usages, ignore_usages, usages_cover, is_empty, is_single};
 
 use crate::paths::PathKind;
 
@@ -18,7 +18,7 @@ const LIMIT: u64 = 4294967296;
 
 // The sum of two counters, or the limit; a counter at the limit keeps its value.
 fn add(a: u64, b: u64) -> u64
-    ensures { result ≡ addCounter a b }
+    ensures { result ≡ add_counter a b }
 {
     if LIMIT <= a {
         return a;
@@ -32,7 +32,7 @@ fn add(a: u64, b: u64) -> u64
 // The difference of two counters, 0 where b is larger; a counter at the limit keeps
 // its value.
 fn subtract(a: u64, b: u64) -> u64
-    ensures { result ≡ subtractCounter a b }
+    ensures { result ≡ subtract_counter a b }
 {
     if LIMIT <= a {
         return a;
@@ -44,7 +44,7 @@ fn subtract(a: u64, b: u64) -> u64
 }
 
 fn covers(a: u64, b: u64) -> bool
-    ensures { result ≡ counterCovers a b }
+    ensures { result ≡ counter_covers a b }
 {
     if LIMIT <= a {
         return true;
@@ -70,7 +70,7 @@ fn no_usage(a: u64, b: u64, c: u64) -> bool
 
 // One more; a counter at the limit keeps its value.
 pub fn count_one(a: u64) -> u64
-    ensures { result ≡ addCounter a 1 }
+    ensures { result ≡ add_counter a 1 }
 {
     if LIMIT <= a {
         return a;
@@ -80,7 +80,7 @@ pub fn count_one(a: u64) -> u64
 
 impl HeadUsages {
     pub fn none() -> HeadUsages
-        ensures { result ≡ noUsages }
+        ensures { result ≡ no_usages }
     {
         HeadUsages {
             inductive: 0,
@@ -92,7 +92,7 @@ impl HeadUsages {
 
     // One usage of a kind.
     pub fn one(kind: PathKind) -> HeadUsages
-        ensures { result ≡ oneUsage kind }
+        ensures { result ≡ one_usage kind }
     {
         let mut usages = HeadUsages::none();
         match kind {
@@ -105,7 +105,7 @@ impl HeadUsages {
     }
 
     pub fn add_usages(self, other: HeadUsages) -> HeadUsages
-        ensures { result ≡ addUsages self other }
+        ensures { result ≡ add_usages self other }
     {
         HeadUsages {
             inductive: add(self.inductive, other.inductive),
@@ -116,7 +116,7 @@ impl HeadUsages {
     }
 
     pub fn ignore_usages(self, other: HeadUsages) -> HeadUsages
-        ensures { result ≡ ignoreUsages self other }
+        ensures { result ≡ ignore_usages self other }
     {
         HeadUsages {
             inductive: subtract(self.inductive, other.inductive),
@@ -128,7 +128,7 @@ impl HeadUsages {
 
     // Whether `ignore_usages` takes no more away than there is.
     pub fn covers(self, other: HeadUsages) -> bool
-        ensures { result ≡ usagesCover self other }
+        ensures { result ≡ usages_cover self other }
     {
         let forced = covers(self.forced, other.forced);
         let coinductive = both(covers(self.coinductive, other.coinductive), forced);
@@ -149,7 +149,7 @@ impl HeadUsages {
     // left, because those of its candidates were ignored, is at its fixpoint where its result
     // is the initial one: nothing read another.
     pub fn is_single(self, kind: PathKind) -> bool
-        ensures { result ≡ isSingle self kind }
+        ensures { result ≡ is_single self kind }
     {
         match kind {
             PathKind::Inductive => no_usage(self.unknown, self.coinductive, self.forced),

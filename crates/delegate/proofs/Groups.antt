@@ -7,73 +7,73 @@ use native.Mathlib.Omega.{arith}
 use Rattle.definition.specs.declared.answers.Answer.{Answer}
 use Rattle.definition.specs.declared.answers.Answer.TheVariants.{No, Yes}
 use Rattle.definition.specs.declared.replies.Refusal.{Refusal}
-use Rattle.definition.specs.Answers.{combine, sameAnswer}
+use Rattle.definition.specs.Answers.{combine, same_answer}
 use Rattle.definition.specs.Part.{Part, Parts, Then}
 use Rattle.definition.specs.Part as part
 use Rattle.definition.specs.Graph.{Graph, and_then}
 use Rattle.definition.specs.Graph as graph
-use Rattle.definition.specs.Evaluate.{Evaluator, evalPart}
+use Rattle.definition.specs.Evaluate.{Evaluator, eval_part}
 use Rattle.book.specs.declared.code.Op.{Op}
 use Rattle.book.specs.declared.code.Op.TheVariants.{All, Any}
 use Rattle.layout.specs.Work.{graph_of}
 use Rattle.evaluation.specs.declared.Outcome.{Outcome}
 use Rattle.evaluation.specs.declared.Outcome.TheVariants.{Done, Stopped}
-use Rattle.evaluation.specs.Outcomes.{outcomeOf}
+use Rattle.evaluation.specs.Outcomes.{outcome_of}
 use Rattle.delegate.specs.declared.group.Group.{Group}
 use Rattle.delegate.specs.declared.group.Weighed.{Weighed}
 use Rattle.delegate.specs.declared.group.Weighed.TheVariants.{Ended, More}
-use Rattle.delegate.specs.Groups.{deciding, rest_of, next_of, rest, next, left_of, FewLeft, unlessDecided}
+use Rattle.delegate.specs.Groups.{deciding, rest_of, next_of, rest, next, left_of, FewLeft, unless_decided}
 use Rattle.delegate.specs.Groups.{GroupStarted, GroupWeighed, GroupClosed}
 
 -- ---- the first part, then the others
 pub rest_then : (evaluate : Evaluator) (goals : ℕ) (group : Group) (p : Part) (ps : Parts) (g : Graph)
-    → rest evaluate goals group (Then p ps) g ≡ and_then (evalPart evaluate goals p g) (next evaluate goals group ps)
+    → rest evaluate goals group (Then p ps) g ≡ and_then (eval_part evaluate goals p g) (next evaluate goals group ps)
 unfolding rest_of
 rest_then evaluate goals group p ps g = go group.op group.combined
   where
     go : (op : Op) (combined : Answer)
         → rest_of evaluate goals op combined (Then p ps) g
-        ≡ and_then (evalPart evaluate goals p g) (next_of evaluate goals op combined ps)
+        ≡ and_then (eval_part evaluate goals p g) (next_of evaluate goals op combined ps)
     go All combined = refl
     go Any combined = refl
 
 -- ---- `start`
 module _ (op : Op) (entries : ℕ) where
-  all-started : GroupStarted All entries (record { op = All; combined = Yes; entries = entries })
+  all_started : GroupStarted All entries (record { op = All; combined = Yes; entries = entries })
   unfolding rest_of
-  all-started = record { whole = λ evaluate goals ps g. refl; count = refl }
+  all_started = record { whole = λ evaluate goals ps g. refl; count = refl }
 
-  any-started : GroupStarted Any entries (record { op = Any; combined = No; entries = entries })
+  any_started : GroupStarted Any entries (record { op = Any; combined = No; entries = entries })
   unfolding rest_of
-  any-started = record { whole = λ evaluate goals ps g. refl; count = refl }
+  any_started = record { whole = λ evaluate goals ps g. refl; count = refl }
 
-  pub started-all : op ≡ All → GroupStarted op entries (record { op = All; combined = Yes; entries = entries })
-  started-all e = subst (λ (o : Op). GroupStarted o entries (record { op = All; combined = Yes; entries = entries })) (sym e)
-      all-started
+  pub started_all : op ≡ All → GroupStarted op entries (record { op = All; combined = Yes; entries = entries })
+  started_all e = subst (λ (o : Op). GroupStarted o entries (record { op = All; combined = Yes; entries = entries })) (sym e)
+      all_started
 
-  pub started-any : op ≡ Any → GroupStarted op entries (record { op = Any; combined = No; entries = entries })
-  started-any e = subst (λ (o : Op). GroupStarted o entries (record { op = Any; combined = No; entries = entries })) (sym e)
-      any-started
+  pub started_any : op ≡ Any → GroupStarted op entries (record { op = Any; combined = No; entries = entries })
+  started_any e = subst (λ (o : Op). GroupStarted o entries (record { op = Any; combined = No; entries = entries })) (sym e)
+      any_started
 
 -- ---- `unless`
-module _ (op : Op) (combined by answer : Answer) (entries : ℕ) (b : Bool) (same : b ≡ sameAnswer answer by) where
-  by-test : (x : Bool) → b ≡ x
-      → unlessDecided x op combined by answer entries ≡ unlessDecided (sameAnswer answer by) op combined by answer entries
-  by-test x e = ap (λ (y : Bool). unlessDecided y op combined by answer entries) (sym e ∙ same)
+module _ (op : Op) (combined by answer : Answer) (entries : ℕ) (b : Bool) (same : b ≡ same_answer answer by) where
+  by_test : (x : Bool) → b ≡ x
+      → unless_decided x op combined by answer entries ≡ unless_decided (same_answer answer by) op combined by answer entries
+  by_test x e = ap (λ (y : Bool). unless_decided y op combined by answer entries) (sym e ∙ same)
 
-  pub decided : b ≡ true → Ended (Done by entries) ≡ unlessDecided (sameAnswer answer by) op combined by answer entries
-  decided t = by-test true t
+  pub decided : b ≡ true → Ended (Done by entries) ≡ unless_decided (same_answer answer by) op combined by answer entries
+  decided t = by_test true t
 
   pub undecided : (c : Answer) → b ≡ false → c ≡ combine combined answer
       → More (record { op = op; combined = c; entries = entries })
-      ≡ unlessDecided (sameAnswer answer by) op combined by answer entries
-  undecided c f e = ap (λ (x : Answer). More (record { op = op; combined = x; entries = entries })) e ∙ by-test false f
+      ≡ unless_decided (same_answer answer by) op combined by answer entries
+  undecided c f e = ap (λ (x : Answer). More (record { op = op; combined = x; entries = entries })) e ∙ by_test false f
 
 -- ---- `weigh`
 module _ (group : Group) (answer : Answer) (entries : ℕ) (op : Op) where
   -- by whether the answer decides
   after : Bool → Weighed
-  after b = unlessDecided b op group.combined (deciding op) answer entries
+  after b = unless_decided b op group.combined (deciding op) answer entries
 
   left_after : (evaluate : Evaluator) (goals root height : ℕ) (ps : Parts) (bytes cache : List ℕ) (b : Bool)
       → left_of evaluate goals root height ps bytes cache (after b)
@@ -82,49 +82,49 @@ module _ (group : Group) (answer : Answer) (entries : ℕ) (op : Op) where
         | false ↦
             rest_of evaluate goals op (combine group.combined answer) ps (graph_of goals root height entries bytes cache)
       ]
-  unfolding after left_of outcomeOf
+  unfolding after left_of outcome_of
   left_after evaluate goals root height ps bytes cache true = refl
   left_after evaluate goals root height ps bytes cache false = refl
 
-  few-after : (goals : ℕ) → entries ≤ 2 * goals → (b : Bool) → FewLeft goals (after b)
+  few_after : (goals : ℕ) → entries ≤ 2 * goals → (b : Bool) → FewLeft goals (after b)
   unfolding after
-  few-after goals few true = few
-  few-after goals few false = few
+  few_after goals few true = few
+  few_after goals few false = few
 
   pub weighed : (r : Weighed) → group.op ≡ op
-      → r ≡ unlessDecided (sameAnswer answer (deciding op)) op group.combined (deciding op) answer entries
+      → r ≡ unless_decided (same_answer answer (deciding op)) op group.combined (deciding op) answer entries
       → GroupWeighed (Done answer entries) group r
-  unfolding after outcomeOf
+  unfolding after outcome_of
   weighed r e is =
       record {
         whole = λ evaluate goals root height ps bytes cache.
             ap (left_of evaluate goals root height ps bytes cache) is
-            ∙ left_after evaluate goals root height ps bytes cache (sameAnswer answer (deciding op))
+            ∙ left_after evaluate goals root height ps bytes cache (same_answer answer (deciding op))
             ∙ ap (λ (o : Op). next_of evaluate goals o group.combined ps (graph_of goals root height entries bytes cache) answer)
             (sym e);
-        few = λ goals few. subst (FewLeft goals) (sym is) (few-after goals few (sameAnswer answer (deciding op)));
+        few = λ goals few. subst (FewLeft goals) (sym is) (few_after goals few (same_answer answer (deciding op)));
         answered = λ x more. tt;
       }
 
-ended-more : {x : Outcome} {y : Group} → Ended x ≡ More y → ⊥
-ended-more e = let z : ◌≡◌ {A = ℕ} 0 1 = cc in absurd (omega arith)
+ended_more : {x : Outcome} {y : Group} → Ended x ≡ More y → ⊥
+ended_more e = let z : ◌≡◌ {A = ℕ} 0 1 = cc in absurd (omega arith)
 
 module _ (o : Outcome) (group : Group) where
-  pub weighed-done : (answer : Answer) (entries : ℕ) (r : Weighed) → o ≡ Done answer entries
+  pub weighed_done : (answer : Answer) (entries : ℕ) (r : Weighed) → o ≡ Done answer entries
       → GroupWeighed (Done answer entries) group r
       → GroupWeighed o group r
-  weighed-done answer entries r e w = subst (λ (x : Outcome). GroupWeighed x group r) (sym e) w
+  weighed_done answer entries r e w = subst (λ (x : Outcome). GroupWeighed x group r) (sym e) w
 
-  pub weighed-stopped : (x : Refusal) → o ≡ Stopped x → GroupWeighed o group (Ended (Stopped x))
-  unfolding left_of outcomeOf
-  weighed-stopped x e = subst (λ (y : Outcome). GroupWeighed y group (Ended (Stopped x))) (sym e) stops
+  pub weighed_stopped : (x : Refusal) → o ≡ Stopped x → GroupWeighed o group (Ended (Stopped x))
+  unfolding left_of outcome_of
+  weighed_stopped x e = subst (λ (y : Outcome). GroupWeighed y group (Ended (Stopped x))) (sym e) stops
     where
       stops : GroupWeighed (Stopped x) group (Ended (Stopped x))
-      stops = record { whole = λ evaluate goals root height ps bytes cache. refl; few = λ goals few. few; answered = λ y more. ended-more more }
+      stops = record { whole = λ evaluate goals root height ps bytes cache. refl; few = λ goals few. few; answered = λ y more. ended_more more }
 
 -- ---- `close`
 pub closed : (group : Group) → GroupClosed group (Done group.combined group.entries)
-unfolding outcomeOf rest_of
+unfolding outcome_of rest_of
 closed group =
     record {
       whole = λ evaluate goals root height bytes cache. none_left evaluate goals group.op group.combined _;

@@ -2,19 +2,19 @@
 use Rattle.std.specs.Prelude.{◌≡◌, Bool, true, false, List, ℕ, ◌*◌, ◌≤◌}
 use Rattle.definition.specs.declared.answers.Answer.{Answer}
 use Rattle.definition.specs.declared.answers.Answer.TheVariants.{No, Yes}
-use Rattle.definition.specs.Answers.{combine, sameAnswer}
+use Rattle.definition.specs.Answers.{combine, same_answer}
 use Rattle.definition.specs.Part.{Parts, Node}
 use Rattle.definition.specs.Part as part
 use Rattle.definition.specs.Graph.{Graph, and_then}
 use Rattle.definition.specs.Graph as graph
-use Rattle.definition.specs.Evaluate.{Evaluator, evalPart, evalAll, evalAny}
+use Rattle.definition.specs.Evaluate.{Evaluator, eval_part, eval_all, eval_any}
 use Rattle.book.specs.declared.code.Op.{Op}
 use Rattle.book.specs.declared.code.Op.TheVariants.{All, Any}
 use Rattle.book.specs.Codes.{op_of}
 use Rattle.layout.specs.Work.{graph_of}
 use Rattle.evaluation.specs.declared.Outcome.{Outcome}
 use Rattle.evaluation.specs.declared.Outcome.TheVariants.{Done}
-use Rattle.evaluation.specs.Outcomes.{outcomeOf, IsDone, FewEntries}
+use Rattle.evaluation.specs.Outcomes.{outcome_of, IsDone, FewEntries}
 use Rattle.delegate.specs.declared.group.Group.{Group}
 use Rattle.delegate.specs.declared.group.Weighed.{Weighed}
 use Rattle.delegate.specs.declared.group.Weighed.TheVariants.{Ended, More}
@@ -28,13 +28,13 @@ deciding Any = Yes
 module _ (evaluate : Evaluator) (goals : ℕ) where
   -- these parts are left
   unfoldable pub rest_of : Op → Answer → Parts → Graph → graph.Outcome
-  rest_of All combined ps g = evalAll evaluate goals ps combined g
-  rest_of Any combined ps g = evalAny evaluate goals ps combined g
+  rest_of All combined ps g = eval_all evaluate goals ps combined g
+  rest_of Any combined ps g = eval_any evaluate goals ps combined g
 
   -- a part came to the answer a, and these parts are left
   abbrev pub next_of : Op → Answer → Parts → Graph → Answer → graph.Outcome
   next_of op combined ps g a =
-      elim (sameAnswer a (deciding op)) [
+      elim (same_answer a (deciding op)) [
         | true ↦ graph.Done g (deciding op)
         | false ↦ rest_of op (combine combined a) ps g
       ]
@@ -48,14 +48,14 @@ module _ (evaluate : Evaluator) (goals : ℕ) where
 -- ---- `start`
 pub record GroupStarted (op : Op) (entries : ℕ) (group : Group) : Type 0 where
   pub whole : (evaluate : Evaluator) (goals : ℕ) (ps : Parts) (g : Graph)
-      → rest evaluate goals group ps g ≡ evalPart evaluate goals (Node (op_of op) ps) g
+      → rest evaluate goals group ps g ≡ eval_part evaluate goals (Node (op_of op) ps) g
   pub count : group.entries ≡ entries
 
 -- ---- `weigh`, with `height` frames on the stack of the graph that the bytes hold
 
 -- what is left to do after a part
 unfoldable pub left_of : Evaluator → ℕ → ℕ → ℕ → Parts → List ℕ → List ℕ → Weighed → graph.Outcome
-left_of evaluate goals root height ps bytes cache (Ended o) = outcomeOf goals root height bytes cache o
+left_of evaluate goals root height ps bytes cache (Ended o) = outcome_of goals root height bytes cache o
 left_of evaluate goals root height ps bytes cache (More group) =
     rest evaluate goals group ps (graph_of goals root height group.entries bytes cache)
 
@@ -67,19 +67,19 @@ FewLeft goals (More group) = group.entries ≤ 2 * goals
 pub record GroupWeighed (o : Outcome) (group : Group) (r : Weighed) : Type 0 where
   pub whole : (evaluate : Evaluator) (goals root height : ℕ) (ps : Parts) (bytes cache : List ℕ)
       → left_of evaluate goals root height ps bytes cache r
-      ≡ and_then (outcomeOf goals root height bytes cache o) (next evaluate goals group ps)
+      ≡ and_then (outcome_of goals root height bytes cache o) (next evaluate goals group ps)
   pub few : (goals : ℕ) → FewEntries goals o → FewLeft goals r
   pub answered : (next-group : Group) → r ≡ More next-group → IsDone o
 
 -- decided by an answer, or going on
-abbrev pub unlessDecided : Bool → Op → Answer → Answer → Answer → ℕ → Weighed
-unlessDecided true op combined by answer entries = Ended (Done by entries)
-unlessDecided false op combined by answer entries =
+abbrev pub unless_decided : Bool → Op → Answer → Answer → Answer → ℕ → Weighed
+unless_decided true op combined by answer entries = Ended (Done by entries)
+unless_decided false op combined by answer entries =
     More (record { op = op; combined = combine combined answer; entries = entries })
 
 -- ---- `close`
 pub record GroupClosed (group : Group) (o : Outcome) : Type 0 where
   pub whole : (evaluate : Evaluator) (goals root height : ℕ) (bytes cache : List ℕ)
-      → outcomeOf goals root height bytes cache o
+      → outcome_of goals root height bytes cache o
       ≡ rest evaluate goals group part.End (graph_of goals root height group.entries bytes cache)
   pub few : (goals : ℕ) → group.entries ≤ 2 * goals → FewEntries goals o

@@ -5,18 +5,18 @@ use Rattle.std.proofs.Math.Option.{Option, none}
 use Rattle.definition.specs.declared.answers.Answer.{Answer}
 use Rattle.definition.specs.declared.answers.Answer.TheVariants.{Yes}
 use Rattle.definition.specs.declared.usages.HeadUsages.{HeadUsages}
-use Rattle.definition.specs.Answers.{combine, sameAnswer}
+use Rattle.definition.specs.Answers.{combine, same_answer}
 use Rattle.definition.specs.Part.{Parts, Node}
 use Rattle.definition.specs.Part as part
 use Rattle.definition.specs.Graph.{Graph, and_then}
 use Rattle.definition.specs.Graph as graph
-use Rattle.definition.specs.Candidates.{setCandidateUsages, candidateUsagesOf, finishedUsages}
-use Rattle.definition.specs.Candidates.{enterSingleCandidate, finishSingleCandidate}
-use Rattle.definition.specs.Evaluate.{Evaluator, mergeUnless, endPick, evalPart, evalPick}
-use Rattle.layout.specs.Work.{entriesOf, mergedOf, graph_of}
+use Rattle.definition.specs.Candidates.{set_candidate_usages, candidate_usages_of, finished_usages}
+use Rattle.definition.specs.Candidates.{enter_single_candidate, finish_single_candidate}
+use Rattle.definition.specs.Evaluate.{Evaluator, merge_unless, end_pick, eval_part, eval_pick}
+use Rattle.layout.specs.Work.{entries_of, merged_of, graph_of}
 use Rattle.evaluation.specs.declared.Outcome.{Outcome}
-use Rattle.evaluation.specs.Workspace.{graphIn, stackIn}
-use Rattle.evaluation.specs.Outcomes.{outcomeOf, IsDone, FewEntries}
+use Rattle.evaluation.specs.Workspace.{graph_in, stack_in}
+use Rattle.evaluation.specs.Outcomes.{outcome_of, IsDone, FewEntries}
 use Rattle.candidates.specs.Written.{MergedWritten}
 use Rattle.delegate.specs.declared.pick.Pick.{Pick}
 use Rattle.delegate.specs.declared.pick.Tried.{Tried}
@@ -24,23 +24,23 @@ use Rattle.delegate.specs.declared.pick.Tried.TheVariants.{Ended, More}
 
 -- the graph that a workspace holds
 abbrev pub graph_at : ℕ → ℕ → ℕ → ℕ → List ℕ → List ℕ → Graph
-graph_at goals root height n work cache = graph_of goals root height n (graphIn goals work) cache
+graph_at goals root height n work cache = graph_of goals root height n (graph_in goals work) cache
 
 -- ---- what a pick comes to; `others`: the merged usages
 module _ (evaluate : Evaluator) (goals : ℕ) where
   -- these candidates are left
   abbrev pub rest : Pick → Parts → List HeadUsages → Graph → graph.Outcome
-  rest pick ps others g = evalPick evaluate goals ps pick.met pick.combined others g
+  rest pick ps others g = eval_pick evaluate goals ps pick.met pick.combined others g
 
   -- a candidate came to the answer a, and these are left
   abbrev pub next : Pick → Parts → List HeadUsages → Graph → Answer → graph.Outcome
   next pick ps others g a =
-      evalPick evaluate goals ps (pick.met || sameAnswer a Yes) (combine pick.combined a)
-      (mergeUnless (not pick.met && sameAnswer a Yes) others (finishedUsages goals g)) (finishSingleCandidate g)
+      eval_pick evaluate goals ps (pick.met || same_answer a Yes) (combine pick.combined a)
+      (merge_unless (not pick.met && same_answer a Yes) others (finished_usages goals g)) (finish_single_candidate g)
 
 -- ---- which merged usages are as they were: those of the frames below, or all
 abbrev pub KeptBelow : ℕ → ℕ → List ℕ → List ℕ → Type 0
-KeptBelow goals own old new = (i : ℕ) → i < own → mergedOf goals i new ≡ mergedOf goals i old
+KeptBelow goals own old new = (i : ℕ) → i < own → merged_of goals i new ≡ merged_of goals i old
 
 abbrev pub MergedKept : ℕ → List ℕ → List ℕ → Type 0
 MergedKept goals old new = KeptBelow goals goals old new
@@ -48,25 +48,25 @@ MergedKept goals old new = KeptBelow goals goals old new
 -- ---- `begin`
 pub record PickBegun (goals height entries : ℕ) (old new : List ℕ) (pick : Pick) : Type 0 where
   pub whole : (evaluate : Evaluator) (ps : Parts) (root n : ℕ) (cache : List ℕ)
-      → rest evaluate goals pick ps (mergedOf goals (height - 1) new) (graph_at goals root height n new cache)
-      ≡ evalPart evaluate goals (Node part.Pick ps) (graph_at goals root height n old cache)
+      → rest evaluate goals pick ps (merged_of goals (height - 1) new) (graph_at goals root height n new cache)
+      ≡ eval_part evaluate goals (Node part.Pick ps) (graph_at goals root height n old cache)
   pub count : pick.entries ≡ entries
   pub kept : KeptBelow goals (height - 1) old new
-  pub graph : graphIn goals new ≡ graphIn goals old
+  pub graph : graph_in goals new ≡ graph_in goals old
 
 -- ---- `enter_candidate`
 pub record CandidateEntered (goals height : ℕ) (old new : List ℕ) : Type 0 where
   pub whole : (root n : ℕ) (cache : List ℕ)
-      → graph_at goals root height n new cache ≡ enterSingleCandidate goals (graph_at goals root height n old cache)
+      → graph_at goals root height n new cache ≡ enter_single_candidate goals (graph_at goals root height n old cache)
   pub kept : MergedKept goals old new
 
 -- ---- `finish_candidate`
 
 -- what is left to do after a candidate
 unfoldable pub left_of : Evaluator → ℕ → ℕ → ℕ → Parts → List ℕ → List ℕ → Tried → graph.Outcome
-left_of evaluate goals root height ps work cache (Ended o) = outcomeOf goals root height (graphIn goals work) cache o
+left_of evaluate goals root height ps work cache (Ended o) = outcome_of goals root height (graph_in goals work) cache o
 left_of evaluate goals root height ps work cache (More pick) =
-    rest evaluate goals pick ps (mergedOf goals (height - 1) work)
+    rest evaluate goals pick ps (merged_of goals (height - 1) work)
     (graph_at goals root height pick.entries work cache)
 
 -- no more provisional entries than the graph has room for
@@ -77,19 +77,19 @@ FewLeft goals (More pick) = pick.entries ≤ 2 * goals
 pub record CandidateFinished (goals height : ℕ) (o : Outcome) (pick : Pick) (old new : List ℕ) (r : Tried) : Type 0 where
   pub whole : (evaluate : Evaluator) (ps : Parts) (root : ℕ) (cache : List ℕ)
       → left_of evaluate goals root height ps new cache r
-      ≡ and_then (outcomeOf goals root height (graphIn goals old) cache o)
-      (next evaluate goals pick ps (mergedOf goals (height - 1) old))
+      ≡ and_then (outcome_of goals root height (graph_in goals old) cache o)
+      (next evaluate goals pick ps (merged_of goals (height - 1) old))
   pub few : FewLeft goals r
   pub kept : KeptBelow goals (height - 1) old new
   pub answered : (next_pick : Pick) → r ≡ More next_pick → IsDone o
   pub stack : (next_pick : Pick) → r ≡ More next_pick
-      → stackIn goals height new ≡ setCandidateUsages none (stackIn goals height old)
+      → stack_in goals height new ≡ set_candidate_usages none (stack_in goals height old)
 
 -- ---- `end`
 pub record PickEnded (goals height : ℕ) (pick : Pick) (old new : List ℕ) (o : Outcome) : Type 0 where
   pub whole : (root : ℕ) (cache : List ℕ)
-      → outcomeOf goals root height (graphIn goals new) cache o
-      ≡ endPick pick.met pick.combined (mergedOf goals (height - 1) old)
+      → outcome_of goals root height (graph_in goals new) cache o
+      ≡ end_pick pick.met pick.combined (merged_of goals (height - 1) old)
       (graph_at goals root height pick.entries old cache)
   pub few : FewEntries goals o
   pub kept : MergedKept goals old new
@@ -98,23 +98,23 @@ pub record PickEnded (goals height : ℕ) (pick : Pick) (old new : List ℕ) (o 
 
 -- the frame's candidate usages are c
 pub record Tracked (goals own : ℕ) (c : Option (List HeadUsages)) (old new : List ℕ) : Type 0 where
-  pub stack : stackIn goals (own + 1) new ≡ setCandidateUsages c (stackIn goals (own + 1) old)
-  pub entries : (n : ℕ) → entriesOf goals n (graphIn goals new) ≡ entriesOf goals n (graphIn goals old)
+  pub stack : stack_in goals (own + 1) new ≡ set_candidate_usages c (stack_in goals (own + 1) old)
+  pub entries : (n : ℕ) → entries_of goals n (graph_in goals new) ≡ entries_of goals n (graph_in goals old)
   pub merged : MergedKept goals old new
 
-abbrev pub trackedIn : ℕ → ℕ → List ℕ → List HeadUsages
-trackedIn goals own work = candidateUsagesOf goals (stackIn goals (own + 1) work)
+abbrev pub tracked_in : ℕ → ℕ → List ℕ → List HeadUsages
+tracked_in goals own work = candidate_usages_of goals (stack_in goals (own + 1) work)
 
 -- the frame's candidate usages are merged, unless its candidate is the first Yes
 abbrev pub MergedUnless : Bool → ℕ → ℕ → List ℕ → List ℕ → Type 0
 MergedUnless first goals own old new =
-    MergedWritten goals own (mergeUnless first (mergedOf goals own old) (trackedIn goals own old)) old new
+    MergedWritten goals own (merge_unless first (merged_of goals own old) (tracked_in goals own old)) old new
 
 -- `r` is the pick after a candidate's answer
 pub record Counted (goals own : ℕ) (answer : Answer) (entries : ℕ) (pick : Pick) (old new : List ℕ) (r : Pick) : Type 0 where
   pub whole : (evaluate : Evaluator) (ps : Parts) (root n : ℕ) (cache : List ℕ)
-      → rest evaluate goals r ps (mergedOf goals own new) (graph_at goals root (own + 1) n new cache)
-      ≡ next evaluate goals pick ps (mergedOf goals own old) (graph_at goals root (own + 1) n old cache) answer
+      → rest evaluate goals r ps (merged_of goals own new) (graph_at goals root (own + 1) n new cache)
+      ≡ next evaluate goals pick ps (merged_of goals own old) (graph_at goals root (own + 1) n old cache) answer
   pub count : r.entries ≡ entries
   pub kept : KeptBelow goals own old new
-  pub stack : stackIn goals (own + 1) new ≡ setCandidateUsages none (stackIn goals (own + 1) old)
+  pub stack : stack_in goals (own + 1) new ≡ set_candidate_usages none (stack_in goals (own + 1) old)

@@ -1,8 +1,8 @@
 // A group of parts that asks for all of them, or for any. It leaves the workspace alone.
 ghost use Rattle.std.specs.Prelude.{◌≡◌};
-ghost use Rattle.definition.specs.Answers.{sameAnswer};
+ghost use Rattle.definition.specs.Answers.{same_answer};
 ghost use Rattle.evaluation.specs.declared.Outcome.TheVariants.{Done};
-ghost use Rattle.delegate.specs.Groups.{GroupStarted, GroupWeighed, GroupClosed, unlessDecided};
+ghost use Rattle.delegate.specs.Groups.{GroupStarted, GroupWeighed, GroupClosed, unless_decided};
 
 use book::code::Op;
 use definition::answers::Answer;
@@ -43,7 +43,7 @@ pub fn start(op: Op, entries: usize) -> Group
 
 // The group goes on, unless the answer decides it.
 fn unless(op: Op, combined: Answer, deciding: Answer, answer: Answer, entries: usize) -> Weighed
-    ensures { result ≡ unlessDecided (sameAnswer answer deciding) op combined deciding answer entries }
+    ensures { result ≡ unless_decided (same_answer answer deciding) op combined deciding answer entries }
 {
     if answer.same(deciding) {
         return Weighed::Ended(Outcome::Done(deciding, entries));

@@ -3,7 +3,7 @@
 ghost use Rattle.std.specs.Prelude.{◌≡◌, not, ◌&&◌, ◌*◌, ◌≤◌, ◌<◌};
 ghost use Rattle.std.proofs.Math.Option.{none};
 ghost use Rattle.definition.specs.declared.answers.Answer.TheVariants.{Yes};
-ghost use Rattle.definition.specs.Answers.{sameAnswer};
+ghost use Rattle.definition.specs.Answers.{same_answer};
 ghost use Rattle.evaluation.specs.Workspace.{WorkBytes};
 ghost use Rattle.evaluation.specs.Outcomes.{FewEntries};
 ghost use Rattle.delegate.specs.Picks.{PickBegun, CandidateEntered, CandidateFinished, PickEnded};
@@ -64,7 +64,7 @@ fn untrack(work: &mut [u8], goals: usize, own: usize)
 
 // Whether an answer is the first Yes.
 fn is_first_yes(met: bool, answer: Answer) -> bool
-    ensures { result ≡ (not met && sameAnswer answer Yes) }
+    ensures { result ≡ (not met && same_answer answer Yes) }
 {
     if met {
         return false;

@@ -10,14 +10,14 @@ use Rattle.definition.specs.declared.replies.Refusal.{Refusal}
 use Rattle.definition.specs.Graph.{Graph, finalize}
 use Rattle.definition.specs.Graph as graph
 use Rattle.definition.specs.Task as task
-use Rattle.buffer.specs.Tables.{listUp}
+use Rattle.buffer.specs.Tables.{list_up}
 use Rattle.layout.specs.Entry.{entry_of}
 use Rattle.layout.specs.Frame.{frame_of}
-use Rattle.layout.specs.Work.{entriesFrom, stack_of}
+use Rattle.layout.specs.Work.{entries_from, stack_of}
 use Rattle.evaluation.specs.declared.Outcome.TheVariants.{Done, Stopped}
 use Rattle.evaluation.specs.declared.TaskOutcome.TheVariants.{Evaluated, TaskStopped}
-use Rattle.evaluation.specs.Outcomes.{FewEntries, FewTaskEntries, outcomeOf, taskOutcomeOf}
-use Rattle.evaluation.specs.Workspace.{WorkBytes, graphIn}
+use Rattle.evaluation.specs.Outcomes.{FewEntries, FewTaskEntries, outcome_of, task_outcome_of}
+use Rattle.evaluation.specs.Workspace.{WorkBytes, graph_in}
 
 -- ---- the graph's bytes for two goals: two frames of 196 bytes and four entries of 78
 abbrev padded : ℕ → List ℕ → List ℕ
@@ -43,33 +43,33 @@ module _ (cache : List ℕ) where
   abbrev held : Graph
   held =
       record {
-        rootDepth = 9;
+        root_depth = 9;
         stack = frame_of 2 bottom ∷ [];
-        provisionalCache = entry_of 2 first ∷ entry_of 2 second ∷ [];
-        globalCache = cache;
+        provisional_cache = entry_of 2 first ∷ entry_of 2 second ∷ [];
+        global_cache = cache;
       }
 
-  done-is : outcomeOf 2 9 1 bytes cache (Done Yes 2) ≡ graph.Done held Yes
-  unfolding outcomeOf stack_of entriesFrom listUp
-  done-is = refl
+  done_is : outcome_of 2 9 1 bytes cache (Done Yes 2) ≡ graph.Done held Yes
+  unfolding outcome_of stack_of entries_from list_up
+  done_is = refl
 
   -- the frame that was popped stands above it
-  evaluated-is : taskOutcomeOf 2 9 1 3 bytes cache (Evaluated No true 2)
+  evaluated_is : task_outcome_of 2 9 1 3 bytes cache (Evaluated No true 2)
       ≡ task.Evaluated held (finalize (frame_of 2 top) true No 3)
-  unfolding taskOutcomeOf stack_of entriesFrom listUp
-  evaluated-is = refl
+  unfolding task_outcome_of stack_of entries_from list_up
+  evaluated_is = refl
 
-  stopped-is : (r : Refusal) → (outcomeOf 2 9 1 bytes cache (Stopped r) ≡ graph.Stopped r)
-      × (taskOutcomeOf 2 9 1 3 bytes cache (TaskStopped r) ≡ task.TaskStopped r)
-  unfolding outcomeOf taskOutcomeOf
-  stopped-is r = (refl, refl)
+  stopped_is : (r : Refusal) → (outcome_of 2 9 1 bytes cache (Stopped r) ≡ graph.Stopped r)
+      × (task_outcome_of 2 9 1 3 bytes cache (TaskStopped r) ≡ task.TaskStopped r)
+  unfolding outcome_of task_outcome_of
+  stopped_is r = (refl, refl)
 
 -- ---- there is room for four entries
-one-too-many : FewEntries 2 (Done Yes 5) → ⊥
-one-too-many h = omega (arith, h)
+one_too_many : FewEntries 2 (Done Yes 5) → ⊥
+one_too_many h = omega (arith, h)
 
-one-too-many-evaluated : FewTaskEntries 2 (Evaluated Yes false 5) → ⊥
-one-too-many-evaluated h = omega (arith, h)
+one_too_many_evaluated : FewTaskEntries 2 (Evaluated Yes false 5) → ⊥
+one_too_many_evaluated h = omega (arith, h)
 
 few : FewEntries 2 (Done Yes 4) × FewTaskEntries 2 (Evaluated Yes false 4)
 few = (omega arith, omega arith)
@@ -78,18 +78,18 @@ few = (omega arith, omega arith)
 abbrev work : List ℕ
 work = bytes ++ replicate 144 7
 
-graph-alone : WorkBytes 2 bytes → ⊥
-graph-alone w = omega (arith, w.long)
+graph_alone : WorkBytes 2 bytes → ⊥
+graph_alone w = omega (arith, w.long)
 
-no-goals : (xs : List ℕ) → WorkBytes 0 xs → ⊥
-no-goals xs w = omega (arith, w.some)
+no_goals_lem : (xs : List ℕ) → WorkBytes 0 xs → ⊥
+no_goals_lem xs w = omega (arith, w.some)
 
 many_goals : (xs : List ℕ) → WorkBytes 65 xs → ⊥
 many_goals xs w = omega (arith, w.few)
 
-work-bytes : WorkBytes 2 work
-work-bytes = record { some = omega arith; few = omega arith; long = refl }
+work_bytes : WorkBytes 2 work
+work_bytes = record { some = omega arith; few = omega arith; long = refl }
 
-graph_is : graphIn 2 work ≡ bytes
-unfolding graphIn
+graph_is : graph_in 2 work ≡ bytes
+unfolding graph_in
 graph_is = refl

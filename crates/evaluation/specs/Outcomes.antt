@@ -5,22 +5,22 @@ use Rattle.definition.specs.Graph.{finalize}
 use Rattle.definition.specs.Graph as graph
 use Rattle.definition.specs.Task as task
 use Rattle.layout.specs.Work.{graph_of}
-use Rattle.stack.specs.Bytes.{frameAt}
+use Rattle.stack.specs.Bytes.{frame_at}
 use Rattle.evaluation.specs.declared.Outcome.{Outcome}
 use Rattle.evaluation.specs.declared.Outcome.TheVariants.{Done, Stopped}
 use Rattle.evaluation.specs.declared.TaskOutcome.{TaskOutcome}
 use Rattle.evaluation.specs.declared.TaskOutcome.TheVariants.{Evaluated, TaskStopped}
 
 -- with `height` frames on the stack
-unfoldable pub outcomeOf : ℕ → ℕ → ℕ → List ℕ → List ℕ → Outcome → graph.Outcome
-outcomeOf goals root height bs cache (Done a n) = graph.Done (graph_of goals root height n bs cache) a
-outcomeOf goals root height bs cache (Stopped r) = graph.Stopped r
+unfoldable pub outcome_of : ℕ → ℕ → ℕ → List ℕ → List ℕ → Outcome → graph.Outcome
+outcome_of goals root height bs cache (Done a n) = graph.Done (graph_of goals root height n bs cache) a
+outcome_of goals root height bs cache (Stopped r) = graph.Stopped r
 
 -- the popped frame stood at index `height`, and its part was run `passes` times
-unfoldable pub taskOutcomeOf : ℕ → ℕ → ℕ → ℕ → List ℕ → List ℕ → TaskOutcome → task.TaskOutcome
-taskOutcomeOf goals root height passes bs cache (Evaluated a overflow n) =
-    task.Evaluated (graph_of goals root height n bs cache) (finalize (frameAt goals height bs) overflow a passes)
-taskOutcomeOf goals root height passes bs cache (TaskStopped r) = task.TaskStopped r
+unfoldable pub task_outcome_of : ℕ → ℕ → ℕ → ℕ → List ℕ → List ℕ → TaskOutcome → task.TaskOutcome
+task_outcome_of goals root height passes bs cache (Evaluated a overflow n) =
+    task.Evaluated (graph_of goals root height n bs cache) (finalize (frame_at goals height bs) overflow a passes)
+task_outcome_of goals root height passes bs cache (TaskStopped r) = task.TaskStopped r
 
 abbrev pub IsDone : Outcome → Type 0
 IsDone (Done a n) = Unit {0}

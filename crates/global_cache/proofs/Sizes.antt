@@ -5,26 +5,26 @@ use native.Mathlib.Omega.{arith}
 use Rattle.buffer.proofs.Tables.{apart}
 
 -- goals' slots
-pub slots-few : (n top : ℕ) → n ≤ 64 → top ≤ 63 → n * (top + 2) ≤ 4160
-slots-few n top a b = mul-le-mul {n₁ = n} {m₁ = top + 2} {n₂ = 64} {m₂ = 65} a (omega arith)
+pub slots_few : (n top : ℕ) → n ≤ 64 → top ≤ 63 → n * (top + 2) ≤ 4160
+slots_few n top a b = mul-le-mul {n₁ = n} {m₁ = top + 2} {n₂ = 64} {m₂ = 65} a (omega arith)
 
 -- slots' bytes
-pub bytes-few : (n goals : ℕ) → n ≤ 4160 → goals ≤ 64 → n * (goals + 4) ≤ 282880
-bytes-few n goals a b = mul-le-mul {n₁ = n} {m₁ = goals + 4} {n₂ = 4160} {m₂ = 68} a (omega arith)
+pub bytes_few : (n goals : ℕ) → n ≤ 4160 → goals ≤ 64 → n * (goals + 4) ≤ 282880
+bytes_few n goals a b = mul-le-mul {n₁ = n} {m₁ = goals + 4} {n₂ = 4160} {m₂ = 68} a (omega arith)
 
-pub length-few : (goals top : ℕ) → goals ≤ 64 → top ≤ 63 → goals * (top + 2) * (goals + 4) ≤ 282880
-length-few goals top a b = bytes-few (goals * (top + 2)) goals (slots-few goals top a b) a
+pub length_few : (goals top : ℕ) → goals ≤ 64 → top ≤ 63 → goals * (top + 2) * (goals + 4) ≤ 282880
+length_few goals top a b = bytes_few (goals * (top + 2)) goals (slots_few goals top a b) a
 
 -- a slot lies in the cache
 pub place_in : (goals top place : ℕ) → place < goals * (top + 2) → place * (goals + 4) + (goals + 4) ≤ goals * (top + 2) * (goals + 4)
 place_in goals top place h = apart place (goals * (top + 2)) (goals + 4) h
 
 -- a goal's slots are among all
-pub goal-in : (goals top goal : ℕ) → goal < goals → goal * (top + 2) + (top + 2) ≤ goals * (top + 2)
-goal-in goals top goal h = apart goal goals (top + 2) h
+pub goal_in : (goals top goal : ℕ) → goal < goals → goal * (top + 2) + (top + 2) ≤ goals * (top + 2)
+goal_in goals top goal h = apart goal goals (top + 2) h
 
 -- and so are those behind its first
 pub row_in : (goals top goal : ℕ) → goal < goals → (goal * (top + 2) + 1) * (goals + 4) + (top + 1) * (goals + 4) ≤ goals * (top + 2) * (goals + 4)
 row_in goals top goal h =
-    let among : goal * (top + 2) + 1 + (top + 1) ≤ goals * (top + 2) = omega (arith, goal-in goals top goal h) in
+    let among : goal * (top + 2) + 1 + (top + 1) ≤ goals * (top + 2) = omega (arith, goal_in goals top goal h) in
     omega (arith, add-mul (goal * (top + 2) + 1) (top + 1) (goals + 4), mul-le-mul_right (goals + 4) among)

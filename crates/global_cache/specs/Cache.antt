@@ -6,14 +6,14 @@ use Rattle.definition.specs.declared.answers.Answer.{Answer}
 use Rattle.definition.specs.declared.format.Header.{Header}
 use Rattle.definition.specs.Nested.{NestedGoals}
 use Rattle.definition.specs.Graph.{EvaluationResult}
-use Rattle.definition.specs.GlobalCache.{slotSize, slotStart}
-use Rattle.definition.specs.CacheForm.{cacheLength}
+use Rattle.definition.specs.GlobalCache.{slot_size, slot_start}
+use Rattle.definition.specs.CacheForm.{cache_length}
 use Rattle.global_cache.specs.declared.Insertion.{Insertion}
 use Rattle.global_cache.specs.declared.Insertion.TheVariants.{Kept, Conflict}
 
 -- a header with these; its other fields say nothing
-abbrev pub headerWith : ℕ → ℕ → Header
-headerWith goals top = record { provisional = false; goals = goals; top = top; limit = 0; divisor = 0 }
+abbrev pub header_with : ℕ → ℕ → Header
+header_with goals top = record { provisional = false; goals = goals; top = top; limit = 0; divisor = 0 }
 
 -- the numbers that a book's header allows
 pub record Sizes (goals top : ℕ) : Type 0 where
@@ -24,20 +24,20 @@ pub record Sizes (goals top : ℕ) : Type 0 where
 pub record CacheBytes (goals top : ℕ) (cache : List ℕ) : Type 0 where
   pub few : goals ≤ 64
   pub low : top ≤ 63
-  pub whole : length cache ≡ cacheLength (headerWith goals top)
+  pub whole : length cache ≡ cache_length (header_with goals top)
 
 -- a goal's overflow slots, one behind the other
-abbrev pub overflowSlots : Header → List ℕ → ℕ → List ℕ
-overflowSlots h cache goal = region (slotStart h goal 1) ((h.top + 1) * slotSize h) cache
+abbrev pub overflow_slots : Header → List ℕ → ℕ → List ℕ
+overflow_slots h cache goal = region (slot_start h goal 1) ((h.top + 1) * slot_size h) cache
 
 -- a result to insert; its heads are not looked at
 abbrev pub evaluated : Bool → ℕ → NestedGoals → Answer → ℕ → EvaluationResult
 evaluated overflow required nested result passes =
     record {
-      encounteredOverflow = overflow;
-      requiredDepth = required;
+      encountered_overflow = overflow;
+      required_depth = required;
       heads = [];
-      nestedGoals = nested;
+      nested_goals = nested;
       result = result;
       passes = passes;
     }

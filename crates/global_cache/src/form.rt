@@ -1,6 +1,6 @@
 // The form of a cache's bytes.
 ghost use Rattle.std.specs.Prelude.{◌≡◌, ◌&&◌, ◌+◌, ◌≤◌, ◌<◌, eqb, length, take};
-ghost use Rattle.definition.specs.CacheForm.{allAtMost, depthFits, passesFit, slotFits, slotsFit, cacheFits};
+ghost use Rattle.definition.specs.CacheForm.{all_at_most, depth_fits, passes_fit, slot_fits, slots_fit, cache_fits};
 ghost use Rattle.global_cache.specs.Cache.{CacheBytes};
 
 use buffer::scalars;
@@ -11,7 +11,7 @@ use layout::nested;
 // number an overflow slot.
 fn depth_fits(h: Header, slot: usize, depth: usize) -> bool
     requires { depth < 256 }
-    ensures { result ≡ depthFits h slot depth }
+    ensures { result ≡ depth_fits h slot depth }
 {
     if slot == 0 {
         return depth <= h.top;
@@ -21,7 +21,7 @@ fn depth_fits(h: Header, slot: usize, depth: usize) -> bool
 
 // Whether a part may have been run so often: once, or up to L times.
 fn passes_fit(h: Header, passes: usize) -> bool
-    ensures { result ≡ passesFit h passes }
+    ensures { result ≡ passes_fit h passes }
 {
     if passes == 0 {
         return false;
@@ -36,7 +36,7 @@ fn passes_fit(h: Header, passes: usize) -> bool
 // four bytes are tested as one number.
 fn is_vacant(s: &[u8], paths: u8) -> bool
     requires { 4 ≤ length s.now }
-    ensures { result ≡ (allAtMost 0 (take 4 s.now) && eqb paths 0) }
+    ensures { result ≡ (all_at_most 0 (take 4 s.now) && eqb paths 0) }
 {
     let low = buffer::load_pair(s, 0);
     let high = buffer::load_pair(s, 2);
@@ -50,7 +50,7 @@ fn is_vacant(s: &[u8], paths: u8) -> bool
 // test.
 fn slot_fits(s: &[u8], h: Header, slot: usize) -> bool
     requires { 4 ≤ length s.now }
-    ensures { result ≡ slotFits h slot s.now }
+    ensures { result ≡ slot_fits h slot s.now }
 {
     let paths = nested::all_paths(&s[crate::slot::FIELDS..]);
     if is_vacant(s, paths) {
@@ -74,7 +74,7 @@ fn slot_fits(s: &[u8], h: Header, slot: usize) -> bool
 // Whether the slots of a goal fit.
 fn slots_fit(cache: &[u8], h: Header, goal: usize) -> bool
     requires { CacheBytes h.goals h.top cache.now × (goal < h.goals) }
-    ensures { result ≡ slotsFit h cache.now goal (h.top + 2) }
+    ensures { result ≡ slots_fit h cache.now goal (h.top + 2) }
 {
     let success = crate::slot_at(cache, h.goals, h.top, goal, 0);
     if !slot_fits(success, h, 0) {
@@ -99,7 +99,7 @@ fn slots_fit(cache: &[u8], h: Header, goal: usize) -> bool
 // Whether every slot of a cache of the right length is in form.
 pub fn cache_fits(cache: &[u8], h: Header) -> bool
     requires { CacheBytes h.goals h.top cache.now }
-    ensures { result ≡ cacheFits h cache.now }
+    ensures { result ≡ cache_fits h cache.now }
 {
     let mut goal: usize = 0;
     while goal < h.goals {

@@ -2,9 +2,9 @@
 // success slot, then an overflow slot for each required depth 0 to T.
 ghost use Rattle.std.specs.Prelude.{◌≡◌, List, ℕ, ◌+◌, ◌*◌, ◌≤◌, ◌<◌, length};
 ghost use Rattle.definition.specs.declared.answers.Answer.{Answer};
-ghost use Rattle.definition.specs.GlobalCache.{slot_at, slotFor, cacheInsert};
-ghost use Rattle.definition.specs.CacheForm.{cacheLength};
-ghost use Rattle.global_cache.specs.Cache.{headerWith, Sizes, CacheBytes, overflowSlots, evaluated, inserted};
+ghost use Rattle.definition.specs.GlobalCache.{slot_at, slot_for, cache_insert};
+ghost use Rattle.definition.specs.CacheForm.{cache_length};
+ghost use Rattle.global_cache.specs.Cache.{header_with, Sizes, CacheBytes, overflow_slots, evaluated, inserted};
 
 use definition::answers::Answer;
 
@@ -20,7 +20,7 @@ pub enum Insertion {
 
 pub fn cache_length(goals: usize, top: usize) -> usize
     requires { Sizes goals top }
-    ensures { result ≡ cacheLength (headerWith goals top) }
+    ensures { result ≡ cache_length (header_with goals top) }
 {
     goals * (top + 2) * (goals + slot::FIELDS)
 }
@@ -36,7 +36,7 @@ fn start_of(goals: usize, top: usize, place: usize) -> usize
 // A goal's slot; nothing where it would lie past the end.
 pub fn slot_at(cache: &[u8], goals: usize, top: usize, goal: usize, slot: usize) -> &[u8]
     requires { CacheBytes goals top cache.now × (goal < goals) }
-    ensures { result.now ≡ slot_at (headerWith goals top) cache.now goal slot }
+    ensures { result.now ≡ slot_at (header_with goals top) cache.now goal slot }
 {
     let first = goal * (top + 2);
     let all = goals * (top + 2);
@@ -51,7 +51,7 @@ pub fn slot_at(cache: &[u8], goals: usize, top: usize, goal: usize, slot: usize)
 // A goal's overflow slots, one behind the other.
 fn overflow_slots(cache: &[u8], goals: usize, top: usize, goal: usize) -> &[u8]
     requires { CacheBytes goals top cache.now × (goal < goals) }
-    ensures { result.now ≡ overflowSlots (headerWith goals top) cache.now goal }
+    ensures { result.now ≡ overflow_slots (header_with goals top) cache.now goal }
 {
     let start = start_of(goals, top, goal * (top + 2) + 1);
     let end = start + (top + 1) * (goals + slot::FIELDS);
@@ -62,7 +62,7 @@ fn overflow_slots(cache: &[u8], goals: usize, top: usize, goal: usize) -> &[u8]
 fn slot_for(overflow: bool, required: usize) -> usize
     requires { required ≤ 63 }
     ensures* { λ r. ⌜ (r ≤ required + 1) × ((nested : List ℕ) (result : Answer) (passes : ℕ) → r
-        ≡ slotFor (evaluated overflow required nested result passes)) ⌝ }
+        ≡ slot_for (evaluated overflow required nested result passes)) ⌝ }
 {
     if overflow {
         return required + 1;
@@ -84,7 +84,7 @@ pub fn insert(
 ) -> Insertion
     requires { CacheBytes goals top cache.old × (goal < goals) × (required ≤ top)
         × (passes < 256) × (length nested.now ≡ goals) }
-    ensures passes_value { cacheInsert (headerWith goals top) cache.old goal
+    ensures passes_value { cache_insert (header_with goals top) cache.old goal
         (evaluated overflow required nested.now res passes) ≡ inserted result cache.new }
     ensures unchanged { result ≡ Insertion.Conflict → cache.new ≡ cache.old }
 {

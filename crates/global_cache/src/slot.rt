@@ -1,7 +1,7 @@
 // A slot's bytes: held 0 or 1, result, required depth, how often the goal's part was run
 // for it, then the nested goals, a byte for each goal.
 ghost use Rattle.std.specs.Prelude.{◌≡◌, not, ◌&&◌, ◌∷◌, ◌++◌, ◌+◌, eqb, length, get_or, take};
-ghost use Rattle.definition.specs.GlobalCache.{slotHeld, slotResult, slotDepth, slotPasses, slotNested};
+ghost use Rattle.definition.specs.GlobalCache.{slot_held, slot_result, slot_depth, slot_passes, slot_nested};
 
 use buffer::scalars;
 use definition::answers::Answer;
@@ -10,32 +10,32 @@ use definition::answers::Answer;
 pub const FIELDS: usize = 4;
 
 pub fn is_held(slot: &[u8]) -> bool
-    ensures { result ≡ slotHeld slot.now }
+    ensures { result ≡ slot_held slot.now }
 {
     buffer::get(slot, 0) == 1
 }
 
 pub fn result_of(slot: &[u8]) -> Answer
-    ensures { result ≡ slotResult slot.now }
+    ensures { result ≡ slot_result slot.now }
 {
     Answer::from_number(buffer::get(slot, 1))
 }
 
 pub fn depth_of(slot: &[u8]) -> usize
-    ensures { result ≡ slotDepth slot.now }
+    ensures { result ≡ slot_depth slot.now }
 {
     scalars::wide(buffer::get(slot, 2))
 }
 
 // How often the goal's part was run.
 pub fn passes_of(slot: &[u8]) -> u8
-    ensures { result ≡ slotPasses slot.now }
+    ensures { result ≡ slot_passes slot.now }
 {
     buffer::get(slot, 3)
 }
 
 pub fn nested_of(slot: &[u8]) -> &[u8]
-    ensures { result.now ≡ slotNested slot.now }
+    ensures { result.now ≡ slot_nested slot.now }
 {
     if slot.len() < FIELDS {
         return &slot[0..0];
@@ -45,7 +45,7 @@ pub fn nested_of(slot: &[u8]) -> &[u8]
 
 // Whether the slot holds another result.
 pub fn conflicts(slot: &[u8], res: u8) -> bool
-    ensures { result ≡ (slotHeld slot.now && not (eqb (get_or slot.now 1 0) res)) }
+    ensures { result ≡ (slot_held slot.now && not (eqb (get_or slot.now 1 0) res)) }
 {
     if is_held(slot) {
         return buffer::get(slot, 1) != res;

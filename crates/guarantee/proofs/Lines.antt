@@ -16,34 +16,34 @@ use denote.Enum.Declared.{tag_of}
 use Rattle.definition.specs.declared.format.Line.{Line}
 use Rattle.definition.specs.declared.paths.PathKind.{PathKind}
 use Rattle.definition.specs.Paths.{kind_of}
-use Rattle.definition.proofs.Lists.{part-from}
+use Rattle.definition.proofs.Lists.{part_from_lem}
 use Rattle.bits.specs.Masks.{flags}
 use Rattle.bits.proofs.Marks.{only}
 use Rattle.book.specs.declared.code.Code.{Code}
 use Rattle.book.specs.declared.code.Code.TheVariants as codes
 use Rattle.book.specs.Codes.{code_of}
-use Rattle.book.specs.Lines.{lineIn, linesIn}
-use Rattle.book.proofs.Codes.{isGoal, goal-number}
+use Rattle.book.specs.Lines.{line_in, lines_in}
+use Rattle.book.proofs.Codes.{is_goal, goal_number}
 use Rattle.book.proofs.Lines.{lines_cons, lines_none}
 use Rattle.book.specs.contracts.code.Code.{the_type}
-use Rattle.soundness.specs.Groups.{StepLine, stepLinesFrom, stepLines}
+use Rattle.soundness.specs.Groups.{StepLine, step_lines_from, step_lines}
 use Rattle.guarantee.specs.declared.steps.Seen.{Seen}
-use Rattle.guarantee.specs.Guarantee.{firstStep}
-use Rattle.guarantee.specs.Engine.{inMask, meets, seenIn, stepAt, consIf}
-use Rattle.guarantee.proofs.Masks.{meets-none, meets-with}
+use Rattle.guarantee.specs.Guarantee.{first_step}
+use Rattle.guarantee.specs.Engine.{in_mask, meets, seen_in, step_at, cons_if}
+use Rattle.guarantee.proofs.Masks.{meets_none, meets_with}
 
 -- a step, by its caller, goal and kind, is wanted
-abbrev pub someStep : (ℕ → ℕ → PathKind → Bool) → List StepLine → Bool
-someStep wanted [] = false
-someStep wanted (s ∷ ss) = wanted s.caller s.goal s.kind || someStep wanted ss
+abbrev pub some_step : (ℕ → ℕ → PathKind → Bool) → List StepLine → Bool
+some_step wanted [] = false
+some_step wanted (s ∷ ss) = wanted s.caller s.goal s.kind || some_step wanted ss
 
 -- the steps of bytes from line n on
-unfoldable pub stepsIn : ℕ → ℕ → List ℕ → List StepLine
-stepsIn n caller bytes = stepLinesFrom n caller (linesIn bytes)
+unfoldable pub steps_in : ℕ → ℕ → List ℕ → List StepLine
+steps_in n caller bytes = step_lines_from n caller (lines_in bytes)
 
 -- a part `[16..]`
-pub rest-length : (t : List ℕ) → length (take (length t - 16) (drop 16 t)) ≡ length t - 16
-rest-length t = ap length (part-from 16 t) ∙ length-drop 16 t
+pub rest_length : (t : List ℕ) → length (take (length t - 16) (drop 16 t)) ≡ length t - 16
+rest_length t = ap length (part_from_lem 16 t) ∙ length-drop 16 t
 
 -- ---- one line
 abbrev pub is_call : Code → Bool
@@ -55,194 +55,194 @@ is_call codes.Undecided = false
 is_call codes.Unknown = false
 
 -- a call line has the code 2, and no other line
-call-number : (n : ℕ) → is_call (code_of n) ≡ eqb n 2
-call-number zero = refl
-call-number (suc zero) = refl
-call-number (suc (suc zero)) = refl
-call-number (suc (suc (suc zero))) = refl
-call-number (suc (suc (suc (suc zero)))) = refl
-call-number (suc (suc (suc (suc (suc zero))))) = refl
-call-number (suc (suc (suc (suc (suc (suc zero)))))) = refl
-call-number (suc (suc (suc (suc (suc (suc (suc n))))))) =
+call_number : (n : ℕ) → is_call (code_of n) ≡ eqb n 2
+call_number zero = refl
+call_number (suc zero) = refl
+call_number (suc (suc zero)) = refl
+call_number (suc (suc (suc zero))) = refl
+call_number (suc (suc (suc (suc zero)))) = refl
+call_number (suc (suc (suc (suc (suc zero))))) = refl
+call_number (suc (suc (suc (suc (suc (suc zero)))))) = refl
+call_number (suc (suc (suc (suc (suc (suc (suc n))))))) =
     sym (ne_eqb (suc (suc (suc (suc (suc (suc (suc n))))))) 2 (λ e. omega arith))
 
 -- every other line, by the number of its variant
-pub other-code : (code : Code) → OneOf (2 ∷ 3 ∷ 4 ∷ 5 ∷ []) (tag_of the_type code)
-    → (is_call code ≡ false) × (isGoal code ≡ false)
-other-code codes.Goal k = absurd (miss (2 ∷ 3 ∷ 4 ∷ 5 ∷ []) 0 tt k)
-other-code codes.Call k = absurd (miss (2 ∷ 3 ∷ 4 ∷ 5 ∷ []) 1 tt k)
-other-code (codes.Group op) k = (refl, refl)
-other-code codes.Pick k = (refl, refl)
-other-code codes.Undecided k = (refl, refl)
-other-code codes.Unknown k = (refl, refl)
+pub other_code : (code : Code) → OneOf (2 ∷ 3 ∷ 4 ∷ 5 ∷ []) (tag_of the_type code)
+    → (is_call code ≡ false) × (is_goal code ≡ false)
+other_code codes.Goal k = absurd (miss (2 ∷ 3 ∷ 4 ∷ 5 ∷ []) 0 tt k)
+other_code codes.Call k = absurd (miss (2 ∷ 3 ∷ 4 ∷ 5 ∷ []) 1 tt k)
+other_code (codes.Group op) k = (refl, refl)
+other_code codes.Pick k = (refl, refl)
+other_code codes.Undecided k = (refl, refl)
+other_code codes.Unknown k = (refl, refl)
 
 -- a line by what its code says
-abbrev pub seenAs : ℕ → Line → PathKind → Bool → Bool → Seen
-seenAs caller l kind call goal =
+abbrev pub seen_as : ℕ → Line → PathKind → Bool → Bool → Seen
+seen_as caller l kind call goal =
     record { step = call; caller = elim goal [ true ↦ l.first | false ↦ caller ]; goal = l.first; kind = kind }
 
 pub seen_by : (caller : ℕ) (l l' : Line) (kind : PathKind) (code : Code) (call goal : Bool) → l ≡ l'
     → kind ≡ kind_of l.second → code ≡ code_of l.code
-    → is_call code ≡ call → isGoal code ≡ goal → seenAs caller l kind call goal ≡ seenIn caller l'
+    → is_call code ≡ call → is_goal code ≡ goal → seen_as caller l kind call goal ≡ seen_in caller l'
 seen_by caller l l' kind code call goal is k e c g =
-    ap (λ (x : PathKind). seenAs caller l x call goal) k
-    ∙ ap₂ (seenAs caller l (kind_of l.second)) (sym c ∙ ap is_call e ∙ call-number l.code)
-    (sym g ∙ ap isGoal e ∙ sym (goal-number l.code))
-    ∙ ap (seenIn caller) is
+    ap (λ (x : PathKind). seen_as caller l x call goal) k
+    ∙ ap₂ (seen_as caller l (kind_of l.second)) (sym c ∙ ap is_call e ∙ call_number l.code)
+    (sym g ∙ ap is_goal e ∙ sym (goal_number l.code))
+    ∙ ap (seen_in caller) is
 
 -- ---- one line more
 step_line : (n caller : ℕ) (l : Line) (ls : List Line)
-    → stepLinesFrom n caller (l ∷ ls)
-    ≡ consIf (seenIn caller l).step (stepAt n (seenIn caller l)) (stepLinesFrom (suc n) (seenIn caller l).caller ls)
+    → step_lines_from n caller (l ∷ ls)
+    ≡ cons_if (seen_in caller l).step (step_at n (seen_in caller l)) (step_lines_from (suc n) (seen_in caller l).caller ls)
 step_line n caller l ls = by (eqb l.code 1) (eqb l.code 2) refl refl
   where
     from : Bool → Bool → List StepLine
     from x y =
         elim x [
-          | true ↦ stepLinesFrom (suc n) l.first ls
+          | true ↦ step_lines_from (suc n) l.first ls
           | false ↦
               elim y [
                 | true ↦ record { line = n; caller = caller; goal = l.first; kind = kind_of l.second } ∷
-                    stepLinesFrom (suc n) caller ls
-                | false ↦ stepLinesFrom (suc n) caller ls
+                    step_lines_from (suc n) caller ls
+                | false ↦ step_lines_from (suc n) caller ls
               ]
         ]
 
     by : (x y : Bool) → eqb l.code 1 ≡ x → eqb l.code 2 ≡ y
         → from x y
-        ≡ consIf y (record {
+        ≡ cons_if y (record {
           line = n;
           caller = elim x [ true ↦ l.first | false ↦ caller ];
           goal = l.first;
           kind = kind_of l.second;
-        }) (stepLinesFrom (suc n) (elim x [ true ↦ l.first | false ↦ caller ]) ls)
+        }) (step_lines_from (suc n) (elim x [ true ↦ l.first | false ↦ caller ]) ls)
     by true true e f = absurd (omega (arith, eqb-true l.code 1 e, eqb-true l.code 2 f))
     by true false e f = refl
     by false true e f = refl
     by false false e f = refl
 
 module _ (n caller : ℕ) (t : List ℕ) where
-  pub steps-none : length t < 16 → stepsIn n caller t ≡ []
-  unfolding stepsIn
-  steps-none h = ap (stepLinesFrom n caller) (lines_none t h)
+  pub steps_none : length t < 16 → steps_in n caller t ≡ []
+  unfolding steps_in
+  steps_none h = ap (step_lines_from n caller) (lines_none t h)
 
-  pub steps-turn : (s : Seen) → 16 ≤ length t → s ≡ seenIn caller (lineIn t)
-      → stepsIn n caller t
-      ≡ consIf s.step (stepAt n s) (stepsIn (n + 1) s.caller (take (length t - 16) (drop 16 t)))
-  unfolding stepsIn
-  steps-turn s h e =
-      ap (stepLinesFrom n caller) (lines_cons t h)
-      ∙ step_line n caller (lineIn t) (linesIn (drop 16 t))
-      ∙ ap₂ (λ (x : Seen) (m : ℕ). consIf x.step (stepAt n x) (stepLinesFrom m x.caller (linesIn (drop 16 t))))
+  pub steps_turn : (s : Seen) → 16 ≤ length t → s ≡ seen_in caller (line_in t)
+      → steps_in n caller t
+      ≡ cons_if s.step (step_at n s) (steps_in (n + 1) s.caller (take (length t - 16) (drop 16 t)))
+  unfolding steps_in
+  steps_turn s h e =
+      ap (step_lines_from n caller) (lines_cons t h)
+      ∙ step_line n caller (line_in t) (lines_in (drop 16 t))
+      ∙ ap₂ (λ (x : Seen) (m : ℕ). cons_if x.step (step_at n x) (step_lines_from m x.caller (lines_in (drop 16 t))))
       (sym e) (sym (add-one n))
-      ∙ ap (λ (bs : List ℕ). consIf s.step (stepAt n s) (stepLinesFrom (n + 1) s.caller (linesIn bs)))
-      (sym (part-from 16 t))
+      ∙ ap (λ (bs : List ℕ). cons_if s.step (step_at n s) (step_lines_from (n + 1) s.caller (lines_in bs)))
+      (sym (part_from_lem 16 t))
 
 -- after the header
-pub steps-start : (book : List ℕ) → 16 ≤ length book
-    → stepsIn 1 0 (take (length book - 16) (drop 16 book)) ≡ stepLines (linesIn book)
-unfolding stepsIn
-steps-start book h =
-    ap (λ (bs : List ℕ). stepLinesFrom 1 0 (linesIn bs)) (part-from 16 book) ∙ sym (ap stepLines (lines_cons book h))
+pub steps_start : (book : List ℕ) → 16 ≤ length book
+    → steps_in 1 0 (take (length book - 16) (drop 16 book)) ≡ step_lines (lines_in book)
+unfolding steps_in
+steps_start book h =
+    ap (λ (bs : List ℕ). step_lines_from 1 0 (lines_in bs)) (part_from_lem 16 book) ∙ sym (ap step_lines (lines_cons book h))
 
 -- ---- a search for the first step
 module _ (wanted : StepLine → Bool) where
-  pub first-here : (step : Bool) (s : StepLine) (ss : List StepLine) → (step && wanted s) ≡ true
-      → firstStep wanted (consIf step s ss) ≡ some s
-  first-here true s ss e = rw e
-  first-here false s ss e = let z : ◌≡◌ {A = ℕ} 0 1 = cc in absurd (omega arith)
+  pub first_here : (step : Bool) (s : StepLine) (ss : List StepLine) → (step && wanted s) ≡ true
+      → first_step wanted (cons_if step s ss) ≡ some s
+  first_here true s ss e = rw e
+  first_here false s ss e = let z : ◌≡◌ {A = ℕ} 0 1 = cc in absurd (omega arith)
 
-  pub first-later : (step : Bool) (s : StepLine) (ss : List StepLine) → (step && wanted s) ≡ false
-      → firstStep wanted (consIf step s ss) ≡ firstStep wanted ss
-  first-later true s ss e = rw e
-  first-later false s ss e = refl
+  pub first_later : (step : Bool) (s : StepLine) (ss : List StepLine) → (step && wanted s) ≡ false
+      → first_step wanted (cons_if step s ss) ≡ first_step wanted ss
+  first_later true s ss e = rw e
+  first_later false s ss e = refl
 
 -- ---- whether some step is wanted
-pub some-cons : (wanted : ℕ → ℕ → PathKind → Bool) (step : Bool) (s : StepLine) (ss : List StepLine)
-    → someStep wanted (consIf step s ss) ≡ ((step && wanted s.caller s.goal s.kind) || someStep wanted ss)
-some-cons wanted true s ss = refl
-some-cons wanted false s ss = refl
+pub some_cons : (wanted : ℕ → ℕ → PathKind → Bool) (step : Bool) (s : StepLine) (ss : List StepLine)
+    → some_step wanted (cons_if step s ss) ≡ ((step && wanted s.caller s.goal s.kind) || some_step wanted ss)
+some_cons wanted true s ss = refl
+some_cons wanted false s ss = refl
 
 -- i calls a goal of the mask
 abbrev pub into : ℕ → ℕ → ℕ → ℕ → PathKind → Bool
-into i m caller goal kind = eqb caller i && inMask m goal
+into i m caller goal kind = eqb caller i && in_mask m goal
 
 -- the masks have the calls of all steps but those that are left
 abbrev pub Collected : List StepLine → List StepLine → List ℕ → Type 0
 Collected all left masks =
-    (i m : ℕ) → i < 64 → (meets (get_or masks i 0) m || someStep (into i m) left) ≡ someStep (into i m) all
+    (i m : ℕ) → i < 64 → (meets (get_or masks i 0) m || some_step (into i m) left) ≡ some_step (into i m) all
 
-pub collected-none : (all left : List StepLine) → left ≡ all → Collected all left (replicate 64 0)
-collected-none all left e i m h =
-    ap₂ (λ (x : Bool) (ss : List StepLine). x || someStep (into i m) ss)
-    (ap (λ (a : ℕ). meets a m) (only 0 64 i) ∙ meets-none m) e
+pub collected_none : (all left : List StepLine) → left ≡ all → Collected all left (replicate 64 0)
+collected_none all left e i m h =
+    ap₂ (λ (x : Bool) (ss : List StepLine). x || some_step (into i m) ss)
+    (ap (λ (a : ℕ). meets a m) (only 0 64 i) ∙ meets_none m) e
 
-pub collected-more : (all : List StepLine) (step : Bool) (s : StepLine) (left : List StepLine) (masks masks' : List ℕ)
-    → Collected all (consIf step s left) masks
+pub collected_more : (all : List StepLine) (step : Bool) (s : StepLine) (left : List StepLine) (masks masks' : List ℕ)
+    → Collected all (cons_if step s left) masks
     → ((i m : ℕ) → i < 64 → meets (get_or masks' i 0)
-    m ≡ (meets (get_or masks i 0) m || (step && (eqb s.caller i && inMask m s.goal))))
+    m ≡ (meets (get_or masks i 0) m || (step && (eqb s.caller i && in_mask m s.goal))))
     → Collected all left masks'
-collected-more all step s left masks masks' inv more i m h =
-    ap (λ (x : Bool). x || someStep (into i m) left) (more i m h)
-    ∙ or_assoc (meets (get_or masks i 0) m) (step && into i m s.caller s.goal s.kind) (someStep (into i m) left)
-    ∙ ap (λ (x : Bool). meets (get_or masks i 0) m || x) (sym (some-cons (into i m) step s left))
+collected_more all step s left masks masks' inv more i m h =
+    ap (λ (x : Bool). x || some_step (into i m) left) (more i m h)
+    ∙ or_assoc (meets (get_or masks i 0) m) (step && into i m s.caller s.goal s.kind) (some_step (into i m) left)
+    ∙ ap (λ (x : Bool). meets (get_or masks i 0) m || x) (sym (some_cons (into i m) step s left))
     ∙ inv i m h
 
-pub collected-all : (all left : List StepLine) (masks : List ℕ) → left ≡ [] → Collected all left masks → (i m : ℕ)
-    → i < 64 → meets (get_or masks i 0) m ≡ someStep (into i m) all
-collected-all all left masks e inv i m h =
+pub collected_all : (all left : List StepLine) (masks : List ℕ) → left ≡ [] → Collected all left masks → (i m : ℕ)
+    → i < 64 → meets (get_or masks i 0) m ≡ some_step (into i m) all
+collected_all all left masks e inv i m h =
     sym (or-false (meets (get_or masks i 0) m))
-    ∙ ap (λ (ss : List StepLine). meets (get_or masks i 0) m || someStep (into i m) ss) (sym e) ∙ inv i m h
+    ∙ ap (λ (ss : List StepLine). meets (get_or masks i 0) m || some_step (into i m) ss) (sym e) ∙ inv i m h
 
 -- ---- one step more in the masks
 module _ (masks : List ℕ) (s : Seen) where
   abbrev pub Added : List ℕ → Type 0
   Added masks' =
       (i m : ℕ) → i < 64
-      → meets (get_or masks' i 0) m ≡ (meets (get_or masks i 0) m || (s.step && (eqb s.caller i && inMask m s.goal)))
+      → meets (get_or masks' i 0) m ≡ (meets (get_or masks i 0) m || (s.step && (eqb s.caller i && in_mask m s.goal)))
 
-  kept : (i m : ℕ) → (s.step && (eqb s.caller i && inMask m s.goal)) ≡ false
-      → meets (get_or masks i 0) m ≡ (meets (get_or masks i 0) m || (s.step && (eqb s.caller i && inMask m s.goal)))
+  kept : (i m : ℕ) → (s.step && (eqb s.caller i && in_mask m s.goal)) ≡ false
+      → meets (get_or masks i 0) m ≡ (meets (get_or masks i 0) m || (s.step && (eqb s.caller i && in_mask m s.goal)))
   kept i m e = sym (ap (λ (x : Bool). meets (get_or masks i 0) m || x) e ∙ or-false (meets (get_or masks i 0) m))
 
   pub no_step : s.step ≡ false → Added masks
-  no_step e i m h = kept i m (ap (λ (x : Bool). x && (eqb s.caller i && inMask m s.goal)) e)
+  no_step e i m h = kept i m (ap (λ (x : Bool). x && (eqb s.caller i && in_mask m s.goal)) e)
 
-  pub far-step : 64 ≤ s.caller → Added masks
-  far-step far i m h =
-      kept i m (ap (λ (x : Bool). s.step && (x && inMask m s.goal)) (ne_eqb s.caller i (λ z. omega arith))
+  pub far_step : 64 ≤ s.caller → Added masks
+  far_step far i m h =
+      kept i m (ap (λ (x : Bool). s.step && (x && in_mask m s.goal)) (ne_eqb s.caller i (λ z. omega arith))
       ∙ and-false s.step)
 
-  pub one-step : s.step ≡ true → length masks ≡ 64 → s.caller < 64 → (r : ℕ)
+  pub one_step_lem : s.step ≡ true → length masks ≡ 64 → s.caller < 64 → (r : ℕ)
       → flags 64 r ≡ set (flags 64 (get_or masks s.caller 0)) s.goal true
       → Added (set masks s.caller r)
-  one-step is long near r e i m h = go (ℕ_discrete i s.caller)
+  one_step_lem is long near r e i m h = go (ℕ_discrete i s.caller)
     where
       go : Dec (i ≡ s.caller)
           → meets (get_or (set masks s.caller r) i 0) m
-          ≡ (meets (get_or masks i 0) m || (s.step && (eqb s.caller i && inMask m s.goal)))
+          ≡ (meets (get_or masks i 0) m || (s.step && (eqb s.caller i && in_mask m s.goal)))
       go (yes z) =
           ap (λ (j : ℕ). meets (get_or (set masks s.caller r) j 0) m) z
           ∙ ap (λ (a : ℕ). meets a m) (get_or-set_same masks s.caller r 0 (omega arith))
-          ∙ meets-with r (get_or masks s.caller 0) m s.goal e
-          ∙ ap (λ (j : ℕ). meets (get_or masks j 0) m || inMask m s.goal) (sym z)
-          ∙ sym (ap₂ (λ (x y : Bool). meets (get_or masks i 0) m || (x && (y && inMask m s.goal))) is
+          ∙ meets_with r (get_or masks s.caller 0) m s.goal e
+          ∙ ap (λ (j : ℕ). meets (get_or masks j 0) m || in_mask m s.goal) (sym z)
+          ∙ sym (ap₂ (λ (x y : Bool). meets (get_or masks i 0) m || (x && (y && in_mask m s.goal))) is
           (eq-eqb s.caller i (sym z)))
       go (no n) =
           ap (λ (a : ℕ). meets a m) (get_or-set_other masks s.caller i r 0 n)
-          ∙ kept i m (ap (λ (x : Bool). s.step && (x && inMask m s.goal)) (ne_eqb s.caller i (λ z. n (sym z)))
+          ∙ kept i m (ap (λ (x : Bool). s.step && (x && in_mask m s.goal)) (ne_eqb s.caller i (λ z. n (sym z)))
           ∙ and-false s.step)
 
 -- ---- callers that are goals of the book
 abbrev pub beyond : ℕ → ℕ → ℕ → PathKind → Bool
 beyond goals caller goal kind = leb goals caller
 
-pub caller-near : (goals n : ℕ) (s : Seen) (rest : List StepLine)
-    → someStep (beyond goals) (consIf s.step (stepAt n s) rest) ≡ false
-    → (s.step ≡ true → s.caller < goals) × (someStep (beyond goals) rest ≡ false)
-caller-near goals n s rest e =
-    go s.step (leb goals s.caller) refl (someStep (beyond goals) rest)
-    (sym (some-cons (beyond goals) s.step (stepAt n s) rest) ∙ e)
+pub caller_near : (goals n : ℕ) (s : Seen) (rest : List StepLine)
+    → some_step (beyond goals) (cons_if s.step (step_at n s) rest) ≡ false
+    → (s.step ≡ true → s.caller < goals) × (some_step (beyond goals) rest ≡ false)
+caller_near goals n s rest e =
+    go s.step (leb goals s.caller) refl (some_step (beyond goals) rest)
+    (sym (some_cons (beyond goals) s.step (step_at n s) rest) ∙ e)
   where
     go : (x y : Bool) → leb goals s.caller ≡ y → (z : Bool) → ((x && y) || z) ≡ false
         → (x ≡ true → s.caller < goals) × (z ≡ false)

@@ -12,21 +12,21 @@ use lib.ListN.{length, get_or, set, replicate}
 use lib.Seq.{get_or-set_same, get_or-set_other}
 use borrow.Author.Tests.{eq-eqb, ne_eqb, lt-ltb, le-ltb}
 use Rattle.bits.specs.Masks.{flag, flags, pairwise}
-use Rattle.bits.proofs.Flags.{length-flags, flags-zero, flags-and, has-past}
+use Rattle.bits.proofs.Flags.{length_flags, flags_zero, flags_and, has_past}
 use Rattle.bits.proofs.Marks.{only}
 use Rattle.soundness.specs.Sets.{Goals}
-use Rattle.guarantee.specs.Engine.{inMask, someSet, meets}
+use Rattle.guarantee.specs.Engine.{in_mask, some_set, meets}
 
 -- ---- what two masks have in common
-some-flags : (k a : ℕ) → a < 2 ^ k → someSet (flags k a) ≡ not (eqb a 0)
-unfolding someSet flags
-some-flags zero a h = let z : a ≡ 0 = omega arith in rw z
-some-flags (suc k) a h =
+some_flags : (k a : ℕ) → a < 2 ^ k → some_set (flags k a) ≡ not (eqb a 0)
+unfolding some_set flags
+some_flags zero a h = let z : a ≡ 0 = omega arith in rw z
+some_flags (suc k) a h =
     let h' : a < 2 ^ k * 2 = rw pow-suc at h in
-    go (a % 2) refl (some-flags k (a / 2) (omega arith))
+    go (a % 2) refl (some_flags k (a / 2) (omega arith))
   where
-    go : (d : ℕ) → a % 2 ≡ d → someSet (flags k (a / 2)) ≡ not (eqb (a / 2) 0)
-        → (flag d || someSet (flags k (a / 2))) ≡ not (eqb a 0)
+    go : (d : ℕ) → a % 2 ≡ d → some_set (flags k (a / 2)) ≡ not (eqb (a / 2) 0)
+        → (flag d || some_set (flags k (a / 2))) ≡ not (eqb a 0)
     go (suc d) e ih = sym (ap not (ne_eqb a 0 (λ z. omega arith)))
     go zero e ih = ih ∙ ap not (same (ℕ_discrete a 0))
       where
@@ -35,26 +35,26 @@ some-flags (suc k) a h =
         same (no n) = rw (ne_eqb (a / 2) 0 (λ z. n (omega arith)), ne_eqb a 0 n)
 
 -- `m & n != 0`
-pub meets-and : (m n : ℕ) → n < 2 ^ 64 → not (eqb (bit_and m n) 0) ≡ meets m n
-meets-and m n h = sym (some-flags 64 (bit_and m n) (omega (arith, and_le_r m n))) ∙ ap someSet (flags-and 64 m n)
+pub meets_and : (m n : ℕ) → n < 2 ^ 64 → not (eqb (bit_and m n) 0) ≡ meets m n
+meets_and m n h = sym (some_flags 64 (bit_and m n) (omega (arith, and_le_r m n))) ∙ ap some_set (flags_and 64 m n)
 
-none-common : (k : ℕ) (ys : List Bool) → someSet (pairwise ◌&&◌ (replicate k false) ys) ≡ false
-unfolding someSet pairwise
-none-common zero ys = refl
-none-common (suc k) [] = refl
-none-common (suc k) (y ∷ ys) = none-common k ys
+none_common : (k : ℕ) (ys : List Bool) → some_set (pairwise ◌&&◌ (replicate k false) ys) ≡ false
+unfolding some_set pairwise
+none_common zero ys = refl
+none_common (suc k) [] = refl
+none_common (suc k) (y ∷ ys) = none_common k ys
 
-pub meets-none : (m : ℕ) → meets 0 m ≡ false
-meets-none m =
-    ap (λ (xs : List Bool). someSet (pairwise ◌&&◌ xs (flags 64 m))) (flags-zero 64) ∙ none-common 64 (flags 64 m)
+pub meets_none : (m : ℕ) → meets 0 m ≡ false
+meets_none m =
+    ap (λ (xs : List Bool). some_set (pairwise ◌&&◌ xs (flags 64 m))) (flags_zero 64) ∙ none_common 64 (flags 64 m)
 
-one-common : (j : ℕ) (xs ys : List Bool) → length xs ≡ length ys
-    → someSet (pairwise ◌&&◌ (set xs j true) ys) ≡ (someSet (pairwise ◌&&◌ xs ys) || get_or ys j false)
-unfolding someSet pairwise
-one-common j [] [] e = refl
-one-common j [] (y ∷ ys) e = let z : ◌≡◌ {A = ℕ} 0 1 = omega arith in absurd (omega arith)
-one-common j (x ∷ xs) [] e = let z : ◌≡◌ {A = ℕ} 0 1 = omega arith in absurd (omega arith)
-one-common zero (x ∷ xs) (y ∷ ys) e = by x y (someSet (pairwise ◌&&◌ xs ys))
+one_common : (j : ℕ) (xs ys : List Bool) → length xs ≡ length ys
+    → some_set (pairwise ◌&&◌ (set xs j true) ys) ≡ (some_set (pairwise ◌&&◌ xs ys) || get_or ys j false)
+unfolding some_set pairwise
+one_common j [] [] e = refl
+one_common j [] (y ∷ ys) e = let z : ◌≡◌ {A = ℕ} 0 1 = omega arith in absurd (omega arith)
+one_common j (x ∷ xs) [] e = let z : ◌≡◌ {A = ℕ} 0 1 = omega arith in absurd (omega arith)
+one_common zero (x ∷ xs) (y ∷ ys) e = by x y (some_set (pairwise ◌&&◌ xs ys))
   where
     by : (x y s : Bool) → (y || s) ≡ ((x && y || s) || y)
     by true true s = refl
@@ -64,58 +64,58 @@ one-common zero (x ∷ xs) (y ∷ ys) e = by x y (someSet (pairwise ◌&&◌ xs 
     by false true false = refl
     by false false true = refl
     by false false false = refl
-one-common (suc j) (x ∷ xs) (y ∷ ys) e =
-    ap (λ (t : Bool). x && y || t) (one-common j xs ys (omega arith))
-    ∙ sym (or_assoc (x && y) (someSet (pairwise ◌&&◌ xs ys)) (get_or ys j false))
+one_common (suc j) (x ∷ xs) (y ∷ ys) e =
+    ap (λ (t : Bool). x && y || t) (one_common j xs ys (omega arith))
+    ∙ sym (or_assoc (x && y) (some_set (pairwise ◌&&◌ xs ys)) (get_or ys j false))
 
 -- a goal more in the first
-pub meets-with : (m' m n j : ℕ) → flags 64 m' ≡ set (flags 64 m) j true → meets m' n ≡ (meets m n || inMask n j)
-meets-with m' m n j e =
-    ap (λ (xs : List Bool). someSet (pairwise ◌&&◌ xs (flags 64 n))) e
-    ∙ one-common j (flags 64 m) (flags 64 n) (length-flags 64 m ∙ sym (length-flags 64 n))
+pub meets_with : (m' m n j : ℕ) → flags 64 m' ≡ set (flags 64 m) j true → meets m' n ≡ (meets m n || in_mask n j)
+meets_with m' m n j e =
+    ap (λ (xs : List Bool). some_set (pairwise ◌&&◌ xs (flags 64 n))) e
+    ∙ one_common j (flags 64 m) (flags 64 n) (length_flags 64 m ∙ sym (length_flags 64 n))
 
 -- ---- the goals of a mask
-pub mask-none : (k : ℕ) → inMask 0 k ≡ false
-mask-none k = ap (λ (xs : List Bool). get_or xs k false) (flags-zero 64) ∙ only false 64 k
+pub mask_none : (k : ℕ) → in_mask 0 k ≡ false
+mask_none k = ap (λ (xs : List Bool). get_or xs k false) (flags_zero 64) ∙ only false 64 k
 
-pub mask-past : (m k : ℕ) → 64 ≤ k → inMask m k ≡ false
-mask-past m k h = sym (has-past 64 k m h)
+pub mask_past : (m k : ℕ) → 64 ≤ k → in_mask m k ≡ false
+mask_past m k h = sym (has_past 64 k m h)
 
 -- one more
-pub mask-with : (m' m i : ℕ) → i < 64 → flags 64 m' ≡ set (flags 64 m) i true → (k : ℕ)
-    → inMask m' k ≡ (inMask m k || (eqb k i && true))
-mask-with m' m i h e k = ap (λ (xs : List Bool). get_or xs k false) e ∙ go (ℕ_discrete k i)
+pub mask_with : (m' m i : ℕ) → i < 64 → flags 64 m' ≡ set (flags 64 m) i true → (k : ℕ)
+    → in_mask m' k ≡ (in_mask m k || (eqb k i && true))
+mask_with m' m i h e k = ap (λ (xs : List Bool). get_or xs k false) e ∙ go (ℕ_discrete k i)
   where
     long : i < length (flags 64 m)
-    long = rw length-flags h
+    long = rw length_flags h
 
-    go : Dec (k ≡ i) → get_or (set (flags 64 m) i true) k false ≡ (inMask m k || (eqb k i && true))
+    go : Dec (k ≡ i) → get_or (set (flags 64 m) i true) k false ≡ (in_mask m k || (eqb k i && true))
     go (yes z) =
         ap (λ (j : ℕ). get_or (set (flags 64 m) i true) j false) z ∙ get_or-set_same (flags 64 m) i true false long
-        ∙ sym (ap (λ (t : Bool). inMask m k || (t && true)) (eq-eqb k i z) ∙ or-true (inMask m k))
+        ∙ sym (ap (λ (t : Bool). in_mask m k || (t && true)) (eq-eqb k i z) ∙ or-true (in_mask m k))
     go (no n) =
         get_or-set_other (flags 64 m) i k true false n
-        ∙ sym (ap (λ (t : Bool). inMask m k || (t && true)) (ne_eqb k i n) ∙ or-false (inMask m k))
+        ∙ sym (ap (λ (t : Bool). in_mask m k || (t && true)) (ne_eqb k i n) ∙ or-false (in_mask m k))
 
 -- none more
-pub mask-still : (m i k : ℕ) → inMask m k ≡ (inMask m k || (eqb k i && false))
-mask-still m i k = sym (by (eqb k i) ∙ or-false (inMask m k))
+pub mask_still : (m i k : ℕ) → in_mask m k ≡ (in_mask m k || (eqb k i && false))
+mask_still m i k = sym (by (eqb k i) ∙ or-false (in_mask m k))
   where
-    by : (t : Bool) → (inMask m k || (t && false)) ≡ (inMask m k || false)
+    by : (t : Bool) → (in_mask m k || (t && false)) ≡ (in_mask m k || false)
     by true = refl
     by false = refl
 
 -- ---- a loop over the goals, which adds those that pass a test
 abbrev pub Upto : Goals → Goals → ℕ → ℕ → Type 0
-Upto start p i m = (k : ℕ) → inMask m k ≡ (start k || (ltb k i && p k))
+Upto start p i m = (k : ℕ) → in_mask m k ≡ (start k || (ltb k i && p k))
 
 module _ (start p : Goals) where
-  pub upto-none : (m : ℕ) → ((k : ℕ) → inMask m k ≡ start k) → Upto start p 0 m
-  upto-none m h k = h k ∙ sym (ap (λ (t : Bool). start k || (t && p k)) (le-ltb k 0 (omega arith)) ∙ or-false (start k))
+  pub upto_none : (m : ℕ) → ((k : ℕ) → in_mask m k ≡ start k) → Upto start p 0 m
+  upto_none m h k = h k ∙ sym (ap (λ (t : Bool). start k || (t && p k)) (le-ltb k 0 (omega arith)) ∙ or-false (start k))
 
-  pub upto-more : (m m' i : ℕ) (yes : Bool) → Upto start p i m → p i ≡ yes
-      → ((k : ℕ) → inMask m' k ≡ (inMask m k || (eqb k i && yes))) → Upto start p (i + 1) m'
-  upto-more m m' i t inv is step k = step k ∙ ap (λ (x : Bool). x || (eqb k i && t)) (inv k) ∙ go (ℕ_discrete k i)
+  pub upto_more : (m m' i : ℕ) (yes : Bool) → Upto start p i m → p i ≡ yes
+      → ((k : ℕ) → in_mask m' k ≡ (in_mask m k || (eqb k i && yes))) → Upto start p (i + 1) m'
+  upto_more m m' i t inv is step k = step k ∙ ap (λ (x : Bool). x || (eqb k i && t)) (inv k) ∙ go (ℕ_discrete k i)
     where
       go : Dec (k ≡ i) → ((start k || (ltb k i && p k)) || (eqb k i && t)) ≡ (start k || (ltb k (i + 1) && p k))
       go (yes z) =
@@ -132,10 +132,10 @@ module _ (start p : Goals) where
           same (no l) = le-ltb k i (omega arith) ∙ sym (le-ltb k (i + 1) (omega arith))
 
   -- after the last
-  pub upto_all : (m i : ℕ) → 64 ≤ i → Upto start p i m → (k : ℕ) → k < 64 → inMask m k ≡ (start k || p k)
+  pub upto_all : (m i : ℕ) → 64 ≤ i → Upto start p i m → (k : ℕ) → k < 64 → in_mask m k ≡ (start k || p k)
   upto_all m i h inv k l = inv k ∙ ap (λ (t : Bool). start k || (t && p k)) (lt-ltb k i (omega arith))
 
 -- one goal only
-pub mask_one : (m goal : ℕ) → goal < 64 → flags 64 m ≡ set (flags 64 0) goal true → (k : ℕ) → inMask m k ≡ eqb k goal
+pub mask_one : (m goal : ℕ) → goal < 64 → flags 64 m ≡ set (flags 64 0) goal true → (k : ℕ) → in_mask m k ≡ eqb k goal
 mask_one m goal h e k =
-    mask-with m 0 goal h e k ∙ ap (λ (x : Bool). x || (eqb k goal && true)) (mask-none k) ∙ and-true (eqb k goal)
+    mask_with m 0 goal h e k ∙ ap (λ (x : Bool). x || (eqb k goal && true)) (mask_none k) ∙ and-true (eqb k goal)

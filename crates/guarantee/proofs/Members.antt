@@ -9,28 +9,28 @@ use Rattle.definition.specs.declared.paths.PathKind.{PathKind}
 use Rattle.soundness.specs.Groups.{StepLine, EveryStep, SomeStep}
 use Rattle.soundness.proofs.Logic.{or_cases, or_left, or_right}
 use Rattle.guarantee.specs.Meaning.{IsOneOf}
-use Rattle.guarantee.proofs.Lines.{someStep}
+use Rattle.guarantee.proofs.Lines.{some_step}
 
-pub some-step : (wanted : ℕ → ℕ → PathKind → Bool) (s : StepLine) (ss : List StepLine) → IsOneOf s ss
-    → T (wanted s.caller s.goal s.kind) → T (someStep wanted ss)
-some-step wanted s [] i t = absurd i
-some-step wanted s (x ∷ ss) (inl e) t =
-    or_left (wanted x.caller x.goal x.kind) (someStep wanted ss)
+pub some_step_lem : (wanted : ℕ → ℕ → PathKind → Bool) (s : StepLine) (ss : List StepLine) → IsOneOf s ss
+    → T (wanted s.caller s.goal s.kind) → T (some_step wanted ss)
+some_step_lem wanted s [] i t = absurd i
+some_step_lem wanted s (x ∷ ss) (inl e) t =
+    or_left (wanted x.caller x.goal x.kind) (some_step wanted ss)
     (subst (λ (y : StepLine). T (wanted y.caller y.goal y.kind)) e t)
-some-step wanted s (x ∷ ss) (inr i) t =
-    or_right (wanted x.caller x.goal x.kind) (someStep wanted ss) (some-step wanted s ss i t)
+some_step_lem wanted s (x ∷ ss) (inr i) t =
+    or_right (wanted x.caller x.goal x.kind) (some_step wanted ss) (some_step_lem wanted s ss i t)
 
-pub a-step : (wanted : ℕ → ℕ → PathKind → Bool) (ss : List StepLine) → T (someStep wanted ss)
+pub a_step : (wanted : ℕ → ℕ → PathKind → Bool) (ss : List StepLine) → T (some_step wanted ss)
     → (s : StepLine) × IsOneOf s ss × T (wanted s.caller s.goal s.kind)
-a-step wanted [] t = absurd t
-a-step wanted (x ∷ ss) t =
-    or_cases (wanted x.caller x.goal x.kind) (someStep wanted ss) (λ u. (x, inl refl, u))
-    (λ u. let r = a-step wanted ss u in (r.0, inr r.1, r.2)) t
+a_step wanted [] t = absurd t
+a_step wanted (x ∷ ss) t =
+    or_cases (wanted x.caller x.goal x.kind) (some_step wanted ss) (λ u. (x, inl refl, u))
+    (λ u. let r = a_step wanted ss u in (r.0, inr r.1, r.2)) t
 
-pub every-at : (P : StepLine → Type 0) (s : StepLine) (ss : List StepLine) → EveryStep P ss → IsOneOf s ss → P s
-every-at P s [] v i = absurd i
-every-at P s (x ∷ ss) v (inl e) = subst P (sym e) v.0
-every-at P s (x ∷ ss) v (inr i) = every-at P s ss v.1 i
+pub every_at : (P : StepLine → Type 0) (s : StepLine) (ss : List StepLine) → EveryStep P ss → IsOneOf s ss → P s
+every_at P s [] v i = absurd i
+every_at P s (x ∷ ss) v (inl e) = subst P (sym e) v.0
+every_at P s (x ∷ ss) v (inr i) = every_at P s ss v.1 i
 
 pub some_at : (P : StepLine → Type 0) (ss : List StepLine) → SomeStep P ss → (s : StepLine) × IsOneOf s ss × P s
 some_at P [] i = absurd i

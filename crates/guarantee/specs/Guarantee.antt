@@ -5,11 +5,11 @@ use Rattle.std.proofs.Math.Option.{Option, none, some}
 use Rattle.definition.specs.declared.paths.PathKind.{PathKind}
 use Rattle.definition.specs.declared.paths.PathKind.TheVariants.{Inductive, Coinductive}
 use Rattle.definition.specs.declared.format.Line.{Line}
-use Rattle.definition.specs.Paths.{sameKind}
+use Rattle.definition.specs.Paths.{same_kind}
 use Rattle.definition.specs.Part.{Book}
-use Rattle.definition.specs.Reader.{BookRead, Accepted, Rejected, lines_of, readBook}
+use Rattle.definition.specs.Reader.{BookRead, Accepted, Rejected, lines_of, read_book}
 use Rattle.soundness.specs.Sets.{Goals}
-use Rattle.soundness.specs.Groups.{StepLine, stepLines, linked}
+use Rattle.soundness.specs.Groups.{StepLine, step_lines, linked}
 use Rattle.guarantee.specs.declared.Conflict.{Conflict}
 use Rattle.guarantee.specs.declared.Verdict.{Verdict}
 use Rattle.guarantee.specs.declared.Verdict.TheVariants.{Refused, Given, Broken}
@@ -17,13 +17,13 @@ use Rattle.guarantee.specs.declared.Verdict.TheVariants.{Refused, Given, Broken}
 -- ---- steps
 
 -- a step of a kind with both ends in a set of goals
-abbrev pub stepWithin : Goals → PathKind → StepLine → Bool
-stepWithin group kind s = sameKind s.kind kind && (group s.caller && group s.goal)
+abbrev pub step_within : Goals → PathKind → StepLine → Bool
+step_within group kind s = same_kind s.kind kind && (group s.caller && group s.goal)
 
 -- the first that is wanted
-abbrev pub firstStep : (StepLine → Bool) → List StepLine → Option StepLine
-firstStep wanted [] = none
-firstStep wanted (s ∷ ss) = elim (wanted s) [ true ↦ some s | false ↦ firstStep wanted ss ]
+abbrev pub first_step : (StepLine → Bool) → List StepLine → Option StepLine
+first_step wanted [] = none
+first_step wanted (s ∷ ss) = elim (wanted s) [ true ↦ some s | false ↦ first_step wanted ss ]
 
 -- ---- a set of goals as a number
 abbrev pub bit : Bool → ℕ
@@ -47,30 +47,30 @@ conflict b s t =
     }
 
 -- s stands inside the group of its caller: the first of the steps that breaks the condition with it
-abbrev pub conflictWith : Book → List StepLine → StepLine → Option Conflict
-conflictWith b ss s =
-    elim (stepWithin (linked b s.caller) Inductive s) [
+abbrev pub conflict_with : Book → List StepLine → StepLine → Option Conflict
+conflict_with b ss s =
+    elim (step_within (linked b s.caller) Inductive s) [
       | false ↦ none
       | true ↦
-          elim (firstStep (stepWithin (linked b s.caller) Coinductive) ss) [
+          elim (first_step (step_within (linked b s.caller) Coinductive) ss) [
             | none ↦ none
             | some t ↦ some (conflict b s t)
           ]
     ]
 
 -- of the first s that has one, among all steps ss
-abbrev pub firstConflict : Book → List StepLine → List StepLine → Verdict
-firstConflict b ss [] = Given
-firstConflict b ss (s ∷ rest) = elim (conflictWith b ss s) [ some c ↦ Broken c | none ↦ firstConflict b ss rest ]
+abbrev pub first_conflict : Book → List StepLine → List StepLine → Verdict
+first_conflict b ss [] = Given
+first_conflict b ss (s ∷ rest) = elim (conflict_with b ss s) [ some c ↦ Broken c | none ↦ first_conflict b ss rest ]
 
 -- ---- the book
 abbrev pub steps_of : Option (List Line) → List StepLine
 steps_of none = []
-steps_of (some ls) = stepLines ls
+steps_of (some ls) = step_lines ls
 
-abbrev pub guaranteeOfRead : BookRead → List StepLine → Verdict
-guaranteeOfRead (Rejected r) ss = Refused r
-guaranteeOfRead (Accepted b) ss = firstConflict b ss ss
+abbrev pub guarantee_of_read : BookRead → List StepLine → Verdict
+guarantee_of_read (Rejected r) ss = Refused r
+guarantee_of_read (Accepted b) ss = first_conflict b ss ss
 
-abbrev pub guaranteeOf : List ℕ → Verdict
-guaranteeOf bytes = guaranteeOfRead (readBook bytes) (steps_of (lines_of bytes))
+abbrev pub guarantee_of : List ℕ → Verdict
+guarantee_of bytes = guarantee_of_read (read_book bytes) (steps_of (lines_of bytes))

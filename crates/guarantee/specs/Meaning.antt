@@ -5,12 +5,12 @@ use Rattle.definition.specs.declared.paths.PathKind.TheVariants.{Inductive, Coin
 use Rattle.definition.specs.declared.format.Line.{Line}
 use Rattle.definition.specs.declared.replies.Refusal.{Refusal}
 use Rattle.definition.specs.Part.{Book}
-use Rattle.definition.specs.Reader.{Accepted, Rejected, lines_of, readBook}
-use Rattle.soundness.specs.Groups.{StepLine, stepLines, SomeStep, linked, Inside, OneKindEach}
+use Rattle.definition.specs.Reader.{Accepted, Rejected, lines_of, read_book}
+use Rattle.soundness.specs.Groups.{StepLine, step_lines, SomeStep, linked, Inside, OneKindEach}
 use Rattle.guarantee.specs.declared.Conflict.{Conflict}
 use Rattle.guarantee.specs.declared.Verdict.TheVariants.{Refused, Given, Broken}
-use Rattle.guarantee.specs.Guarantee.{guaranteeOf}
-use Rattle.guarantee.specs.Engine.{inMask}
+use Rattle.guarantee.specs.Guarantee.{guarantee_of}
+use Rattle.guarantee.specs.Engine.{in_mask}
 
 abbrev pub IsOneOf : StepLine → List StepLine → Type 0
 IsOneOf s = SomeStep (λ x. s ≡ x)
@@ -19,20 +19,20 @@ IsOneOf s = SomeStep (λ x. s ≡ x)
 pub record Conflicting (b : Book) (ss : List StepLine) (c : Conflict) : Type 0 where
   pub s : StepLine
   pub t : StepLine
-  pub s-is : IsOneOf s ss
-  pub t-is : IsOneOf t ss
-  pub s-line : s.line ≡ c.inductive
-  pub t-line : t.line ≡ c.coinductive
-  pub s-kind : s.kind ≡ Inductive
-  pub t-kind : t.kind ≡ Coinductive
-  pub s-inside : Inside b s.caller s.caller s.goal Inductive
-  pub t-inside : Inside b s.caller t.caller t.goal Coinductive
-  pub group : (k : ℕ) → inMask c.group k ≡ linked b s.caller k
+  pub s_is : IsOneOf s ss
+  pub t_is : IsOneOf t ss
+  pub s_line : s.line ≡ c.inductive
+  pub t_line : t.line ≡ c.coinductive
+  pub s_kind : s.kind ≡ Inductive
+  pub t_kind : t.kind ≡ Coinductive
+  pub s_inside : Inside b s.caller s.caller s.goal Inductive
+  pub t_inside : Inside b s.caller t.caller t.goal Coinductive
+  pub group : (k : ℕ) → in_mask c.group k ≡ linked b s.caller k
 
 pub record Meaning : Type 0 where
-  pub refused : (bytes : List ℕ) (r : Refusal) → readBook bytes ≡ Rejected r → guaranteeOf bytes ≡ Refused r
+  pub refused : (bytes : List ℕ) (r : Refusal) → read_book bytes ≡ Rejected r → guarantee_of bytes ≡ Refused r
   -- the guarantee is given exactly where the book meets the condition
-  pub given : (bytes : List ℕ) (b : Book) → readBook bytes ≡ Accepted b → guaranteeOf bytes ≡ Given → OneKindEach b
-  pub only-given : (bytes : List ℕ) (b : Book) → readBook bytes ≡ Accepted b → OneKindEach b → guaranteeOf bytes ≡ Given
-  pub broken : (bytes : List ℕ) (b : Book) (ls : List Line) (c : Conflict) → readBook bytes ≡ Accepted b
-      → lines_of bytes ≡ some ls → guaranteeOf bytes ≡ Broken c → Conflicting b (stepLines ls) c
+  pub given : (bytes : List ℕ) (b : Book) → read_book bytes ≡ Accepted b → guarantee_of bytes ≡ Given → OneKindEach b
+  pub only_given : (bytes : List ℕ) (b : Book) → read_book bytes ≡ Accepted b → OneKindEach b → guarantee_of bytes ≡ Given
+  pub broken : (bytes : List ℕ) (b : Book) (ls : List Line) (c : Conflict) → read_book bytes ≡ Accepted b
+      → lines_of bytes ≡ some ls → guarantee_of bytes ≡ Broken c → Conflicting b (step_lines ls) c

@@ -5,12 +5,12 @@ pub mod reach;
 mod steps;
 
 ghost use Rattle.std.specs.Prelude.{◌≡◌, true, ◌<◌};
-ghost use Rattle.book.specs.Lines.{linesIn};
-ghost use Rattle.book.specs.Read.{IsAccepted, bookIn};
-ghost use Rattle.soundness.specs.Groups.{stepLines};
-ghost use Rattle.guarantee.specs.Guarantee.{firstConflict, guaranteeOf};
-ghost use Rattle.guarantee.specs.Codes.{verdictCode, verdictNumbers};
-ghost use Rattle.guarantee.specs.Engine.{Ready, verdictOf, conflictAt};
+ghost use Rattle.book.specs.Lines.{lines_in};
+ghost use Rattle.book.specs.Read.{IsAccepted, book_in};
+ghost use Rattle.soundness.specs.Groups.{step_lines};
+ghost use Rattle.guarantee.specs.Guarantee.{first_conflict, guarantee_of};
+ghost use Rattle.guarantee.specs.Codes.{verdict_code, verdict_numbers};
+ghost use Rattle.guarantee.specs.Engine.{Ready, verdict_of, conflict_at};
 
 use book::BookRead;
 use definition::paths::PathKind;
@@ -36,7 +36,7 @@ pub enum Verdict {
 impl Verdict {
     // 256 * refusal.
     pub fn code(self) -> u32
-        ensures { result ≡ verdictCode self }
+        ensures { result ≡ verdict_code self }
     {
         match self {
             Verdict::Refused(r) => Response::Refused(r).code(),
@@ -47,7 +47,7 @@ impl Verdict {
 
     // The two lines and the group, zeros where nothing is broken.
     pub fn numbers(self) -> [u64; 3]
-        ensures { result ≡ verdictNumbers self }
+        ensures { result ≡ verdict_numbers self }
     {
         match self {
             Verdict::Refused(_) => [0, 0, 0],
@@ -61,8 +61,8 @@ impl Verdict {
 // coinductive step inside that group.
 fn conflict_with(book: &[u8], reach: &[u64], s: Seen, line: usize) -> Verdict
     requires { Ready book.now reach.now }
-    ensures { (s.step ≡ true → s.caller < (bookIn book.now).header.goals)
-        → result ≡ verdictOf (conflictAt (bookIn book.now) (stepLines (linesIn book.now)) line s) }
+    ensures { (s.step ≡ true → s.caller < (book_in book.now).header.goals)
+        → result ≡ verdict_of (conflict_at (book_in book.now) (step_lines (lines_in book.now)) line s) }
 {
     let caller = s.caller;
     let group = reach::group(reach, caller);
@@ -83,8 +83,8 @@ fn conflict_with(book: &[u8], reach: &[u64], s: Seen, line: usize) -> Verdict
 // The first step that is part of a conflict.
 fn first_conflict(book: &[u8], reach: &[u64]) -> Verdict
     requires { Ready book.now reach.now }
-    ensures { result ≡ firstConflict (bookIn book.now) (stepLines (linesIn book.now))
-        (stepLines (linesIn book.now)) }
+    ensures { result ≡ first_conflict (book_in book.now) (step_lines (lines_in book.now))
+        (step_lines (lines_in book.now)) }
 {
     let mut t = &book[16..];
     let mut caller: usize = 0;
@@ -104,8 +104,8 @@ fn first_conflict(book: &[u8], reach: &[u64]) -> Verdict
 
 // A book that was read.
 fn of_book(book: &[u8], goals: usize) -> Verdict
-    requires { IsAccepted book.now × ((bookIn book.now).header.goals ≡ goals) }
-    ensures { result ≡ guaranteeOf book.now }
+    requires { IsAccepted book.now × ((book_in book.now).header.goals ≡ goals) }
+    ensures { result ≡ guarantee_of book.now }
 {
     let calls = reach::calls(book);
     let reach = reach::masks(&calls, goals);
@@ -113,7 +113,7 @@ fn of_book(book: &[u8], goals: usize) -> Verdict
 }
 
 pub fn guarantee(book: &[u8]) -> Verdict
-    ensures { result ≡ guaranteeOf book.now }
+    ensures { result ≡ guarantee_of book.now }
 {
     let mut starts = [0u16; 64];
     let read = book::read(book, &mut starts);

@@ -1,9 +1,9 @@
 // Which goals call which, and which reach which: a mask of goals for each goal.
 ghost use Rattle.std.specs.Prelude.{◌≡◌, ◌&&◌, ◌||◌, ℕ, ◌<◌, eqb, length, get_or};
 ghost use Rattle.definition.specs.Part.{Book};
-ghost use Rattle.book.specs.Read.{IsAccepted, bookIn};
+ghost use Rattle.book.specs.Read.{IsAccepted, book_in};
 ghost use Rattle.soundness.specs.Groups.{towards, reaches};
-ghost use Rattle.guarantee.specs.Engine.{inMask, meets, IsMask, CallMasks, ReachMasks, IsGroup};
+ghost use Rattle.guarantee.specs.Engine.{in_mask, meets, IsMask, CallMasks, ReachMasks, IsGroup};
 
 use crate::steps;
 use crate::steps::Seen;
@@ -18,7 +18,7 @@ fn meet(a: u64, b: u64) -> bool
 // The mask with a goal more, where `yes`.
 fn with_if(m: u64, i: usize, yes: bool) -> u64
     requires { i < 64 }
-    ensures { (k : ℕ) → inMask result k ≡ (inMask m k || (eqb k i && yes)) }
+    ensures { (k : ℕ) → in_mask result k ≡ (in_mask m k || (eqb k i && yes)) }
 {
     if yes {
         return bits::with(m, i);
@@ -30,7 +30,7 @@ fn with_if(m: u64, i: usize, yes: bool) -> u64
 fn add_step(masks: &mut [u64], s: Seen)
     requires { length masks.old ≡ 64 }
     ensures { (i m : ℕ) → i < 64 → meets (get_or masks.new i 0) m
-        ≡ (meets (get_or masks.old i 0) m || (s.step && (eqb s.caller i && inMask m s.goal))) }
+        ≡ (meets (get_or masks.old i 0) m || (s.step && (eqb s.caller i && in_mask m s.goal))) }
 {
     if !s.step {
         return;
@@ -45,7 +45,7 @@ fn add_step(masks: &mut [u64], s: Seen)
 // For each goal the goals that its part calls.
 pub fn calls(book: &[u8]) -> [u64; 64]
     requires { IsAccepted book.now }
-    ensures { CallMasks (bookIn book.now) result }
+    ensures { CallMasks (book_in book.now) result }
 {
     let mut masks = [0u64; 64];
     let mut t = &book[16..];
@@ -62,7 +62,7 @@ pub fn calls(book: &[u8]) -> [u64; 64]
 // The goal itself, and the goals that call one of the mask.
 fn toward(calls: &[u64], goal: usize, m: u64) -> u64
     requires { (length calls.now ≡ 64) × (goal < 64) }
-    ensures { (b : Book) → CallMasks b calls.now → IsMask (towards b goal (inMask m)) result }
+    ensures { (b : Book) → CallMasks b calls.now → IsMask (towards b goal (in_mask m)) result }
 {
     let mut r = bits::with(0, goal);
     let mut i: usize = 0;
@@ -105,7 +105,7 @@ pub fn masks(calls: &[u64], goals: usize) -> [u64; 64]
 // Whether each of two goals reaches the other.
 fn linked(reach: &[u64], g: usize, k: usize) -> bool
     requires { (g < length reach.now) × (k < length reach.now) }
-    ensures { result ≡ inMask (get_or reach.now k 0) g && inMask (get_or reach.now g 0) k }
+    ensures { result ≡ in_mask (get_or reach.now k 0) g && in_mask (get_or reach.now g 0) k }
 {
     if !bits::has(reach[k], g) {
         return false;

@@ -1,9 +1,9 @@
 // The steps of a book, line by line.
 ghost use Rattle.std.specs.Prelude.{◌≡◌, ◌&&◌, ◌≤◌, length};
-ghost use Rattle.book.specs.Lines.{lineIn, linesIn};
-ghost use Rattle.soundness.specs.Groups.{stepLines};
-ghost use Rattle.guarantee.specs.Guarantee.{stepWithin, firstStep};
-ghost use Rattle.guarantee.specs.Engine.{inMask, seenIn, stepAt, line_of, foundLine};
+ghost use Rattle.book.specs.Lines.{line_in, lines_in};
+ghost use Rattle.soundness.specs.Groups.{step_lines};
+ghost use Rattle.guarantee.specs.Guarantee.{step_within, first_step};
+ghost use Rattle.guarantee.specs.Engine.{in_mask, seen_in, step_at, line_of, found_line};
 
 use book::code::Code;
 use book::{line, part};
@@ -28,7 +28,7 @@ pub enum Found {
 // The first line, in the part of `caller` unless it is a goal's line.
 pub fn first(s: &[u8], caller: usize) -> Seen
     requires { 16 ≤ length s.now }
-    ensures { result ≡ seenIn caller (lineIn s.now) }
+    ensures { result ≡ seen_in caller (line_in s.now) }
 {
     let l = line::first(s);
     let goal = l.first as usize;
@@ -58,7 +58,7 @@ pub fn first(s: &[u8], caller: usize) -> Seen
 
 // Whether it is a step of a kind with both ends in the group.
 pub fn is_within(s: Seen, group: u64, kind: PathKind) -> bool
-    ensures { result ≡ s.step && stepWithin (inMask group) kind (stepAt 0 s) }
+    ensures { result ≡ s.step && step_within (in_mask group) kind (step_at 0 s) }
 {
     if !s.step {
         return false;
@@ -76,8 +76,8 @@ pub fn is_within(s: Seen, group: u64, kind: PathKind) -> bool
 // The first line that is a step of a kind with both ends in the group.
 pub fn first_within(book: &[u8], group: u64, kind: PathKind) -> Found
     requires { 16 ≤ length book.now }
-    ensures { foundLine result
-        ≡ line_of (firstStep (stepWithin (inMask group) kind) (stepLines (linesIn book.now))) }
+    ensures { found_line result
+        ≡ line_of (first_step (step_within (in_mask group) kind) (step_lines (lines_in book.now))) }
 {
     let mut t = &book[16..];
     let mut caller: usize = 0;

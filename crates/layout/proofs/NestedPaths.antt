@@ -13,8 +13,8 @@ use lib.Dec.{leb, eqb}
 use lib.ListN.{length, get_or, drop, drop_of_length-le}
 use lib.Pow.{le_ones, lt_of_le_ones}
 use lib.Seq.{drop-cons}
-use Rattle.definition.specs.CacheForm.{allAtMost}
-use Rattle.definition.specs.Nested.{nestedEmpty}
+use Rattle.definition.specs.CacheForm.{all_at_most}
+use Rattle.definition.specs.Nested.{nested_empty}
 
 le_or_l : (a b : ℕ) → a ≤ bit_or a b
 le_or_l a b = omega (arith, or_add_and a b, and_le_r a b)
@@ -23,8 +23,8 @@ le_or_r : (a b : ℕ) → b ≤ bit_or a b
 le_or_r a b = omega (arith, or_add_and a b, and_le_l a b)
 
 -- both flags are low where they are joined
-pub or-low : (k a b : ℕ) → leb (bit_or a b) (2 ^ k - 1) ≡ (leb a (2 ^ k - 1) && leb b (2 ^ k - 1))
-or-low k a b =
+pub or_low : (k a b : ℕ) → leb (bit_or a b) (2 ^ k - 1) ≡ (leb a (2 ^ k - 1) && leb b (2 ^ k - 1))
+or_low k a b =
     let m : ℕ = 2 ^ k - 1 in
     elim (dec_lt m a) [
       | yes h ↦ lt-leb (bit_or a b) m (omega (arith, le_or_l a b)) ∙ sym (ap (λ (t : Bool). t && leb b m) (lt-leb a m h))
@@ -40,32 +40,32 @@ or-low k a b =
     ]
 
 -- ---- `all_paths`: the flags so far, and those of the bytes that are left
-pub flags-first : (s : List ℕ) (k : ℕ) → (leb 0 (2 ^ k - 1) && allAtMost (2 ^ k - 1) s) ≡ allAtMost (2 ^ k - 1) s
-flags-first s k = ap (λ (t : Bool). t && allAtMost (2 ^ k - 1) s) (Dec.leb-zero (2 ^ k - 1))
+pub flags_first : (s : List ℕ) (k : ℕ) → (leb 0 (2 ^ k - 1) && all_at_most (2 ^ k - 1) s) ≡ all_at_most (2 ^ k - 1) s
+flags_first s k = ap (λ (t : Bool). t && all_at_most (2 ^ k - 1) s) (Dec.leb_zero (2 ^ k - 1))
 
-module _ (s : List ℕ) (flags i : ℕ) (so_far : (k : ℕ) → (leb flags (2 ^ k - 1) && allAtMost (2 ^ k - 1) (drop i s)) ≡ allAtMost (2 ^ k - 1) s) where
-  pub flags-more : i < length s → (k : ℕ) → (leb (bit_or flags (get_or s i 0)) (2 ^ k - 1) && allAtMost (2 ^ k - 1) (drop (i + 1) s)) ≡ allAtMost (2 ^ k - 1) s
-  flags-more h k =
+module _ (s : List ℕ) (flags i : ℕ) (so_far : (k : ℕ) → (leb flags (2 ^ k - 1) && all_at_most (2 ^ k - 1) (drop i s)) ≡ all_at_most (2 ^ k - 1) s) where
+  pub flags_more : i < length s → (k : ℕ) → (leb (bit_or flags (get_or s i 0)) (2 ^ k - 1) && all_at_most (2 ^ k - 1) (drop (i + 1) s)) ≡ all_at_most (2 ^ k - 1) s
+  flags_more h k =
       let m : ℕ = 2 ^ k - 1 in
-      ap₂ (λ (t : Bool) (n : ℕ). t && allAtMost m (drop n s)) (or-low k flags (get_or s i 0)) (add-one i)
-      ∙ and_assoc (leb flags m) (leb (get_or s i 0) m) (allAtMost m (drop (suc i) s))
-      ∙ ap (λ (l : List ℕ). leb flags m && allAtMost m l) (sym (drop-cons s i 0 h))
+      ap₂ (λ (t : Bool) (n : ℕ). t && all_at_most m (drop n s)) (or_low k flags (get_or s i 0)) (add-one i)
+      ∙ and_assoc (leb flags m) (leb (get_or s i 0) m) (all_at_most m (drop (suc i) s))
+      ∙ ap (λ (l : List ℕ). leb flags m && all_at_most m l) (sym (drop-cons s i 0 h))
       ∙ so_far k
 
-  pub flags-all : length s ≤ i → (k : ℕ) → leb flags (2 ^ k - 1) ≡ allAtMost (2 ^ k - 1) s
-  flags-all h k =
+  pub flags_all : length s ≤ i → (k : ℕ) → leb flags (2 ^ k - 1) ≡ all_at_most (2 ^ k - 1) s
+  flags_all h k =
       let m : ℕ = 2 ^ k - 1 in
-      sym (ap (λ (l : List ℕ). leb flags m && allAtMost m l) (drop_of_length-le s {i = i} h) ∙ and-true (leb flags m)) ∙ so_far k
+      sym (ap (λ (l : List ℕ). leb flags m && all_at_most m l) (drop_of_length-le s {i = i} h) ∙ and-true (leb flags m)) ∙ so_far k
 
 -- at most 0 is 0
-pub leb-zero : (n : ℕ) → leb n 0 ≡ eqb n 0
-leb-zero n =
+pub leb_zero : (n : ℕ) → leb n 0 ≡ eqb n 0
+leb_zero n =
     elim (dec_lt 0 n) [
       | yes h ↦ lt-leb n 0 h ∙ sym (ne_eqb n 0 (λ e. omega arith))
       | no h ↦ le-leb n 0 (omega arith) ∙ sym (eq-eqb n 0 (omega arith))
     ]
 
 -- no flag is nested where no goal is
-pub empty-flags : (s : List ℕ) → allAtMost 0 s ≡ nestedEmpty s
-empty-flags [] = refl
-empty-flags (x ∷ s) = ap₂ ◌&&◌ (leb-zero x) (empty-flags s)
+pub empty_flags : (s : List ℕ) → all_at_most 0 s ≡ nested_empty s
+empty_flags [] = refl
+empty_flags (x ∷ s) = ap₂ ◌&&◌ (leb_zero x) (empty_flags s)

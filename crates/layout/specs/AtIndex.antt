@@ -3,8 +3,8 @@ use Rattle.std.specs.Prelude.{◌≡◌, ℕ, zero, suc, ◌<◌, Bool, true, fa
 use Rattle.std.proofs.Math.Option.{none}
 use Rattle.definition.specs.declared.paths.PathKind.{PathKind}
 use Rattle.definition.specs.declared.usages.HeadUsages.{HeadUsages}
-use Rattle.definition.specs.Usages.{noUsages, addUsage, addUsages, addUsagesFromNested}
-use Rattle.definition.specs.Heads.{CycleHeads, ignoreAtHead}
+use Rattle.definition.specs.Usages.{no_usages, add_usage, add_usages, add_usages_from_nested}
+use Rattle.definition.specs.Heads.{CycleHeads, ignore_at_head}
 use Rattle.bits.specs.Masks.{flags}
 
 -- the usages whose flag is set
@@ -12,7 +12,7 @@ abbrev pub keep : List Bool → List HeadUsages → List HeadUsages
 keep [] us = []
 keep (x ∷ xs) [] = []
 keep (true ∷ xs) (u ∷ us) = u ∷ keep xs us
-keep (false ∷ xs) (u ∷ us) = noUsages ∷ keep xs us
+keep (false ∷ xs) (u ∷ us) = no_usages ∷ keep xs us
 
 -- a mask that names every index that has usages, and indices only
 pub record Names (goals m : ℕ) (us : List HeadUsages) : Type 0 where
@@ -20,18 +20,18 @@ pub record Names (goals m : ℕ) (us : List HeadUsages) : Type 0 where
   pub below : (i : ℕ) → get_or (flags 64 m) i false ≡ true → i < goals
 
 -- one usage more of a kind, where n is not 0
-abbrev pub usedIf : ℕ → HeadUsages → PathKind → HeadUsages
-usedIf zero u kind = u
-usedIf (suc n) u kind = addUsage u kind
+abbrev pub used_if : ℕ → HeadUsages → PathKind → HeadUsages
+used_if zero u kind = u
+used_if (suc n) u kind = add_usage u kind
 
 -- usages are added at index i
-abbrev pub addAt : ℕ → HeadUsages → List HeadUsages → List HeadUsages
-addAt i u us = set us i (addUsages (get_or us i noUsages) u)
+abbrev pub add_at : ℕ → HeadUsages → List HeadUsages → List HeadUsages
+add_at i u us = set us i (add_usages (get_or us i no_usages) u)
 
 -- those of a nested goal are
-abbrev pub addFromNestedAt : List HeadUsages → ℕ → HeadUsages → List HeadUsages
-addFromNestedAt us i u = set us i (addUsagesFromNested (get_or us i noUsages) u)
+abbrev pub add_from_nested_at : List HeadUsages → ℕ → HeadUsages → List HeadUsages
+add_from_nested_at us i u = set us i (add_usages_from_nested (get_or us i no_usages) u)
 
 -- usages are taken from the head at index i
-abbrev pub ignoreAt : ℕ → HeadUsages → CycleHeads → CycleHeads
-ignoreAt i u hs = set hs i (ignoreAtHead (get_or hs i none) u)
+abbrev pub ignore_at : ℕ → HeadUsages → CycleHeads → CycleHeads
+ignore_at i u hs = set hs i (ignore_at_head (get_or hs i none) u)

@@ -8,11 +8,11 @@ unfoldable pub packed : StepCounts → ℕ
 packed c = c.inductive + 65536 * (c.unknown + 65536 * (c.coinductive + 65536 * c.forced))
 
 -- one step of a kind
-abbrev pub weightOf : PathKind → ℕ
-weightOf Inductive = 1
-weightOf Unknown = 65536
-weightOf Coinductive = 4294967296
-weightOf ForcedAmbiguity = 281474976710656
+abbrev pub weight_of : PathKind → ℕ
+weight_of Inductive = 1
+weight_of Unknown = 65536
+weight_of Coinductive = 4294967296
+weight_of ForcedAmbiguity = 281474976710656
 
 -- the counts that a number holds
 unfoldable pub unpacked : ℕ → StepCounts
@@ -33,11 +33,11 @@ abbrev pub Few : StepCounts → Type 0
 Few c = total c < 65535
 
 -- the latest kind of which there is a step, inductive where there is none
-abbrev pub latestOf : ℕ → ℕ → ℕ → PathKind
-latestOf (suc forced) coinductive unknown = ForcedAmbiguity
-latestOf zero (suc coinductive) unknown = Coinductive
-latestOf zero zero (suc unknown) = Unknown
-latestOf zero zero zero = Inductive
+abbrev pub latest_of : ℕ → ℕ → ℕ → PathKind
+latest_of (suc forced) coinductive unknown = ForcedAmbiguity
+latest_of zero (suc coinductive) unknown = Coinductive
+latest_of zero zero (suc unknown) = Unknown
+latest_of zero zero zero = Inductive
 
-abbrev pub latestKind : StepCounts → PathKind
-latestKind c = latestOf c.forced c.coinductive c.unknown
+abbrev pub latest_kind : StepCounts → PathKind
+latest_kind c = latest_of c.forced c.coinductive c.unknown

@@ -5,55 +5,55 @@ use Rattle.definition.specs.declared.usages.HeadUsages.{HeadUsages}
 use Rattle.definition.specs.Stack.{Stack}
 use Rattle.definition.specs.Graph.{Entry, Graph}
 use Rattle.buffer.specs.Regions.{region}
-use Rattle.buffer.specs.Tables.{table, tableDown}
-use Rattle.layout.specs.Blocks.{blockSize, candidateOf}
-use Rattle.layout.specs.Frame.{frameSize, frame_of}
-use Rattle.layout.specs.Entry.{entrySize, entry_of}
+use Rattle.buffer.specs.Tables.{table, table_down}
+use Rattle.layout.specs.Blocks.{block_size, candidate_of}
+use Rattle.layout.specs.Frame.{frame_size, frame_of}
+use Rattle.layout.specs.Entry.{entry_size, entry_of}
 
-abbrev pub frameStart : ℕ → ℕ → ℕ
-frameStart goals i = i * frameSize goals
+abbrev pub frame_start : ℕ → ℕ → ℕ
+frame_start goals i = i * frame_size goals
 
-abbrev pub entriesStart : ℕ → ℕ
-entriesStart goals = goals * frameSize goals
+abbrev pub entries_start : ℕ → ℕ
+entries_start goals = goals * frame_size goals
 
 -- entry i of those that start at `base`
-abbrev pub entryStartFrom : ℕ → ℕ → ℕ → ℕ
-entryStartFrom goals base i = base + i * entrySize goals
+abbrev pub entry_start_from : ℕ → ℕ → ℕ → ℕ
+entry_start_from goals base i = base + i * entry_size goals
 
 -- in the graph
-abbrev pub entryStart : ℕ → ℕ → ℕ
-entryStart goals i = entryStartFrom goals (entriesStart goals) i
+abbrev pub entry_start : ℕ → ℕ → ℕ
+entry_start goals i = entry_start_from goals (entries_start goals) i
 
-abbrev pub entriesLength : ℕ → ℕ
-entriesLength goals = 2 * goals * entrySize goals
+abbrev pub entries_length : ℕ → ℕ
+entries_length goals = 2 * goals * entry_size goals
 
 -- frames and entries
-abbrev pub graphLength : ℕ → ℕ
-graphLength goals = entriesStart goals + entriesLength goals
+abbrev pub graph_length : ℕ → ℕ
+graph_length goals = entries_start goals + entries_length goals
 
-abbrev pub mergedStart : ℕ → ℕ → ℕ
-mergedStart goals i = graphLength goals + i * blockSize goals
+abbrev pub merged_start : ℕ → ℕ → ℕ
+merged_start goals i = graph_length goals + i * block_size goals
 
 -- the frames below `height`, the top first
 unfoldable pub stack_of : ℕ → ℕ → List ℕ → Stack
-stack_of goals height bs = tableDown (frame_of goals) (frameSize goals) 0 height bs
+stack_of goals height bs = table_down (frame_of goals) (frame_size goals) 0 height bs
 
 -- n entries that start at `base`, and one of them
-unfoldable pub entriesFrom : ℕ → ℕ → ℕ → List ℕ → List Entry
-entriesFrom goals base n bs = table (entry_of goals) (entrySize goals) base n bs
+unfoldable pub entries_from : ℕ → ℕ → ℕ → List ℕ → List Entry
+entries_from goals base n bs = table (entry_of goals) (entry_size goals) base n bs
 
-abbrev pub entryFrom : ℕ → ℕ → ℕ → List ℕ → Entry
-entryFrom goals base i bs = entry_of goals (region (entryStartFrom goals base i) (entrySize goals) bs)
+abbrev pub entry_from : ℕ → ℕ → ℕ → List ℕ → Entry
+entry_from goals base i bs = entry_of goals (region (entry_start_from goals base i) (entry_size goals) bs)
 
 -- in the graph
-abbrev pub entriesOf : ℕ → ℕ → List ℕ → List Entry
-entriesOf goals n bs = entriesFrom goals (entriesStart goals) n bs
+abbrev pub entries_of : ℕ → ℕ → List ℕ → List Entry
+entries_of goals n bs = entries_from goals (entries_start goals) n bs
 
 -- the merged usages of a pick at frame i
-unfoldable pub mergedOf : ℕ → ℕ → List ℕ → List HeadUsages
-mergedOf goals i work = candidateOf goals (region (mergedStart goals i) (blockSize goals) work)
+unfoldable pub merged_of : ℕ → ℕ → List ℕ → List HeadUsages
+merged_of goals i work = candidate_of goals (region (merged_start goals i) (block_size goals) work)
 
 -- the search graph that bytes hold
 abbrev pub graph_of : ℕ → ℕ → ℕ → ℕ → List ℕ → List ℕ → Graph
 graph_of goals root height n bs cache =
-    record { rootDepth = root; stack = stack_of goals height bs; provisionalCache = entriesOf goals n bs; globalCache = cache }
+    record { root_depth = root; stack = stack_of goals height bs; provisional_cache = entries_of goals n bs; global_cache = cache }

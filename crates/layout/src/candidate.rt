@@ -1,9 +1,9 @@
 // A block of usages: those of a candidate, or merged ones.
 ghost use Rattle.std.specs.Prelude.{◌≡◌, true, ◌<◌, get_or, set};
-ghost use Rattle.definition.specs.Usages.{noUsages, oneUsage};
-ghost use Rattle.definition.specs.Candidates.{noCandidateUsages};
-ghost use Rattle.layout.specs.Blocks.{UsagesBlock, flagAt, candidateOf};
-ghost use Rattle.layout.specs.AtIndex.{Names, addAt, addFromNestedAt};
+ghost use Rattle.definition.specs.Usages.{no_usages, one_usage};
+ghost use Rattle.definition.specs.Candidates.{no_candidate_usages};
+ghost use Rattle.layout.specs.Blocks.{UsagesBlock, flag_at, candidate_of};
+ghost use Rattle.layout.specs.AtIndex.{Names, add_at, add_from_nested_at};
 
 use crate::records;
 use definition::paths::PathKind;
@@ -11,7 +11,7 @@ use definition::usages::HeadUsages;
 
 pub fn clear(b: &mut [u8], goals: usize)
     requires { UsagesBlock goals b.old }
-    ensures { candidateOf goals b.new ≡ noCandidateUsages goals }
+    ensures { candidate_of goals b.new ≡ no_candidate_usages goals }
 {
     buffer::write_u64(b, 0, 0);
 }
@@ -19,7 +19,7 @@ pub fn clear(b: &mut [u8], goals: usize)
 // The usages of index i.
 pub fn usages(b: &[u8], goals: usize, i: usize) -> HeadUsages
     requires { UsagesBlock goals b.now × (i < goals) }
-    ensures { result ≡ get_or (candidateOf goals b.now) i noUsages }
+    ensures { result ≡ get_or (candidate_of goals b.now) i no_usages }
 {
     if bits::has(buffer::read_u64(b, 0), i) {
         let a = 8 + i * 32;
@@ -32,8 +32,8 @@ pub fn usages(b: &[u8], goals: usize, i: usize) -> HeadUsages
 // The usages of index i become u.
 pub fn put(b: &mut [u8], goals: usize, i: usize, u: HeadUsages)
     requires { UsagesBlock goals b.old × (i < goals) }
-    ensures { (candidateOf goals b.new ≡ set (candidateOf goals b.old) i u)
-        × (flagAt b.new i ≡ true) }
+    ensures { (candidate_of goals b.new ≡ set (candidate_of goals b.old) i u)
+        × (flag_at b.new i ≡ true) }
 {
     let a = 8 + i * 32;
     let end = a + 32;
@@ -45,7 +45,7 @@ pub fn put(b: &mut [u8], goals: usize, i: usize, u: HeadUsages)
 // The indices that have usages.
 pub fn mask(b: &[u8], goals: usize) -> u64
     requires { UsagesBlock goals b.now }
-    ensures { Names goals result (candidateOf goals b.now) }
+    ensures { Names goals result (candidate_of goals b.now) }
 {
     bits::below(buffer::read_u64(b, 0), goals)
 }
@@ -53,7 +53,7 @@ pub fn mask(b: &[u8], goals: usize) -> u64
 // The usages of index i, with u.
 pub fn add(b: &mut [u8], goals: usize, i: usize, u: HeadUsages)
     requires { UsagesBlock goals b.old × (i < goals) }
-    ensures { candidateOf goals b.new ≡ addAt i u (candidateOf goals b.old) }
+    ensures { candidate_of goals b.new ≡ add_at i u (candidate_of goals b.old) }
 {
     let before = usages(b, goals, i);
     put(b, goals, i, before.add_usages(u));
@@ -62,8 +62,8 @@ pub fn add(b: &mut [u8], goals: usize, i: usize, u: HeadUsages)
 // Index i gets a record, of no usages, where it has none.
 fn start(b: &mut [u8], goals: usize, i: usize)
     requires { UsagesBlock goals b.old × (i < goals) }
-    ensures { (candidateOf goals b.new ≡ candidateOf goals b.old)
-        × (flagAt b.new i ≡ true) }
+    ensures { (candidate_of goals b.new ≡ candidate_of goals b.old)
+        × (flag_at b.new i ≡ true) }
 {
     let known = bits::has(buffer::read_u64(b, 0), i);
     if known {
@@ -75,7 +75,7 @@ fn start(b: &mut [u8], goals: usize, i: usize)
 // The usages of index i, with those of a nested goal: at most 1 of each kind.
 pub fn add_from_nested(b: &mut [u8], goals: usize, i: usize, u: HeadUsages)
     requires { UsagesBlock goals b.old × (i < goals) }
-    ensures { candidateOf goals b.new ≡ addFromNestedAt (candidateOf goals b.old) i u }
+    ensures { candidate_of goals b.new ≡ add_from_nested_at (candidate_of goals b.old) i u }
 {
     start(b, goals, i);
     let a = 8 + i * 32;
@@ -86,8 +86,8 @@ pub fn add_from_nested(b: &mut [u8], goals: usize, i: usize, u: HeadUsages)
 // The same where it is used once.
 pub fn count(b: &mut [u8], goals: usize, i: usize, kind: PathKind)
     requires { UsagesBlock goals b.old × (i < goals) }
-    ensures { candidateOf goals b.new
-        ≡ addFromNestedAt (candidateOf goals b.old) i (oneUsage kind) }
+    ensures { candidate_of goals b.new
+        ≡ add_from_nested_at (candidate_of goals b.old) i (one_usage kind) }
 {
     start(b, goals, i);
     let a = 8 + i * 32;

@@ -3,11 +3,11 @@ ghost use Rattle.std.specs.Prelude.{◌≡◌, false, ◌++◌, ◌+◌, ◌-◌
 ghost use Rattle.std.proofs.Math.Option.{some};
 ghost use Rattle.bits.specs.Masks.{flags};
 ghost use Rattle.buffer.specs.Regions.{region};
-ghost use Rattle.definition.specs.Usages.{oneUsage};
-ghost use Rattle.definition.specs.Heads.{noHeads, headsEmpty, highestIndex, usagesAt, pathsAt, removeHead, insertHead};
-ghost use Rattle.layout.specs.Blocks.{HeadsBlock, head_of, headsOf, present};
+ghost use Rattle.definition.specs.Usages.{one_usage};
+ghost use Rattle.definition.specs.Heads.{no_heads, heads_empty, highest_index, usages_at, paths_at, remove_head, insert_head};
+ghost use Rattle.layout.specs.Blocks.{HeadsBlock, head_of, heads_of, present};
 ghost use Rattle.layout.specs.Copied.{BlocksApart, RecordCopied, HeadsCopied};
-ghost use Rattle.layout.specs.AtIndex.{ignoreAt};
+ghost use Rattle.layout.specs.AtIndex.{ignore_at};
 
 use crate::records;
 use definition::heads::CycleHead;
@@ -17,14 +17,14 @@ use definition::usages::HeadUsages;
 // The indices that have a head.
 pub fn mask(b: &[u8], goals: usize) -> u64
     requires { HeadsBlock goals b.now }
-    ensures { flags 64 result ≡ present (headsOf goals b.now) ++ replicate (64 - goals) false }
+    ensures { flags 64 result ≡ present (heads_of goals b.now) ++ replicate (64 - goals) false }
 {
     bits::below(buffer::read_u64(b, 0), goals)
 }
 
 pub fn clear(b: &mut [u8], goals: usize)
     requires { HeadsBlock goals b.old }
-    ensures { headsOf goals b.new ≡ noHeads goals }
+    ensures { heads_of goals b.new ≡ no_heads goals }
 {
     buffer::write_u64(b, 0, 0);
 }
@@ -42,7 +42,7 @@ pub fn record(b: &[u8], goals: usize, i: usize) -> CycleHead
 // The head of index i becomes `head`.
 pub fn put(b: &mut [u8], goals: usize, i: usize, head: CycleHead)
     requires { HeadsBlock goals b.old × (i < goals) }
-    ensures { headsOf goals b.new ≡ set (headsOf goals b.old) i (some head) }
+    ensures { heads_of goals b.new ≡ set (heads_of goals b.old) i (some head) }
 {
     let a = 8 + i * 33;
     let end = a + 33;
@@ -53,7 +53,7 @@ pub fn put(b: &mut [u8], goals: usize, i: usize, head: CycleHead)
 
 pub fn remove(b: &mut [u8], goals: usize, i: usize)
     requires { HeadsBlock goals b.old × (i < goals) }
-    ensures { headsOf goals b.new ≡ removeHead (headsOf goals b.old) i }
+    ensures { heads_of goals b.new ≡ remove_head (heads_of goals b.old) i }
 {
     let m = buffer::read_u64(b, 0);
     buffer::write_u64(b, 0, bits::without(m, i));
@@ -62,7 +62,7 @@ pub fn remove(b: &mut [u8], goals: usize, i: usize)
 // Does index i have a head?
 pub fn has(b: &[u8], goals: usize, i: usize) -> bool
     requires { HeadsBlock goals b.now × (i < goals) }
-    ensures { result ≡ get_or (present (headsOf goals b.now)) i false }
+    ensures { result ≡ get_or (present (heads_of goals b.now)) i false }
 {
     bits::has(buffer::read_u64(b, 0), i)
 }
@@ -70,7 +70,7 @@ pub fn has(b: &[u8], goals: usize, i: usize) -> bool
 // CycleHeads::insert; of a head that is known, only what changes is written
 pub fn insert(b: &mut [u8], goals: usize, i: usize, paths: u8, usages: HeadUsages)
     requires { HeadsBlock goals b.old × (i < goals) }
-    ensures { headsOf goals b.new ≡ insertHead (headsOf goals b.old) i paths usages }
+    ensures { heads_of goals b.new ≡ insert_head (heads_of goals b.old) i paths usages }
 {
     if has(b, goals, i) {
         let a = 8 + i * 33;
@@ -84,8 +84,8 @@ pub fn insert(b: &mut [u8], goals: usize, i: usize, paths: u8, usages: HeadUsage
 // The same of a head that is used once.
 pub fn insert_used(b: &mut [u8], goals: usize, i: usize, paths: u8, kind: PathKind)
     requires { HeadsBlock goals b.old × (i < goals) }
-    ensures { headsOf goals b.new
-        ≡ insertHead (headsOf goals b.old) i paths (oneUsage kind) }
+    ensures { heads_of goals b.new
+        ≡ insert_head (heads_of goals b.old) i paths (one_usage kind) }
 {
     if has(b, goals, i) {
         let a = 8 + i * 33;
@@ -101,7 +101,7 @@ pub fn insert_used(b: &mut [u8], goals: usize, i: usize, paths: u8, kind: PathKi
 // How the head of index i is used; not at all where there is none.
 pub fn usages(b: &[u8], goals: usize, i: usize) -> HeadUsages
     requires { HeadsBlock goals b.now × (i < goals) }
-    ensures { result ≡ usagesAt (headsOf goals b.now) i }
+    ensures { result ≡ usages_at (heads_of goals b.now) i }
 {
     if has(b, goals, i) {
         let head = record(b, goals, i);
@@ -113,7 +113,7 @@ pub fn usages(b: &[u8], goals: usize, i: usize) -> HeadUsages
 // The paths to the head of index i; none where there is none.
 pub fn paths(b: &[u8], goals: usize, i: usize) -> u8
     requires { HeadsBlock goals b.now × (i < goals) }
-    ensures { result ≡ pathsAt (headsOf goals b.now) i }
+    ensures { result ≡ paths_at (heads_of goals b.now) i }
 {
     if has(b, goals, i) {
         let head = record(b, goals, i);
@@ -125,14 +125,14 @@ pub fn paths(b: &[u8], goals: usize, i: usize) -> u8
 // The highest index that has a head, 0 where none has.
 pub fn highest(b: &[u8], goals: usize) -> usize
     requires { HeadsBlock goals b.now }
-    ensures { result ≡ highestIndex (headsOf goals b.now) }
+    ensures { result ≡ highest_index (heads_of goals b.now) }
 {
     bits::highest(mask(b, goals))
 }
 
 pub fn is_empty(b: &[u8], goals: usize) -> bool
     requires { HeadsBlock goals b.now }
-    ensures { result ≡ headsEmpty (headsOf goals b.now) }
+    ensures { result ≡ heads_empty (heads_of goals b.now) }
 {
     mask(b, goals) == 0
 }
@@ -140,7 +140,7 @@ pub fn is_empty(b: &[u8], goals: usize) -> bool
 // The usages u are taken from the head at index i, if there is one.
 pub fn ignore(b: &mut [u8], goals: usize, i: usize, u: HeadUsages)
     requires { HeadsBlock goals b.old × (i < goals) }
-    ensures { headsOf goals b.new ≡ ignoreAt i u (headsOf goals b.old) }
+    ensures { heads_of goals b.new ≡ ignore_at i u (heads_of goals b.old) }
 {
     if !has(b, goals, i) {
         return;

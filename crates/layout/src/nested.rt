@@ -1,7 +1,7 @@
 // Nested goals: a byte for each goal, the paths to it, 0 where it is not nested.
 ghost use Rattle.std.specs.Prelude.{◌≡◌, ℕ, ◌+◌, ◌-◌, ◌^◌, ◌≤◌, leb, length};
-ghost use Rattle.definition.specs.Nested.{nestedEmpty, insertNested, extendFromChild};
-ghost use Rattle.definition.specs.CacheForm.{allAtMost};
+ghost use Rattle.definition.specs.Nested.{nested_empty, insert_nested, extend_from_child};
+ghost use Rattle.definition.specs.CacheForm.{all_at_most};
 ghost use Rattle.layout.specs.Copied.{Extended};
 
 use buffer::scalars;
@@ -10,7 +10,7 @@ use definition::paths::PathKind;
 
 // Paths to a goal.
 pub fn insert(nested: &mut [u8], goal: usize, paths: u8)
-    ensures { nested.new ≡ insertNested nested.old goal paths }
+    ensures { nested.new ≡ insert_nested nested.old goal paths }
 {
     let before = buffer::get(nested, goal);
     buffer::put(nested, goal, before | paths);
@@ -19,7 +19,7 @@ pub fn insert(nested: &mut [u8], goal: usize, paths: u8)
 // The nested goals of a child, by one step more. What the step replaces is worked out
 // before the loop.
 pub fn extend_from_child(nested: &mut [u8], step: PathKind, child: &[u8])
-    ensures { nested.new ≡ extendFromChild nested.old step child.now }
+    ensures { nested.new ≡ extend_from_child nested.old step child.now }
 {
     let weaker = step.weaker_flags();
     let flag = step.flag();
@@ -54,7 +54,7 @@ pub fn extend_within(s: &mut [u8], to: usize, from: usize, goals: usize, step: P
 
 // The paths to all of them together: they tell the bound 2 ^ k - 1 of every byte.
 pub fn all_paths(nested: &[u8]) -> u8
-    ensures { (k : ℕ) → leb result (2 ^ k - 1) ≡ allAtMost (2 ^ k - 1) nested.now }
+    ensures { (k : ℕ) → leb result (2 ^ k - 1) ≡ all_at_most (2 ^ k - 1) nested.now }
 {
     let mut flags: u8 = 0;
     let mut i: usize = 0;
@@ -67,7 +67,7 @@ pub fn all_paths(nested: &[u8]) -> u8
 
 // Whether no goal is nested.
 pub fn is_empty(nested: &[u8]) -> bool
-    ensures { result ≡ nestedEmpty nested.now }
+    ensures { result ≡ nested_empty nested.now }
 {
     all_paths(nested) == 0
 }

@@ -1,11 +1,11 @@
 // Where frames, entries and merged usages start, and how long they are.
 ghost use Rattle.std.specs.Prelude.{◌≡◌, ◌*◌, ◌≤◌};
-ghost use Rattle.definition.specs.Query.{workLength};
-ghost use Rattle.layout.specs.Blocks.{headsSize, blockSize};
-ghost use Rattle.layout.specs.Frame.{candidateStart, nestedStart, countsStart, frameSize};
-ghost use Rattle.layout.specs.Entry.{entrySize};
-ghost use Rattle.layout.specs.Work.{frameStart, entriesStart, entryStartFrom, entryStart};
-ghost use Rattle.layout.specs.Work.{graphLength, mergedStart};
+ghost use Rattle.definition.specs.Query.{work_length};
+ghost use Rattle.layout.specs.Blocks.{heads_size, block_size};
+ghost use Rattle.layout.specs.Frame.{candidate_start, nested_start, counts_start, frame_size};
+ghost use Rattle.layout.specs.Entry.{entry_size};
+ghost use Rattle.layout.specs.Work.{frame_start, entries_start, entry_start_from, entry_start};
+ghost use Rattle.layout.specs.Work.{graph_length, merged_start};
 
 // ---- the fields of a frame
 pub const FRAME_INPUT: usize = 0;
@@ -42,14 +42,14 @@ pub const ENTRY_HEADS: usize = 4;
 // ---- sizes and starts
 pub fn heads_size(goals: usize) -> usize
     requires { goals ≤ 64 }
-    ensures { result ≡ headsSize goals }
+    ensures { result ≡ heads_size goals }
 {
     8 + goals * 33
 }
 
 pub fn block_size(goals: usize) -> usize
     requires { goals ≤ 64 }
-    ensures { result ≡ blockSize goals }
+    ensures { result ≡ block_size goals }
 {
     8 + goals * 32
 }
@@ -57,35 +57,35 @@ pub fn block_size(goals: usize) -> usize
 // In a frame: candidate usages, nested goals, and the counts of steps.
 pub fn candidate_start(goals: usize) -> usize
     requires { goals ≤ 64 }
-    ensures { result ≡ candidateStart goals }
+    ensures { result ≡ candidate_start goals }
 {
     48 + goals * 33
 }
 
 pub fn nested_start(goals: usize) -> usize
     requires { goals ≤ 64 }
-    ensures { result ≡ nestedStart goals }
+    ensures { result ≡ nested_start goals }
 {
     56 + goals * 65
 }
 
 pub fn counts_start(goals: usize) -> usize
     requires { goals ≤ 64 }
-    ensures { result ≡ countsStart goals }
+    ensures { result ≡ counts_start goals }
 {
     56 + goals * 66
 }
 
 pub fn frame_size(goals: usize) -> usize
     requires { goals ≤ 64 }
-    ensures { result ≡ frameSize goals }
+    ensures { result ≡ frame_size goals }
 {
     64 + goals * 66
 }
 
 pub fn entry_size(goals: usize) -> usize
     requires { goals ≤ 64 }
-    ensures { result ≡ entrySize goals }
+    ensures { result ≡ entry_size goals }
 {
     12 + goals * 33
 }
@@ -100,21 +100,21 @@ fn times(a: usize, b: usize) -> usize
 // In the graph: a frame, the first entry, and any entry.
 pub fn frame_start(goals: usize, i: usize) -> usize
     requires { (goals ≤ 64) × (i ≤ 64) }
-    ensures { (result ≡ frameStart goals i) × (result ≤ 2097152) }
+    ensures { (result ≡ frame_start goals i) × (result ≤ 2097152) }
 {
     times(i, frame_size(goals))
 }
 
 pub fn entries_start(goals: usize) -> usize
     requires { goals ≤ 64 }
-    ensures { (result ≡ entriesStart goals) × (result ≤ 2097152) }
+    ensures { (result ≡ entries_start goals) × (result ≤ 2097152) }
 {
     frame_start(goals, goals)
 }
 
 pub fn entry_start(goals: usize, i: usize) -> usize
     requires { (goals ≤ 64) × (i ≤ 128) }
-    ensures { (result ≡ entryStart goals i) × (result ≤ 4194304) }
+    ensures { (result ≡ entry_start goals i) × (result ≤ 4194304) }
 {
     entries_start(goals) + times(i, entry_size(goals))
 }
@@ -122,14 +122,14 @@ pub fn entry_start(goals: usize, i: usize) -> usize
 // In bytes that hold the entries from `base` on: an entry.
 pub fn entry_start_from(goals: usize, base: usize, i: usize) -> usize
     requires { (goals ≤ 64) × ((base ≤ 2097152) × (i ≤ 128)) }
-    ensures { (result ≡ entryStartFrom goals base i) × (result ≤ 4194304) }
+    ensures { (result ≡ entry_start_from goals base i) × (result ≤ 4194304) }
 {
     base + times(i, entry_size(goals))
 }
 
 pub fn graph_length(goals: usize) -> usize
     requires { goals ≤ 64 }
-    ensures { (result ≡ graphLength goals) × (result ≤ 4194304) }
+    ensures { (result ≡ graph_length goals) × (result ≤ 4194304) }
 {
     entry_start(goals, 2 * goals)
 }
@@ -137,14 +137,14 @@ pub fn graph_length(goals: usize) -> usize
 // In the workspace: the merged usages of a pick at frame i.
 pub fn merged_start(goals: usize, i: usize) -> usize
     requires { (goals ≤ 64) × (i ≤ 64) }
-    ensures { (result ≡ mergedStart goals i) × (result ≤ 6291456) }
+    ensures { (result ≡ merged_start goals i) × (result ≤ 6291456) }
 {
     graph_length(goals) + times(i, block_size(goals))
 }
 
 pub fn work_length(goals: usize) -> usize
     requires { goals ≤ 64 }
-    ensures { (result ≡ workLength goals) × (result ≤ 2097152) }
+    ensures { (result ≡ work_length goals) × (result ≤ 2097152) }
 {
     times(4 * goals, 41 * goals + 24)
 }

@@ -1,10 +1,10 @@
 // Usages in 32 bytes, and a cycle head in 33.
 ghost use Rattle.std.specs.Prelude.{◌≡◌, length};
 ghost use Rattle.std.proofs.Math.Option.{some};
-ghost use Rattle.definition.specs.Usages.{oneUsage, addUsage, addUsagesFromNested};
-ghost use Rattle.definition.specs.Heads.{joinHead};
-ghost use Rattle.layout.specs.Blocks.{usagesOf, head_of};
-ghost use Rattle.layout.specs.AtIndex.{usedIf};
+ghost use Rattle.definition.specs.Usages.{one_usage, add_usage, add_usages_from_nested};
+ghost use Rattle.definition.specs.Heads.{join_head};
+ghost use Rattle.layout.specs.Blocks.{usages_of, head_of};
+ghost use Rattle.layout.specs.AtIndex.{used_if};
 
 use buffer::scalars;
 use definition::heads::CycleHead;
@@ -14,7 +14,7 @@ use definition::usages::HeadUsages;
 
 pub fn read_usages(b: &[u8]) -> HeadUsages
     requires { length b.now ≡ 32 }
-    ensures { result ≡ usagesOf b.now }
+    ensures { result ≡ usages_of b.now }
 {
     HeadUsages {
         inductive: buffer::read_u64(b, 0),
@@ -26,7 +26,7 @@ pub fn read_usages(b: &[u8]) -> HeadUsages
 
 pub fn write_usages(b: &mut [u8], u: HeadUsages)
     requires { length b.old ≡ 32 }
-    ensures { usagesOf b.new ≡ u }
+    ensures { usages_of b.new ≡ u }
 {
     buffer::write_u64(b, 0, u.inductive);
     buffer::write_u64(b, 8, u.unknown);
@@ -37,7 +37,7 @@ pub fn write_usages(b: &mut [u8], u: HeadUsages)
 // One usage more, of a kind: its counter alone is read and written.
 pub fn count_usage(b: &mut [u8], kind: PathKind)
     requires { length b.old ≡ 32 }
-    ensures { usagesOf b.new ≡ addUsage (usagesOf b.old) kind }
+    ensures { usages_of b.new ≡ add_usage (usages_of b.old) kind }
 {
     let at = 8 * scalars::wide(kind.number());
     let before = buffer::read_u64(b, at);
@@ -47,7 +47,7 @@ pub fn count_usage(b: &mut [u8], kind: PathKind)
 // One usage more of a kind, where n is not 0.
 fn count_if(b: &mut [u8], n: u64, kind: PathKind)
     requires { length b.old ≡ 32 }
-    ensures { usagesOf b.new ≡ usedIf n (usagesOf b.old) kind }
+    ensures { usages_of b.new ≡ used_if n (usages_of b.old) kind }
 {
     if n == 0 {
         return;
@@ -60,7 +60,7 @@ fn count_if(b: &mut [u8], n: u64, kind: PathKind)
 // again, and a goal that is evaluated in it adds as much to the frame as to the candidate.
 pub fn count_nested(b: &mut [u8], nested: HeadUsages)
     requires { length b.old ≡ 32 }
-    ensures { usagesOf b.new ≡ addUsagesFromNested (usagesOf b.old) nested }
+    ensures { usages_of b.new ≡ add_usages_from_nested (usages_of b.old) nested }
 {
     count_if(b, nested.inductive, PathKind::Inductive);
     count_if(b, nested.unknown, PathKind::Unknown);
@@ -90,7 +90,7 @@ pub fn write_head(b: &mut [u8], head: CycleHead)
 // The head, reached by more paths and used by a nested goal.
 pub fn join_head(b: &mut [u8], paths: u8, nested: HeadUsages)
     requires { length b.old ≡ 33 }
-    ensures { head_of b.new ≡ joinHead (some (head_of b.old)) paths nested }
+    ensures { head_of b.new ≡ join_head (some (head_of b.old)) paths nested }
 {
     count_nested(&mut b[1..33], nested);
     b[0] = b[0] | paths;
@@ -99,7 +99,7 @@ pub fn join_head(b: &mut [u8], paths: u8, nested: HeadUsages)
 // The same where it is used once.
 pub fn count_head(b: &mut [u8], paths: u8, kind: PathKind)
     requires { length b.old ≡ 33 }
-    ensures { head_of b.new ≡ joinHead (some (head_of b.old)) paths (oneUsage kind) }
+    ensures { head_of b.new ≡ join_head (some (head_of b.old)) paths (one_usage kind) }
 {
     count_usage(&mut b[1..33], kind);
     let before = b[0];

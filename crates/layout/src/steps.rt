@@ -1,7 +1,7 @@
 // Counts of steps in one number: 16 bits for each kind, the latest kind highest.
 ghost use Rattle.std.specs.Prelude.{◌≡◌};
-ghost use Rattle.definition.specs.Steps.{countStep};
-ghost use Rattle.layout.specs.Steps.{weightOf, unpacked, Few, latestKind};
+ghost use Rattle.definition.specs.Steps.{count_step};
+ghost use Rattle.layout.specs.Steps.{weight_of, unpacked, Few, latest_kind};
 
 use definition::paths::PathKind;
 
@@ -14,7 +14,7 @@ const FORCED: u64 = 281474976710656;
 
 // One step of a kind.
 fn one(kind: PathKind) -> u64
-    ensures { result ≡ weightOf kind }
+    ensures { result ≡ weight_of kind }
 {
     match kind {
         PathKind::Inductive => 1,
@@ -27,14 +27,14 @@ fn one(kind: PathKind) -> u64
 // One step more.
 pub fn with(steps: u64, kind: PathKind) -> u64
     requires { Few (unpacked steps) }
-    ensures { unpacked result ≡ countStep kind (unpacked steps) }
+    ensures { unpacked result ≡ count_step kind (unpacked steps) }
 {
     steps + one(kind)
 }
 
 // The latest kind of which there is a step.
 pub fn latest(steps: u64) -> PathKind
-    ensures { result ≡ latestKind (unpacked steps) }
+    ensures { result ≡ latest_kind (unpacked steps) }
 {
     if FORCED <= steps {
         return PathKind::ForcedAmbiguity;

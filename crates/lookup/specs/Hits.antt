@@ -5,19 +5,19 @@ use Rattle.definition.specs.declared.paths.PathKind.{PathKind}
 use Rattle.definition.specs.declared.answers.Answer.{Answer}
 use Rattle.definition.specs.declared.format.Header.{Header}
 use Rattle.definition.specs.Graph.{Graph, Outcome, Done}
-use Rattle.definition.specs.GlobalCache.{cacheData}
-use Rattle.definition.specs.Lookup.{useEntry, useCacheData, closeCycle, lookupProvisionalCache, lookupGlobalCache, checkCycleOnStack}
+use Rattle.definition.specs.GlobalCache.{cache_data}
+use Rattle.definition.specs.Lookup.{use_entry, use_cache_data, close_cycle, lookup_provisional_cache, lookup_global_cache, check_cycle_on_stack}
 use Rattle.layout.specs.Work.{graph_of}
 use Rattle.stack.specs.declared.frame.Provisional.{Provisional}
-use Rattle.stack.specs.Results.{provisionalOf}
-use Rattle.provisional_cache.specs.Entries.{entryAt}
+use Rattle.stack.specs.Results.{provisional_of}
+use Rattle.provisional_cache.specs.Entries.{entry_at}
 use Rattle.lookup.specs.declared.Hit.{Hit}
 use Rattle.lookup.specs.declared.Hit.TheVariants.{Result, Nothing}
 
 -- what was found, with the graph that is left
-abbrev pub hitOf : Hit → Graph → Option Outcome
-hitOf (Result a) g = some (Done g a)
-hitOf Nothing g = none
+abbrev pub hit_of : Hit → Graph → Option Outcome
+hit_of (Result a) g = some (Done g a)
+hit_of Nothing g = none
 
 -- ---- the provisional cache
 
@@ -26,12 +26,12 @@ abbrev pub EntryUsed : ℕ → ℕ → PathKind → ℕ → ℕ → List ℕ →
 EntryUsed goals height step available i old new r =
     (root n : ℕ) (cache : List ℕ)
     → some (Done (graph_of goals root height n new cache) r)
-    ≡ useEntry (graph_of goals root height n old cache) step available (some (entryAt goals i old))
+    ≡ use_entry (graph_of goals root height n old cache) step available (some (entry_at goals i old))
 
 pub record EntriesTried (h : Header) (height n goal : ℕ) (step : PathKind) (available : ℕ) (old new : List ℕ) (r : Hit) : Type 0 where
   pub is : (root : ℕ) (cache : List ℕ)
-      → hitOf r (graph_of h.goals root height n new cache)
-      ≡ lookupProvisionalCache h (graph_of h.goals root height n old cache) goal step available
+      → hit_of r (graph_of h.goals root height n new cache)
+      ≡ lookup_provisional_cache h (graph_of h.goals root height n old cache) goal step available
   pub missed : r ≡ Nothing → new ≡ old
 
 -- ---- the global cache
@@ -41,12 +41,12 @@ abbrev pub SlotUsed : Header → ℕ → PathKind → ℕ → List ℕ → Bool 
 SlotUsed h height step available slot overflow old new r =
     (root n : ℕ) (cache : List ℕ)
     → some (Done (graph_of h.goals root height n new cache) r)
-    ≡ useCacheData h (graph_of h.goals root height n old cache) step available (some (cacheData slot overflow))
+    ≡ use_cache_data h (graph_of h.goals root height n old cache) step available (some (cache_data slot overflow))
 
 pub record SlotsTried (h : Header) (height n goal : ℕ) (step : PathKind) (available : ℕ) (cache old new : List ℕ) (r : Hit) : Type 0 where
   pub is : (root : ℕ)
-      → hitOf r (graph_of h.goals root height n new cache)
-      ≡ lookupGlobalCache h (graph_of h.goals root height n old cache) goal step available
+      → hit_of r (graph_of h.goals root height n new cache)
+      ≡ lookup_global_cache h (graph_of h.goals root height n old cache) goal step available
   pub missed : r ≡ Nothing → new ≡ old
 
 -- ---- the stack
@@ -56,11 +56,11 @@ abbrev pub CycleClosed : Header → ℕ → ℕ → PathKind → ℕ → ℕ →
 CycleClosed h height goal step available head provisional old new r =
     (root n : ℕ) (cache : List ℕ)
     → Done (graph_of h.goals root height n new cache) r
-    ≡ closeCycle h (graph_of h.goals root height n old cache) goal step available
-    (record { index = head; provisionalResult = provisionalOf provisional })
+    ≡ close_cycle h (graph_of h.goals root height n old cache) goal step available
+    (record { index = head; provisional_result = provisional_of provisional })
 
 pub record StackTried (h : Header) (height goal : ℕ) (step : PathKind) (available : ℕ) (old new : List ℕ) (r : Hit) : Type 0 where
   pub is : (root n : ℕ) (cache : List ℕ)
-      → hitOf r (graph_of h.goals root height n new cache)
-      ≡ checkCycleOnStack h (graph_of h.goals root height n old cache) goal step available
+      → hit_of r (graph_of h.goals root height n new cache)
+      ≡ check_cycle_on_stack h (graph_of h.goals root height n old cache) goal step available
   pub missed : r ≡ Nothing → new ≡ old

@@ -1,12 +1,12 @@
 // What evaluate_goal of mod.rs tries before it pushes a frame: the allowed depth, the two
 // caches, a cycle on the stack.
 ghost use Rattle.std.specs.Prelude.{◌≡◌, ◌*◌, ◌<◌, ◌≤◌};
-ghost use Rattle.definition.specs.Lookup.{cycleResult};
+ghost use Rattle.definition.specs.Lookup.{cycle_result};
 ghost use Rattle.layout.specs.Work.{stack_of};
 ghost use Rattle.stack.specs.Bytes.{GraphBytes, StackBytes};
 ghost use Rattle.stack.specs.Places.{Placed};
-ghost use Rattle.stack.specs.Results.{provisionalOf};
-ghost use Rattle.lookup.specs.Lookups.{Counted, AskedAt, Asked, applicable, overflowApplies, successApplies};
+ghost use Rattle.stack.specs.Results.{provisional_of};
+ghost use Rattle.lookup.specs.Lookups.{Counted, AskedAt, Asked, applicable, overflow_applies, success_applies};
 ghost use Rattle.lookup.specs.Hits.{EntryUsed, EntriesTried, SlotUsed, SlotsTried, CycleClosed, StackTried};
 ghost use Rattle.lookup.specs.Answers.{AnsweredAt, Answered};
 
@@ -114,7 +114,7 @@ fn overflow_applies(
     step: PathKind,
 ) -> bool
     requires { Counted goals height entries graph.now }
-    ensures { result ≡ overflowApplies goals height entries graph.now step s.now }
+    ensures { result ≡ overflow_applies goals height entries graph.now step s.now }
 {
     if !slot::is_held(s) {
         return false;
@@ -134,7 +134,7 @@ fn success_applies(
     available: usize,
 ) -> bool
     requires { Counted goals height entries graph.now }
-    ensures { result ≡ successApplies goals height entries graph.now step available s.now }
+    ensures { result ≡ success_applies goals height entries graph.now step available s.now }
 {
     if !slot::is_held(s) {
         return false;
@@ -195,7 +195,7 @@ pub fn lookup_global_cache(
 
 // The provisional result, or the initial one in the first iteration.
 fn cycle_result(provisional: Provisional, kind: PathKind) -> Answer
-    ensures { result ≡ cycleResult (provisionalOf provisional) kind }
+    ensures { result ≡ cycle_result (provisional_of provisional) kind }
 {
     match provisional {
         Provisional::Result(answer) => answer,

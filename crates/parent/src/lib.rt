@@ -1,13 +1,13 @@
 // update_parent_goal of mod.rs. The parent is the frame on top of the stack.
 ghost use Rattle.std.specs.Prelude.{false, ◌+◌, ◌*◌, ◌<◌, ◌≤◌};
-ghost use Rattle.definition.specs.Paths.{flagOf};
-ghost use Rattle.definition.specs.Usages.{oneUsage};
-ghost use Rattle.definition.specs.Heads.{noHeads, insertHead};
-ghost use Rattle.definition.specs.Parent.{addHeads, addRest, Ordinary, CycleOnStack, ProvisionalCacheHit};
-ghost use Rattle.stack.specs.Bytes.{GraphBytes, frameAt};
-ghost use Rattle.stack.specs.Child.{addHeadAt, cycleHead, finishNested};
+ghost use Rattle.definition.specs.Paths.{flag_of};
+ghost use Rattle.definition.specs.Usages.{one_usage};
+ghost use Rattle.definition.specs.Heads.{no_heads, insert_head};
+ghost use Rattle.definition.specs.Parent.{add_heads, add_rest, Ordinary, CycleOnStack, ProvisionalCacheHit};
+ghost use Rattle.stack.specs.Bytes.{GraphBytes, frame_at};
+ghost use Rattle.stack.specs.Child.{add_head_at, cycle_head, finish_nested};
 ghost use Rattle.stack.specs.Written.{TopChanged};
-ghost use Rattle.parent.specs.Updated.{HeadsAbove, headsIn, entryHeads, nestedAt, NestedJoined, Updated};
+ghost use Rattle.parent.specs.Updated.{HeadsAbove, heads_in, entry_heads, nested_at, NestedJoined, Updated};
 
 use definition::heads::CycleHead;
 use definition::paths::PathKind;
@@ -19,7 +19,7 @@ use stack::frame::child;
 // A head of the nested goal, at index i.
 fn add_head(graph: &mut [u8], goals: usize, own: usize, step: PathKind, i: usize, head: CycleHead)
     requires { GraphBytes goals graph.old × ((own < goals) × (i < goals)) }
-    ensures { TopChanged goals own (addHeadAt step own i head) graph.old graph.new }
+    ensures { TopChanged goals own (add_head_at step own i head) graph.old graph.new }
 {
     let start = offsets::frame_start(goals, own);
     let end = start + offsets::frame_size(goals);
@@ -29,7 +29,7 @@ fn add_head(graph: &mut [u8], goals: usize, own: usize, step: PathKind, i: usize
 // A goal on the stack, at index i, used once by a cycle of a kind.
 fn count_head(graph: &mut [u8], goals: usize, own: usize, step: PathKind, i: usize, kind: PathKind)
     requires { GraphBytes goals graph.old × ((own < goals) × (i < goals)) }
-    ensures { TopChanged goals own (addHeadAt step own i (cycleHead step kind)) graph.old
+    ensures { TopChanged goals own (add_head_at step own i (cycle_head step kind)) graph.old
         graph.new }
 {
     let start = offsets::frame_start(goals, own);
@@ -40,7 +40,7 @@ fn count_head(graph: &mut [u8], goals: usize, own: usize, step: PathKind, i: usi
 // The heads of the nested goal, in the block at `start` of the graph, behind the frame.
 fn add_heads(graph: &mut [u8], goals: usize, own: usize, step: PathKind, start: usize)
     requires { GraphBytes goals graph.old × ((own < goals) × HeadsAbove goals own start graph.old) }
-    ensures { TopChanged goals own (addHeads step own (headsIn goals start graph.old))
+    ensures { TopChanged goals own (add_heads step own (heads_in goals start graph.old))
         graph.old graph.new }
 {
     let end = start + offsets::heads_size(goals);
@@ -64,7 +64,7 @@ fn add_ordinary(
     reached: usize,
 )
     requires { GraphBytes goals graph.old × (own < goals) }
-    ensures { TopChanged goals own (addRest step overflow (Ordinary nested.now) reached)
+    ensures { TopChanged goals own (add_rest step overflow (Ordinary nested.now) reached)
         graph.old graph.new }
 {
     let start = offsets::frame_start(goals, own);
@@ -89,7 +89,7 @@ fn add_entry(
     reached: usize,
 )
     requires { GraphBytes goals graph.old × (own < goals) }
-    ensures { TopChanged goals own (addRest step overflow ProvisionalCacheHit reached) graph.old
+    ensures { TopChanged goals own (add_rest step overflow ProvisionalCacheHit reached) graph.old
         graph.new }
 {
     let start = offsets::frame_start(goals, own);
@@ -107,7 +107,7 @@ fn add_cycle(
     reached: usize,
 )
     requires { GraphBytes goals graph.old × (own < goals) }
-    ensures { TopChanged goals own (addRest step false (CycleOnStack goal) reached) graph.old
+    ensures { TopChanged goals own (add_rest step false (CycleOnStack goal) reached) graph.old
         graph.new }
 {
     let start = offsets::frame_start(goals, own);
@@ -136,7 +136,7 @@ fn add_evaluated(
     reached: usize,
 )
     requires { GraphBytes goals graph.old × (own < goals) }
-    ensures { TopChanged goals own (finishNested overflow none reached) graph.old
+    ensures { TopChanged goals own (finish_nested overflow none reached) graph.old
         graph.new }
 {
     let start = offsets::frame_start(goals, own);
@@ -157,7 +157,7 @@ pub fn update_from_slot(
     reached: usize,
 )
     requires { GraphBytes goals graph.old × (height ≤ goals) }
-    ensures { Updated goals height step (noHeads goals) overflow (Ordinary nested.now) reached
+    ensures { Updated goals height step (no_heads goals) overflow (Ordinary nested.now) reached
         graph.old graph.new }
 {
     if height == 0 {
@@ -177,7 +177,7 @@ pub fn update_from_entry(
     reached: usize,
 )
     requires { GraphBytes goals graph.old × ((height ≤ goals) × (i < 2 * goals)) }
-    ensures { Updated goals height step (entryHeads goals i graph.old) overflow ProvisionalCacheHit
+    ensures { Updated goals height step (entry_heads goals i graph.old) overflow ProvisionalCacheHit
         reached graph.old graph.new }
 {
     if height == 0 {
@@ -200,7 +200,7 @@ pub fn update_from_cycle(
     reached: usize,
 )
     requires { GraphBytes goals graph.old × ((height ≤ goals) × (head < height)) }
-    ensures { Updated goals height step (insertHead (noHeads goals) head (flagOf step) (oneUsage kind)) false
+    ensures { Updated goals height step (insert_head (no_heads goals) head (flag_of step) (one_usage kind)) false
         (CycleOnStack goal) reached graph.old graph.new }
 {
     if height == 0 {
@@ -220,8 +220,8 @@ pub fn update_from_frame(
     reached: usize,
 )
     requires { GraphBytes goals graph.old × (height < goals) }
-    ensures { Updated goals height step (frameAt goals height graph.old).heads overflow
-        (Ordinary (nestedAt goals height graph.old)) reached graph.old graph.new }
+    ensures { Updated goals height step (frame_at goals height graph.old).heads overflow
+        (Ordinary (nested_at goals height graph.old)) reached graph.old graph.new }
 {
     if height == 0 {
         return;

@@ -8,34 +8,34 @@ use borrow.Author.Tests.{leb-true, leb-false, le-leb, lt-leb, eq-eqb, ne_eqb}
 use lib.Dec.{eqb, leb, lit≤}
 use Rattle.definition.specs.declared.paths.PathKind.{PathKind}
 use Rattle.definition.specs.declared.paths.PathKind.TheVariants.{Inductive, Unknown, Coinductive, ForcedAmbiguity}
-use Rattle.definition.specs.Paths.{kindNumber, extend, sameKind}
-use Rattle.definition.specs.ProvisionalCache.{everyEpKeeps, everyPhKeeps}
-use Rattle.pop.specs.Popped.{boundKeeps, lowestOf}
+use Rattle.definition.specs.Paths.{kind_number, extend, same_kind}
+use Rattle.definition.specs.ProvisionalCache.{every_ep_keeps, every_ph_keeps}
+use Rattle.pop.specs.Popped.{bound_keeps, lowest_of}
 
 -- ---- kinds by their numbers
-kind-most : (k : PathKind) → kindNumber k ≤ 3
-kind-most Inductive = lit≤ tt
-kind-most Unknown = lit≤ tt
-kind-most Coinductive = lit≤ tt
-kind-most ForcedAmbiguity = lit≤ tt
+kind_most : (k : PathKind) → kind_number k ≤ 3
+kind_most Inductive = lit≤ tt
+kind_most Unknown = lit≤ tt
+kind_most Coinductive = lit≤ tt
+kind_most ForcedAmbiguity = lit≤ tt
 
-later : (a b : PathKind) → kindNumber (extend a b) ≡ max (kindNumber a) (kindNumber b)
-later a b = by (leb (kindNumber a) (kindNumber b)) refl
+later : (a b : PathKind) → kind_number (extend a b) ≡ max (kind_number a) (kind_number b)
+later a b = by (leb (kind_number a) (kind_number b)) refl
   where
-    by : (t : Bool) → leb (kindNumber a) (kindNumber b) ≡ t
-        → kindNumber (elim t [ true ↦ b | false ↦ a ]) ≡ max (kindNumber a) (kindNumber b)
-    by true e = let le = leb-true (kindNumber a) (kindNumber b) e in omega arith
-    by false e = let lt = leb-false (kindNumber a) (kindNumber b) e in omega arith
+    by : (t : Bool) → leb (kind_number a) (kind_number b) ≡ t
+        → kind_number (elim t [ true ↦ b | false ↦ a ]) ≡ max (kind_number a) (kind_number b)
+    by true e = let le = leb-true (kind_number a) (kind_number b) e in omega arith
+    by false e = let lt = leb-false (kind_number a) (kind_number b) e in omega arith
 
-same-as-under : (a b c d : ℕ) → (c ≤ d → a ≡ b) → (a ≡ b → c ≤ d) → eqb a b ≡ leb c d
-same-as-under a b c d to from = by (leb c d) refl
+same_as_under : (a b c d : ℕ) → (c ≤ d → a ≡ b) → (a ≡ b → c ≤ d) → eqb a b ≡ leb c d
+same_as_under a b c d to from = by (leb c d) refl
   where
     by : (t : Bool) → leb c d ≡ t → eqb a b ≡ t
     by true e = eq-eqb a b (to (leb-true c d e))
     by false e = let lt = leb-false c d e in ne_eqb a b (λ q. let le = from q in omega arith)
 
-under-both : (n b c : ℕ) → leb n (min b c) ≡ (leb n b && leb n c)
-under-both n b c = by (leb n b) (leb n c) refl refl
+under_both : (n b c : ℕ) → leb n (min b c) ≡ (leb n b && leb n c)
+under_both n b c = by (leb n b) (leb n c) refl refl
   where
     by : (t u : Bool) → leb n b ≡ t → leb n c ≡ u → leb n (min b c) ≡ (t && u)
     by true true p q =
@@ -45,19 +45,19 @@ under-both n b c = by (leb n b) (leb n c) refl refl
 
 -- ---- what a bound lets through
 module _ (path : PathKind) where
-  pub bound-highest : (b : ℕ) → 3 ≤ b → (eps : List PathKind) → boundKeeps b path eps ≡ true
-  bound-highest b h [] = refl
-  bound-highest b h (ep ∷ eps) =
-      let most = kind-most (extend ep path) in
-      ap₂ (λ (x y : Bool). x && y) (le-leb (kindNumber (extend ep path)) b (omega arith)) (bound-highest b h eps)
+  pub bound_highest : (b : ℕ) → 3 ≤ b → (eps : List PathKind) → bound_keeps b path eps ≡ true
+  bound_highest b h [] = refl
+  bound_highest b h (ep ∷ eps) =
+      let most = kind_most (extend ep path) in
+      ap₂ (λ (x y : Bool). x && y) (le-leb (kind_number (extend ep path)) b (omega arith)) (bound_highest b h eps)
 
-  pub bound-both : (b c : ℕ) (eps : List PathKind)
-      → boundKeeps (min b c) path eps ≡ (boundKeeps b path eps && boundKeeps c path eps)
-  bound-both b c [] = refl
-  bound-both b c (ep ∷ eps) =
-      ap₂ (λ (x y : Bool). x && y) (under-both (kindNumber (extend ep path)) b c) (bound-both b c eps)
-      ∙ swap (leb (kindNumber (extend ep path)) b) (leb (kindNumber (extend ep path)) c) (boundKeeps b path eps)
-      (boundKeeps c path eps)
+  pub bound_both : (b c : ℕ) (eps : List PathKind)
+      → bound_keeps (min b c) path eps ≡ (bound_keeps b path eps && bound_keeps c path eps)
+  bound_both b c [] = refl
+  bound_both b c (ep ∷ eps) =
+      ap₂ (λ (x y : Bool). x && y) (under_both (kind_number (extend ep path)) b c) (bound_both b c eps)
+      ∙ swap (leb (kind_number (extend ep path)) b) (leb (kind_number (extend ep path)) c) (bound_keeps b path eps)
+      (bound_keeps c path eps)
     where
       swap : (x y z w : Bool) → ((x && y) && (z && w)) ≡ ((x && z) && (y && w))
       swap true true z w = refl
@@ -67,30 +67,30 @@ module _ (path : PathKind) where
 
   -- of one ph, the kind of hph is the bound
   module _ (hp : PathKind) where
-    ep-bound : (ph : PathKind) (eps : List PathKind)
-        → everyEpKeeps (extend hp ph) (extend hp path) ph eps
-        ≡ boundKeeps (max (kindNumber ph) (kindNumber hp)) path eps
-    ep-bound ph [] = refl
-    ep-bound ph (ep ∷ eps) = ap₂ (λ (x y : Bool). x && y) one (ep-bound ph eps)
+    ep_bound : (ph : PathKind) (eps : List PathKind)
+        → every_ep_keeps (extend hp ph) (extend hp path) ph eps
+        ≡ bound_keeps (max (kind_number ph) (kind_number hp)) path eps
+    ep_bound ph [] = refl
+    ep_bound ph (ep ∷ eps) = ap₂ (λ (x y : Bool). x && y) one (ep_bound ph eps)
       where
-        one : sameKind (extend hp ph) (extend (extend ep (extend hp path)) ph)
-            ≡ leb (kindNumber (extend ep path)) (max (kindNumber ph) (kindNumber hp))
+        one : same_kind (extend hp ph) (extend (extend ep (extend hp path)) ph)
+            ≡ leb (kind_number (extend ep path)) (max (kind_number ph) (kind_number hp))
         one =
             let hph = later hp ph in
             let he = later hp path in
             let hep = later ep (extend hp path) in
             let heph = later (extend ep (extend hp path)) ph in
             let ee = later ep path in
-            same-as-under (kindNumber (extend hp ph)) (kindNumber (extend (extend ep (extend hp path)) ph))
-            (kindNumber (extend ep path)) (max (kindNumber ph) (kindNumber hp)) (λ le. omega arith) (λ e. omega arith)
+            same_as_under (kind_number (extend hp ph)) (kind_number (extend (extend ep (extend hp path)) ph))
+            (kind_number (extend ep path)) (max (kind_number ph) (kind_number hp)) (λ le. omega arith) (λ e. omega arith)
 
     -- of all ph, the lowest of these
-    pub ph-bound : (eps phs : List PathKind)
-        → everyPhKeeps hp (extend hp path) eps phs ≡ boundKeeps (max (lowestOf phs) (kindNumber hp)) path eps
-    ph-bound eps [] = sym (bound-highest (max 3 (kindNumber hp)) (omega arith) eps)
-    ph-bound eps (ph ∷ phs) =
-        let least : min (max (kindNumber ph) (kindNumber hp)) (max (lowestOf phs) (kindNumber hp))
-        ≡ max (min (kindNumber ph) (lowestOf phs)) (kindNumber hp) = omega arith in
-        ap₂ (λ (x y : Bool). x && y) (ep-bound ph eps) (ph-bound eps phs)
-        ∙ sym (bound-both (max (kindNumber ph) (kindNumber hp)) (max (lowestOf phs) (kindNumber hp)) eps)
-        ∙ ap (λ (b : ℕ). boundKeeps b path eps) least
+    pub ph_bound : (eps phs : List PathKind)
+        → every_ph_keeps hp (extend hp path) eps phs ≡ bound_keeps (max (lowest_of phs) (kind_number hp)) path eps
+    ph_bound eps [] = sym (bound_highest (max 3 (kind_number hp)) (omega arith) eps)
+    ph_bound eps (ph ∷ phs) =
+        let least : min (max (kind_number ph) (kind_number hp)) (max (lowest_of phs) (kind_number hp))
+        ≡ max (min (kind_number ph) (lowest_of phs)) (kind_number hp) = omega arith in
+        ap₂ (λ (x y : Bool). x && y) (ep_bound ph eps) (ph_bound eps phs)
+        ∙ sym (bound_both (max (kind_number ph) (kind_number hp)) (max (lowest_of phs) (kind_number hp)) eps)
+        ∙ ap (λ (b : ℕ). bound_keeps b path eps) least

@@ -7,19 +7,19 @@ use native.Mathlib.Decide.{dec_lt}
 use lib.ListN.{length, get_or, set, replicate, length-set, length-replicate, get_or-replicate}
 use lib.Seq.{get_or-set_same, get_or-set_other}
 use Rattle.definition.specs.declared.paths.PathKind.{PathKind}
-use Rattle.definition.specs.Paths.{kindNumber}
-use Rattle.definition.specs.Stack.{Stack, cyclePathKind}
+use Rattle.definition.specs.Paths.{kind_number}
+use Rattle.definition.specs.Stack.{Stack, cycle_path_kind}
 
 -- those below i, and the step at the others
 pub record Filling (s : Stack) (step : PathKind) (popped : ℕ) (paths : List ℕ) (i : ℕ) : Type 0 where
   pub few : i ≤ popped
   pub long : length paths ≡ 64
-  pub below : (j : ℕ) → j < i → get_or paths j 0 ≡ kindNumber (cyclePathKind s step j)
-  pub above : (j : ℕ) → i ≤ j → j < 64 → get_or paths j 0 ≡ kindNumber step
+  pub below : (j : ℕ) → j < i → get_or paths j 0 ≡ kind_number (cycle_path_kind s step j)
+  pub above : (j : ℕ) → i ≤ j → j < 64 → get_or paths j 0 ≡ kind_number step
 
 module _ (s : Stack) (step : PathKind) (popped : ℕ) where
-  pub filling-start : (n : ℕ) → n ≡ kindNumber step → Filling s step popped (replicate 64 n) 0
-  filling-start n is =
+  pub filling_start : (n : ℕ) → n ≡ kind_number step → Filling s step popped (replicate 64 n) 0
+  filling_start n is =
       record {
         few = omega arith;
         long = length-replicate 64 n;
@@ -27,10 +27,10 @@ module _ (s : Stack) (step : PathKind) (popped : ℕ) where
         above = λ j up lt. get_or-replicate 64 j n 0 lt ∙ is;
       }
 
-  pub filling-next : (paths : List ℕ) (i n : ℕ) (kind : PathKind) → Filling s step popped paths i → i < popped
-      → i < 64 → kind ≡ cyclePathKind s step i
-      → n ≡ kindNumber kind → Filling s step popped (set paths i n) (i + 1)
-  filling-next paths i n kind inv lt room is-kind is-n =
+  pub filling_next : (paths : List ℕ) (i n : ℕ) (kind : PathKind) → Filling s step popped paths i → i < popped
+      → i < 64 → kind ≡ cycle_path_kind s step i
+      → n ≡ kind_number kind → Filling s step popped (set paths i n) (i + 1)
+  filling_next paths i n kind inv lt room is-kind is-n =
       let l = inv.long in
       record {
         few = omega arith;
@@ -41,17 +41,17 @@ module _ (s : Stack) (step : PathKind) (popped : ℕ) where
               | no hi ↦
                   let e : j ≡ i = omega arith in
                   ap (λ (m : ℕ). get_or (set paths i n) m 0) e ∙ get_or-set_same paths i n 0 (omega arith) ∙ is-n
-                  ∙ ap kindNumber (is-kind ∙ ap (cyclePathKind s step) (sym e))
+                  ∙ ap kind_number (is-kind ∙ ap (cycle_path_kind s step) (sym e))
             ];
         above = λ j up h. get_or-set_other paths i j n 0 (λ e. omega arith) ∙ inv.above j (omega arith) h;
       }
 
   -- the frames end at `popped`: from there on no path is longer than the step
-  pub filling-done : ((j : ℕ) → popped ≤ j → step ≡ cyclePathKind s step j) → (paths : List ℕ) (i : ℕ)
+  pub filling_done : ((j : ℕ) → popped ≤ j → step ≡ cycle_path_kind s step j) → (paths : List ℕ) (i : ℕ)
       → Filling s step popped paths i → popped ≤ i
-      → (j : ℕ) → j < 64 → get_or paths j 0 ≡ kindNumber (cyclePathKind s step j)
-  filling-done outside paths i inv end j lt =
+      → (j : ℕ) → j < 64 → get_or paths j 0 ≡ kind_number (cycle_path_kind s step j)
+  filling_done outside paths i inv end j lt =
       elim (dec_lt j i) [
         | yes h ↦ inv.below j h
-        | no h ↦ inv.above j (omega arith) lt ∙ ap kindNumber (outside j (omega arith))
+        | no h ↦ inv.above j (omega arith) lt ∙ ap kind_number (outside j (omega arith))
       ]

@@ -4,38 +4,38 @@ use Rattle.std.proofs.Math.Option.{Option}
 use Rattle.definition.specs.declared.usages.HeadUsages.{HeadUsages}
 use Rattle.definition.specs.declared.heads.CycleHead.{CycleHead}
 use Rattle.definition.specs.declared.endings.RebaseReason.{RebaseReason}
-use Rattle.definition.specs.Paths.{extendWithPaths, emptyPath}
-use Rattle.definition.specs.Usages.{noUsages}
-use Rattle.definition.specs.Heads.{CycleHeads, joinHead, forEachHead}
+use Rattle.definition.specs.Paths.{extend_with_paths, empty_path}
+use Rattle.definition.specs.Usages.{no_usages}
+use Rattle.definition.specs.Heads.{CycleHeads, join_head, for_each_head}
 use Rattle.definition.specs.Stack.{Frame, Stack}
-use Rattle.definition.specs.Graph.{Entry, withEntryHeads}
-use Rattle.definition.specs.ProvisionalCache.{reasonKeeps}
-use Rattle.layout.specs.Work.{entryFrom}
-use Rattle.provisional_cache.specs.Entries.{withoutHead}
-use Rattle.pop.specs.Popped.{poppedFrame, headsKeep}
+use Rattle.definition.specs.Graph.{Entry, with_entry_heads}
+use Rattle.definition.specs.ProvisionalCache.{reason_keeps}
+use Rattle.layout.specs.Work.{entry_from}
+use Rattle.provisional_cache.specs.Entries.{without_head}
+use Rattle.pop.specs.Popped.{popped_frame, heads_keep}
 
 -- whether an entry that used the popped frame in this way stays: ep are the paths to it
-abbrev pub entryStays : Stack → Frame → RebaseReason → Entry → HeadUsages → ℕ → Bool
-entryStays s p reason e usages ep = headsKeep s p e.pathFromHead ep && reasonKeeps reason e.result usages
+abbrev pub entry_stays : Stack → Frame → RebaseReason → Entry → HeadUsages → ℕ → Bool
+entry_stays s p reason e usages ep = heads_keep s p e.path_from_head ep && reason_keeps reason e.result usages
 
 -- what an entry gains for the head c of the popped frame: the head as reached by the paths ep, or used for nothing
-abbrev pub gainedHead : Bool → ℕ → CycleHead → CycleHead
-gainedHead true ep c = record { paths = extendWithPaths ep c.paths; usages = c.usages }
-gainedHead false ep c = record { paths = emptyPath; usages = noUsages }
+abbrev pub gained_head : Bool → ℕ → CycleHead → CycleHead
+gained_head true ep c = record { paths = extend_with_paths ep c.paths; usages = c.usages }
+gained_head false ep c = record { paths = empty_path; usages = no_usages }
 
-abbrev pub gainHead : Bool → ℕ → CycleHead → Option CycleHead → CycleHead
-gainHead used ep c h = joinHead h (gainedHead used ep c).paths (gainedHead used ep c).usages
+abbrev pub gain_head : Bool → ℕ → CycleHead → Option CycleHead → CycleHead
+gain_head used ep c h = join_head h (gained_head used ep c).paths (gained_head used ep c).usages
 
 -- an entry that gains the heads cs
-abbrev pub withGained : Bool → ℕ → Entry → CycleHeads → Entry
-withGained used ep e cs = withEntryHeads e (forEachHead (gainHead used ep) e.heads cs)
+abbrev pub with_gained : Bool → ℕ → Entry → CycleHeads → Entry
+with_gained used ep e cs = with_entry_heads e (for_each_head (gain_head used ep) e.heads cs)
 
 -- entry k gains the heads of the popped frame
-abbrev pub gainedEntry : ℕ → ℕ → ℕ → Bool → ℕ → List ℕ → Entry
-gainedEntry goals base k used ep rest =
-    withGained used ep (entryFrom goals base k rest) (poppedFrame goals rest).heads
+abbrev pub gained_entry : ℕ → ℕ → ℕ → Bool → ℕ → List ℕ → Entry
+gained_entry goals base k used ep rest =
+    with_gained used ep (entry_from goals base k rest) (popped_frame goals rest).heads
 
 -- they take the place of the popped frame among its heads
-abbrev pub replacedEntry : ℕ → ℕ → ℕ → ℕ → Bool → ℕ → List ℕ → Entry
-replacedEntry goals base popped k used ep rest =
-    withGained used ep (withoutHead (entryFrom goals base k rest) popped) (poppedFrame goals rest).heads
+abbrev pub replaced_entry : ℕ → ℕ → ℕ → ℕ → Bool → ℕ → List ℕ → Entry
+replaced_entry goals base popped k used ep rest =
+    with_gained used ep (without_head (entry_from goals base k rest) popped) (popped_frame goals rest).heads

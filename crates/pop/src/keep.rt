@@ -1,6 +1,6 @@
 // Entries that are kept move to the front.
 ghost use Rattle.std.specs.Prelude.{◌*◌, ◌≤◌, ◌<◌};
-ghost use Rattle.layout.specs.Work.{entryFrom};
+ghost use Rattle.layout.specs.Work.{entry_from};
 ghost use Rattle.provisional_cache.specs.Entries.{EntriesBytes};
 ghost use Rattle.pop.specs.Kept.{Compacted};
 ghost use Rattle.pop.specs.Rebased.{EntryWritten};
@@ -11,7 +11,7 @@ use layout::{heads, offsets};
 // heads that it has.
 fn move_entry(bytes: &mut [u8], goals: usize, base: usize, from: usize, to: usize)
     requires { EntriesBytes goals base bytes.old × ((to ≤ from) × (from < 2 * goals)) }
-    ensures { EntryWritten goals base to (entryFrom goals base from bytes.old)
+    ensures { EntryWritten goals base to (entry_from goals base from bytes.old)
         bytes.old bytes.new }
 {
     if from == to {

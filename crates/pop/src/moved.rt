@@ -1,17 +1,17 @@
 // Entry k, whose highest head p was popped, moved over to the heads of p.
 ghost use Rattle.std.specs.Prelude.{◌≡◌, ◌*◌, ◌<◌};
-ghost use Rattle.definition.specs.Heads.{usagesAt, pathsAt};
+ghost use Rattle.definition.specs.Heads.{usages_at, paths_at};
 ghost use Rattle.definition.specs.Table.{Extensions};
-ghost use Rattle.definition.specs.ProvisionalCache.{underNewHead, rebaseEntry};
+ghost use Rattle.definition.specs.ProvisionalCache.{under_new_head, rebase_entry};
 ghost use Rattle.buffer.specs.Regions.{region};
-ghost use Rattle.layout.specs.Blocks.{headsSize};
-ghost use Rattle.layout.specs.Entry.{entryHeadsStart};
-ghost use Rattle.layout.specs.Work.{entryFrom};
-ghost use Rattle.provisional_cache.specs.Entries.{EntriesBytes, entryBytesFrom};
-ghost use Rattle.provisional_cache.specs.Entries.{withoutHead, withJoinedHead, withLongerPath};
-ghost use Rattle.pop.specs.Popped.{RestBytes, poppedFrame, PathsFrom, MayBeLeft};
-ghost use Rattle.pop.specs.Heads.{gainedHead, gainedEntry, replacedEntry};
-ghost use Rattle.pop.specs.Rebased.{EntryWritten, EntryRebased, entryUnderHeads};
+ghost use Rattle.layout.specs.Blocks.{heads_size};
+ghost use Rattle.layout.specs.Entry.{entry_heads_start};
+ghost use Rattle.layout.specs.Work.{entry_from};
+ghost use Rattle.provisional_cache.specs.Entries.{EntriesBytes, entry_bytes_from};
+ghost use Rattle.provisional_cache.specs.Entries.{without_head, with_joined_head, with_longer_path};
+ghost use Rattle.pop.specs.Popped.{RestBytes, popped_frame, PathsFrom, MayBeLeft};
+ghost use Rattle.pop.specs.Heads.{gained_head, gained_entry, replaced_entry};
+ghost use Rattle.pop.specs.Rebased.{EntryWritten, EntryRebased, entry_under_heads};
 
 use crate::{popped, stays};
 use definition::endings::RebaseReason;
@@ -25,7 +25,7 @@ use provisional_cache::entry;
 fn entry_heads(rest: &[u8], goals: usize, base: usize, k: usize) -> &[u8]
     requires { EntriesBytes goals base rest.now × (k < 2 * goals) }
     ensures { result.now
-        ≡ region entryHeadsStart (headsSize goals) (entryBytesFrom goals base k rest.now) }
+        ≡ region entry_heads_start (heads_size goals) (entry_bytes_from goals base k rest.now) }
 {
     entry::heads(provisional_cache::entry_from(rest, goals, base, k), goals)
 }
@@ -33,7 +33,7 @@ fn entry_heads(rest: &[u8], goals: usize, base: usize, k: usize) -> &[u8]
 // How it used its head at index i.
 fn head_usages(rest: &[u8], goals: usize, base: usize, k: usize, i: usize) -> HeadUsages
     requires { EntriesBytes goals base rest.now × ((k < 2 * goals) × (i < goals)) }
-    ensures { result ≡ usagesAt (entryFrom goals base k rest.now).heads i }
+    ensures { result ≡ usages_at (entry_from goals base k rest.now).heads i }
 {
     heads::usages(entry_heads(rest, goals, base, k), goals, i)
 }
@@ -41,7 +41,7 @@ fn head_usages(rest: &[u8], goals: usize, base: usize, k: usize, i: usize) -> He
 // The paths to its head at index i.
 fn head_paths(rest: &[u8], goals: usize, base: usize, k: usize, i: usize) -> PathsToNested
     requires { EntriesBytes goals base rest.now × ((k < 2 * goals) × (i < goals)) }
-    ensures { result.bits ≡ pathsAt (entryFrom goals base k rest.now).heads i }
+    ensures { result.bits ≡ paths_at (entry_from goals base k rest.now).heads i }
 {
     PathsToNested {
         bits: heads::paths(entry_heads(rest, goals, base, k), goals, i),
@@ -51,7 +51,7 @@ fn head_paths(rest: &[u8], goals: usize, base: usize, k: usize, i: usize) -> Pat
 // Its head at index i is taken out.
 fn remove_head(rest: &mut [u8], goals: usize, base: usize, k: usize, i: usize)
     requires { EntriesBytes goals base rest.old × ((k < 2 * goals) × (i < goals)) }
-    ensures { EntryWritten goals base k (withoutHead (entryFrom goals base k rest.old) i)
+    ensures { EntryWritten goals base k (without_head (entry_from goals base k rest.old) i)
         rest.old rest.new }
 {
     let start = offsets::entry_start_from(goals, base, k);
@@ -62,7 +62,7 @@ fn remove_head(rest: &mut [u8], goals: usize, base: usize, k: usize, i: usize)
 // Its head at index i is joined with `head`.
 fn join_head(rest: &mut [u8], goals: usize, base: usize, k: usize, i: usize, head: CycleHead)
     requires { EntriesBytes goals base rest.old × ((k < 2 * goals) × (i < goals)) }
-    ensures { EntryWritten goals base k (withJoinedHead (entryFrom goals base k rest.old) i head)
+    ensures { EntryWritten goals base k (with_joined_head (entry_from goals base k rest.old) i head)
         rest.old rest.new }
 {
     let start = offsets::entry_start_from(goals, base, k);
@@ -73,7 +73,7 @@ fn join_head(rest: &mut [u8], goals: usize, base: usize, k: usize, i: usize, hea
 // Its path from its highest head goes on by a path of a kind.
 fn extend_path(rest: &mut [u8], goals: usize, base: usize, k: usize, kind: PathKind)
     requires { EntriesBytes goals base rest.old × (k < 2 * goals) }
-    ensures { EntryWritten goals base k (withLongerPath (entryFrom goals base k rest.old) kind)
+    ensures { EntryWritten goals base k (with_longer_path (entry_from goals base k rest.old) kind)
         rest.old rest.new }
 {
     let start = offsets::entry_start_from(goals, base, k);
@@ -87,7 +87,7 @@ fn extend_path(rest: &mut [u8], goals: usize, base: usize, k: usize, kind: PathK
 // nothing.
 fn gained(table: &[u8; 1024], used: bool, eps: PathsToNested, head: CycleHead) -> CycleHead
     requires { Extensions table.now }
-    ensures { result ≡ gainedHead used eps.bits head }
+    ensures { result ≡ gained_head used eps.bits head }
 {
     if used {
         let phs = PathsToNested { bits: head.paths };
@@ -113,7 +113,7 @@ fn gain_heads(
     eps: PathsToNested,
 )
     requires { RestBytes goals base rest.old × ((k < 2 * goals) × Extensions table.now) }
-    ensures { EntryWritten goals base k (gainedEntry goals base k used eps.bits rest.old)
+    ensures { EntryWritten goals base k (gained_entry goals base k used eps.bits rest.old)
         rest.old rest.new }
 {
     let mut left = popped::popped_mask(rest, goals);
@@ -138,7 +138,7 @@ fn replace_head(
 )
     requires { RestBytes goals base rest.old
         × ((popped < goals) × ((k < 2 * goals) × Extensions table.now)) }
-    ensures { EntryWritten goals base k (replacedEntry goals base popped k used eps.bits rest.old)
+    ensures { EntryWritten goals base k (replaced_entry goals base popped k used eps.bits rest.old)
         rest.old rest.new }
 {
     remove_head(rest, goals, base, k, popped);
@@ -162,7 +162,7 @@ fn rebase_heads(
         × ((popped < goals) × ((k < 2 * goals) × Extensions table.now)) }
     ensures { EntryRebased goals base k
         (MayBeLeft goals popped rest.old paths.now lowest)
-        (entryUnderHeads popped reason) result rest.old rest.new }
+        (entry_under_heads popped reason) result rest.old rest.new }
 {
     let usages = head_usages(rest, goals, base, k, popped);
     let eps = head_paths(rest, goals, base, k, popped);
@@ -181,8 +181,8 @@ fn rebase_heads(
 fn rebase_path(rest: &mut [u8], goals: usize, base: usize, paths: &[u8; 64], k: usize) -> bool
     requires { RestBytes goals base rest.old × (k < 2 * goals) }
     ensures { EntryRebased goals base k
-        (λ s. PathsFrom s (poppedFrame goals rest.old) paths.now)
-        (λ s p e. underNewHead s p e e.heads) result rest.old rest.new }
+        (λ s. PathsFrom s (popped_frame goals rest.old) paths.now)
+        (λ s p e. under_new_head s p e e.heads) result rest.old rest.new }
 {
     let hs = entry_heads(rest, goals, base, k);
     if heads::is_empty(hs, goals) {
@@ -210,7 +210,7 @@ pub fn rebase_entry(
         × ((popped < goals) × ((k < 2 * goals) × Extensions table.now)) }
     ensures { EntryRebased goals base k
         (MayBeLeft goals popped rest.old paths.now lowest)
-        (λ s p e. rebaseEntry s p reason e) result rest.old rest.new }
+        (λ s p e. rebase_entry s p reason e) result rest.old rest.new }
 {
     let entry = provisional_cache::entry_from(rest, goals, base, k);
     if entry::highest_head(entry, goals) != popped {

@@ -3,11 +3,11 @@ ghost use Rattle.std.specs.Prelude.{◌≡◌, false, ◌++◌, ◌-◌, ◌<◌
 ghost use Rattle.definition.specs.declared.heads.CycleHead.{CycleHead};
 ghost use Rattle.bits.specs.Masks.{flags};
 ghost use Rattle.buffer.specs.Regions.{region};
-ghost use Rattle.layout.specs.Blocks.{headsSize, present};
-ghost use Rattle.layout.specs.Frame.{headsStart};
+ghost use Rattle.layout.specs.Blocks.{heads_size, present};
+ghost use Rattle.layout.specs.Frame.{heads_start};
 ghost use Rattle.layout.specs.Work.{stack_of};
-ghost use Rattle.stack.specs.Bytes.{StackBytes, frameAt};
-ghost use Rattle.pop.specs.Popped.{FrameFirst, poppedBytes, poppedFrame, PoppedHead, PathsFrom};
+ghost use Rattle.stack.specs.Bytes.{StackBytes, frame_at};
+ghost use Rattle.pop.specs.Popped.{FrameFirst, popped_bytes, popped_frame, PoppedHead, PathsFrom};
 
 use definition::heads::CycleHead;
 use layout::{heads, offsets};
@@ -18,7 +18,7 @@ use stack::frame;
 pub fn paths_to_popped(graph: &[u8], goals: usize, popped: usize) -> [u8; 64]
     requires { StackBytes goals popped graph.now × (popped < goals) }
     ensures { PathsFrom (stack_of goals popped graph.now)
-        (frameAt goals popped graph.now) result }
+        (frame_at goals popped graph.now) result }
 {
     let step = frame::step_kind(stack::frame_at(graph, goals, popped), goals);
     let mut paths = [step.number(); 64];
@@ -34,7 +34,7 @@ pub fn paths_to_popped(graph: &[u8], goals: usize, popped: usize) -> [u8; 64]
 // The block of the heads of p.
 fn popped_heads(rest: &[u8], goals: usize) -> &[u8]
     requires { FrameFirst goals rest.now }
-    ensures { result.now ≡ region headsStart (headsSize goals) (poppedBytes goals rest.now) }
+    ensures { result.now ≡ region heads_start (heads_size goals) (popped_bytes goals rest.now) }
 {
     let end = offsets::frame_size(goals);
     frame::heads(&rest[0..end], goals)
@@ -44,7 +44,7 @@ fn popped_heads(rest: &[u8], goals: usize) -> &[u8]
 pub fn popped_mask(rest: &[u8], goals: usize) -> u64
     requires { FrameFirst goals rest.now }
     ensures { flags 64 result
-        ≡ present (poppedFrame goals rest.now).heads ++ replicate (64 - goals) false }
+        ≡ present (popped_frame goals rest.now).heads ++ replicate (64 - goals) false }
 {
     heads::mask(popped_heads(rest, goals), goals)
 }

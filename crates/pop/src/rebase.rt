@@ -16,7 +16,7 @@ ghost use Rattle.definition.specs.Table.{Extensions};
 ghost use Rattle.stack.specs.Bytes.{StackBytes};
 ghost use Rattle.provisional_cache.specs.Entries.{EntriesBytes};
 ghost use Rattle.pop.specs.Popped.{RestBytes};
-ghost use Rattle.pop.specs.Rebased.{StayBefore, RestRebased, Rebased, reasonOf};
+ghost use Rattle.pop.specs.Rebased.{StayBefore, RestRebased, Rebased, reason_of};
 
 use crate::{keep, moved, popped, stays, table};
 use definition::answers::Answer;
@@ -72,7 +72,7 @@ fn rebase_entries(
 
 // Why an ending rebases. The two that do not are not asked.
 fn reason_of(ending: Ending) -> RebaseReason
-    ensures { result ≡ reasonOf ending }
+    ensures { result ≡ reason_of ending }
 {
     match ending {
         Ending::Fixpoint(fixpoint) => RebaseReason::ReachedFixpoint(fixpoint),
@@ -91,7 +91,7 @@ pub fn rebase_provisional_cache_entries(
     entries: usize,
 ) -> usize
     requires { StackBytes goals popped graph.old × ((popped < goals) × (entries ≤ 2 * goals)) }
-    ensures { Rebased goals popped (reasonOf ending) entries graph.old graph.new result }
+    ensures { Rebased goals popped (reason_of ending) entries graph.old graph.new result }
 {
     let start = offsets::frame_start(goals, popped);
     let base = offsets::entries_start(goals) - start;

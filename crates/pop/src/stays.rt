@@ -2,13 +2,13 @@
 // and the heads h of p.
 ghost use Rattle.std.specs.Prelude.{◌≡◌, ◌&&◌, List, ◌∷◌, ◌*◌, ◌<◌, min, max};
 ghost use Rattle.definition.specs.declared.paths.PathKind.{PathKind};
-ghost use Rattle.definition.specs.Paths.{containedIn, iterPaths};
+ghost use Rattle.definition.specs.Paths.{contained_in, iter_paths};
 ghost use Rattle.definition.specs.Stack.{Stack};
-ghost use Rattle.definition.specs.ProvisionalCache.{fixpointKeeps, reasonKeeps};
-ghost use Rattle.layout.specs.Work.{entryFrom};
-ghost use Rattle.pop.specs.Popped.{FrameFirst, RestBytes, poppedFrame, PathsFrom};
-ghost use Rattle.pop.specs.Popped.{boundKeeps, Decides, lowestOf};
-ghost use Rattle.pop.specs.Heads.{entryStays};
+ghost use Rattle.definition.specs.ProvisionalCache.{fixpoint_keeps, reason_keeps};
+ghost use Rattle.layout.specs.Work.{entry_from};
+ghost use Rattle.pop.specs.Popped.{FrameFirst, RestBytes, popped_frame, PathsFrom};
+ghost use Rattle.pop.specs.Popped.{bound_keeps, Decides, lowest_of};
+ghost use Rattle.pop.specs.Heads.{entry_stays};
 
 use crate::popped;
 use definition::answers::Answer;
@@ -20,7 +20,7 @@ use provisional_cache::entry;
 // The lowest kind of a path among `paths`, as a number; where there is none, the highest, 3, which
 // no path is above.
 fn lowest_kind(paths: PathsToNested) -> u8
-    ensures { result ≡ lowestOf (iterPaths paths.bits) }
+    ensures { result ≡ lowest_of (iter_paths paths.bits) }
 {
     if paths.contains(PathKind::Inductive) {
         return 0;
@@ -61,8 +61,8 @@ fn lesser(a: u8, b: u8) -> u8
 // lowest hph allows the least, so it alone decides, and for every entry.
 pub fn lowest_cycle(rest: &[u8], goals: usize, paths: &[u8; 64]) -> u8
     requires { FrameFirst goals rest.now }
-    ensures { (s : Stack) → PathsFrom s (poppedFrame goals rest.now) paths.now
-        → Decides s (poppedFrame goals rest.now) result }
+    ensures { (s : Stack) → PathsFrom s (popped_frame goals rest.now) paths.now
+        → Decides s (popped_frame goals rest.now) result }
 {
     let mut lowest: u8 = 3;
     let mut left = popped::popped_mask(rest, goals);
@@ -80,8 +80,8 @@ pub fn lowest_cycle(rest: &[u8], goals: usize, paths: &[u8; 64]) -> u8
 // Whether ep and the path of e are no higher than the lowest cycle, where ep is among the paths.
 fn ep_keeps(lowest: u8, path: PathKind, eps: PathsToNested, ep: PathKind) -> bool
     ensures { (ks : List PathKind)
-        → (result && boundKeeps lowest path (containedIn eps.bits ks))
-        ≡ boundKeeps lowest path (containedIn eps.bits (ep ∷ ks)) }
+        → (result && bound_keeps lowest path (contained_in eps.bits ks))
+        ≡ bound_keeps lowest path (contained_in eps.bits (ep ∷ ks)) }
 {
     if !eps.contains(ep) {
         return true;
@@ -91,7 +91,7 @@ fn ep_keeps(lowest: u8, path: PathKind, eps: PathsToNested, ep: PathKind) -> boo
 
 // Whether the paths from each head of p keep their kind by way of e.
 fn paths_keep_kind(lowest: u8, path: PathKind, eps: PathsToNested) -> bool
-    ensures { result ≡ boundKeeps lowest path (iterPaths eps.bits) }
+    ensures { result ≡ bound_keeps lowest path (iter_paths eps.bits) }
 {
     if !ep_keeps(lowest, path, eps, PathKind::Inductive) {
         return false;
@@ -108,7 +108,7 @@ fn paths_keep_kind(lowest: u8, path: PathKind, eps: PathsToNested) -> bool
 // Whether the fixpoint lets an entry with these usages of p stay. At the first one the entry was
 // given the initial result of a kind, so it must have used p in that kind alone.
 fn fixpoint_keeps(fixpoint: Fixpoint, usages: HeadUsages) -> bool
-    ensures { result ≡ fixpointKeeps fixpoint usages }
+    ensures { result ≡ fixpoint_keeps fixpoint usages }
 {
     match fixpoint {
         Fixpoint::First(kind) => usages.is_single(kind),
@@ -120,7 +120,7 @@ fn fixpoint_keeps(fixpoint: Fixpoint, usages: HeadUsages) -> bool
 // given the provisional result of p, which is what p came to only at a fixpoint. Without one it
 // stays only where p is ambiguous, and it is so in the same way.
 fn reason_keeps(reason: RebaseReason, res: Answer, usages: HeadUsages) -> bool
-    ensures { result ≡ reasonKeeps reason res usages }
+    ensures { result ≡ reason_keeps reason res usages }
 {
     match reason {
         RebaseReason::NoCycleUsages => false,
@@ -146,9 +146,9 @@ pub fn stays(
     eps: PathsToNested,
 ) -> bool
     requires { RestBytes goals base rest.now × (k < 2 * goals) }
-    ensures { (s : Stack) → Decides s (poppedFrame goals rest.now) lowest
-        → result ≡ entryStays s (poppedFrame goals rest.now) reason
-        (entryFrom goals base k rest.now) usages eps.bits }
+    ensures { (s : Stack) → Decides s (popped_frame goals rest.now) lowest
+        → result ≡ entry_stays s (popped_frame goals rest.now) reason
+        (entry_from goals base k rest.now) usages eps.bits }
 {
     let entry = provisional_cache::entry_from(rest, goals, base, k);
     let path = entry::path_from_head(entry, goals);

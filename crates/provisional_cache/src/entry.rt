@@ -1,14 +1,14 @@
 // One entry's bytes: `layout::offsets` says where its fields and its heads stand.
 ghost use Rattle.std.specs.Prelude.{◌≡◌, ◌<◌};
 ghost use Rattle.buffer.specs.Regions.{region};
-ghost use Rattle.definition.specs.Graph.{withPathFromHead};
-ghost use Rattle.definition.specs.Heads.{highestIndex};
-ghost use Rattle.definition.specs.ProvisionalCache.{survivesRerun};
-ghost use Rattle.layout.specs.Blocks.{headsSize};
+ghost use Rattle.definition.specs.Graph.{with_path_from_head};
+ghost use Rattle.definition.specs.Heads.{highest_index};
+ghost use Rattle.definition.specs.ProvisionalCache.{survives_rerun};
+ghost use Rattle.layout.specs.Blocks.{heads_size};
 ghost use Rattle.layout.specs.Frame.{truth};
-ghost use Rattle.layout.specs.Entry.{entryHeadsStart, entry_of};
-ghost use Rattle.provisional_cache.specs.Entries.{EntryBytes, withFields};
-ghost use Rattle.provisional_cache.specs.Entries.{withoutHead, withJoinedHead, withLongerPath};
+ghost use Rattle.layout.specs.Entry.{entry_heads_start, entry_of};
+ghost use Rattle.provisional_cache.specs.Entries.{EntryBytes, with_fields};
+ghost use Rattle.provisional_cache.specs.Entries.{without_head, with_joined_head, with_longer_path};
 
 use buffer::scalars;
 use definition::answers::Answer;
@@ -36,14 +36,14 @@ pub fn input(entry: &[u8], goals: usize) -> usize
 
 pub fn encountered_overflow(entry: &[u8], goals: usize) -> bool
     requires { EntryBytes goals entry.now }
-    ensures { result ≡ (entry_of goals entry.now).encounteredOverflow }
+    ensures { result ≡ (entry_of goals entry.now).encountered_overflow }
 {
     entry[offsets::ENTRY_OVERFLOW] != 0
 }
 
 pub fn path_from_head(entry: &[u8], goals: usize) -> PathKind
     requires { EntryBytes goals entry.now }
-    ensures { result ≡ (entry_of goals entry.now).pathFromHead }
+    ensures { result ≡ (entry_of goals entry.now).path_from_head }
 {
     PathKind::from_number(entry[offsets::ENTRY_PATH])
 }
@@ -58,7 +58,7 @@ pub fn result(entry: &[u8], goals: usize) -> Answer
 // The block of heads.
 pub fn heads(entry: &[u8], goals: usize) -> &[u8]
     requires { EntryBytes goals entry.now }
-    ensures { result.now ≡ region entryHeadsStart (headsSize goals) entry.now }
+    ensures { result.now ≡ region entry_heads_start (heads_size goals) entry.now }
 {
     let end = offsets::ENTRY_HEADS + offsets::heads_size(goals);
     &entry[offsets::ENTRY_HEADS..end]
@@ -66,7 +66,7 @@ pub fn heads(entry: &[u8], goals: usize) -> &[u8]
 
 pub fn highest_head(entry: &[u8], goals: usize) -> usize
     requires { EntryBytes goals entry.now }
-    ensures { result ≡ highestIndex (entry_of goals entry.now).heads }
+    ensures { result ≡ highest_index (entry_of goals entry.now).heads }
 {
     layout::heads::highest(heads(entry, goals), goals)
 }
@@ -74,7 +74,7 @@ pub fn highest_head(entry: &[u8], goals: usize) -> usize
 // Whether it does not depend on the result of the frame at index `rerun`.
 pub fn survives_rerun(entry: &[u8], goals: usize, rerun: usize) -> bool
     requires { EntryBytes goals entry.now × (rerun < goals) }
-    ensures { result ≡ survivesRerun rerun (entry_of goals entry.now) }
+    ensures { result ≡ survives_rerun rerun (entry_of goals entry.now) }
 {
     if highest_head(entry, goals) != rerun {
         return true;
@@ -96,7 +96,7 @@ pub fn start(
 )
     requires { EntryBytes goals entry.old × (goal < 256) }
     ensures { entry_of goals entry.new
-        ≡ withFields (entry_of goals entry.old) goal overflow path answer }
+        ≡ with_fields (entry_of goals entry.old) goal overflow path answer }
 {
     entry[offsets::ENTRY_INPUT] = scalars::low(goal);
     entry[offsets::ENTRY_OVERFLOW] = flag(overflow);
@@ -107,7 +107,7 @@ pub fn start(
 // The path from the highest head.
 pub fn set_path(entry: &mut [u8], goals: usize, kind: PathKind)
     requires { EntryBytes goals entry.old }
-    ensures { entry_of goals entry.new ≡ withPathFromHead (entry_of goals entry.old) kind }
+    ensures { entry_of goals entry.new ≡ with_path_from_head (entry_of goals entry.old) kind }
 {
     entry[offsets::ENTRY_PATH] = kind.number();
 }
@@ -115,7 +115,7 @@ pub fn set_path(entry: &mut [u8], goals: usize, kind: PathKind)
 // The path from the highest head goes on by a path of a kind.
 pub fn extend_path(entry: &mut [u8], goals: usize, kind: PathKind)
     requires { EntryBytes goals entry.old }
-    ensures { entry_of goals entry.new ≡ withLongerPath (entry_of goals entry.old) kind }
+    ensures { entry_of goals entry.new ≡ with_longer_path (entry_of goals entry.old) kind }
 {
     let before = path_from_head(entry, goals);
     set_path(entry, goals, before.extend(kind));
@@ -124,7 +124,7 @@ pub fn extend_path(entry: &mut [u8], goals: usize, kind: PathKind)
 // The head at index i is taken out.
 pub fn remove_head(entry: &mut [u8], goals: usize, i: usize)
     requires { EntryBytes goals entry.old × (i < goals) }
-    ensures { entry_of goals entry.new ≡ withoutHead (entry_of goals entry.old) i }
+    ensures { entry_of goals entry.new ≡ without_head (entry_of goals entry.old) i }
 {
     let end = offsets::ENTRY_HEADS + offsets::heads_size(goals);
     layout::heads::remove(&mut entry[offsets::ENTRY_HEADS..end], goals, i);
@@ -133,7 +133,7 @@ pub fn remove_head(entry: &mut [u8], goals: usize, i: usize)
 // The head at index i is joined with `head`.
 pub fn join_head(entry: &mut [u8], goals: usize, i: usize, head: CycleHead)
     requires { EntryBytes goals entry.old × (i < goals) }
-    ensures { entry_of goals entry.new ≡ withJoinedHead (entry_of goals entry.old) i head }
+    ensures { entry_of goals entry.new ≡ with_joined_head (entry_of goals entry.old) i head }
 {
     let paths = head.paths;
     let usages = head.usages;

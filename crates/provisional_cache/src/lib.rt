@@ -1,15 +1,15 @@
 // The provisional cache: results that depend on goals which are still on the stack, in
 // the order of insertion. How many there are is no byte of the graph.
 ghost use Rattle.std.specs.Prelude.{◌≡◌, ◌+◌, ◌*◌, ◌≤◌, ◌<◌};
-ghost use Rattle.definition.specs.Lookup.{noneOrAbove, entryMatches, entryApplies, anyEntryApplies};
+ghost use Rattle.definition.specs.Lookup.{none_or_above, entry_matches, entry_applies, any_entry_applies};
 ghost use Rattle.layout.specs.Copied.{HeadsCopied};
-ghost use Rattle.layout.specs.Frame.{headsStart};
-ghost use Rattle.layout.specs.Entry.{entryHeadsStart, entry_of};
-ghost use Rattle.layout.specs.Work.{frameStart, entryStart, stack_of, entriesOf};
-ghost use Rattle.stack.specs.Bytes.{GraphBytes, StackBytes, frameAt};
-ghost use Rattle.provisional_cache.specs.Entries.{EntryBytes, EntriesBytes, entryBytesFrom, entryBytes, entryOn};
-ghost use Rattle.provisional_cache.specs.Matches.{lowestHead, hidden, NextOf, FirstMatch};
-ghost use Rattle.provisional_cache.specs.Inserts.{pathFromHighest, Appended, Inserted};
+ghost use Rattle.layout.specs.Frame.{heads_start};
+ghost use Rattle.layout.specs.Entry.{entry_heads_start, entry_of};
+ghost use Rattle.layout.specs.Work.{frame_start, entry_start, stack_of, entries_of};
+ghost use Rattle.stack.specs.Bytes.{GraphBytes, StackBytes, frame_at};
+ghost use Rattle.provisional_cache.specs.Entries.{EntryBytes, EntriesBytes, entry_bytes_from, entry_bytes, entry_on};
+ghost use Rattle.provisional_cache.specs.Matches.{lowest_head, hidden, NextOf, FirstMatch};
+ghost use Rattle.provisional_cache.specs.Inserts.{path_from_highest, Appended, Inserted};
 
 use definition::answers::Answer;
 use definition::paths::{PathKind, PathsToNested};
@@ -28,7 +28,7 @@ pub enum Insertion {
 // The bytes of entry i.
 pub fn entry_at(graph: &[u8], goals: usize, i: usize) -> &[u8]
     requires { GraphBytes goals graph.now × (i < 2 * goals) }
-    ensures { result.now ≡ entryBytes goals i graph.now }
+    ensures { result.now ≡ entry_bytes goals i graph.now }
 {
     let start = offsets::entry_start(goals, i);
     let end = start + offsets::entry_size(goals);
@@ -38,7 +38,7 @@ pub fn entry_at(graph: &[u8], goals: usize, i: usize) -> &[u8]
 // The same in bytes that hold the entries from `base` on.
 pub fn entry_from(bytes: &[u8], goals: usize, base: usize, i: usize) -> &[u8]
     requires { EntriesBytes goals base bytes.now × (i < 2 * goals) }
-    ensures { result.now ≡ entryBytesFrom goals base i bytes.now }
+    ensures { result.now ≡ entry_bytes_from goals base i bytes.now }
 {
     let start = offsets::entry_start_from(goals, base, i);
     let end = start + offsets::entry_size(goals);
@@ -48,7 +48,7 @@ pub fn entry_from(bytes: &[u8], goals: usize, base: usize, i: usize) -> &[u8]
 // is_none_or(|lowest| lowest > head), of the lowest head of the top frame
 fn none_or_above(graph: &[u8], goals: usize, height: usize, head: usize) -> bool
     requires { GraphBytes goals graph.now × (height ≤ goals) }
-    ensures { result ≡ noneOrAbove (lowestHead goals height graph.now) head }
+    ensures { result ≡ none_or_above (lowest_head goals height graph.now) head }
 {
     if height == 0 {
         return true;
@@ -86,7 +86,7 @@ fn is_match(
 ) -> bool
     requires { EntryBytes goals entry.now × StackBytes goals height graph.now }
     ensures { result
-        ≡ entryMatches (stack_of goals height graph.now) goal step (entry_of goals entry.now) }
+        ≡ entry_matches (stack_of goals height graph.now) goal step (entry_of goals entry.now) }
 {
     if entry::input(entry, goals) != goal {
         return false;
@@ -153,7 +153,7 @@ fn applies(
 ) -> bool
     requires { EntryBytes goals entry.now × StackBytes goals height graph.now }
     ensures { result
-        ≡ entryApplies (stack_of goals height graph.now) step nested.now
+        ≡ entry_applies (stack_of goals height graph.now) step nested.now
         (entry_of goals entry.now) }
 {
     let paths = buffer::get(nested, entry::input(entry, goals));
@@ -180,8 +180,8 @@ pub fn any_applies(
 ) -> bool
     requires { StackBytes goals height graph.now × (entries ≤ 2 * goals) }
     ensures { result
-        ≡ anyEntryApplies (stack_of goals height graph.now) step nested.now
-        (entriesOf goals entries graph.now) }
+        ≡ any_entry_applies (stack_of goals height graph.now) step nested.now
+        (entries_of goals entries graph.now) }
 {
     let mut i: usize = 0;
     while i < entries {
@@ -197,7 +197,7 @@ pub fn any_applies(
 // The heads of the frame at index `height` become those of entry i.
 fn copy_heads(graph: &mut [u8], goals: usize, height: usize, i: usize)
     requires { GraphBytes goals graph.old × ((height < goals) × (i < 2 * goals)) }
-    ensures { HeadsCopied goals (frameStart goals height + headsStart) (entryStart goals i + entryHeadsStart)
+    ensures { HeadsCopied goals (frame_start goals height + heads_start) (entry_start goals i + entry_heads_start)
         graph.old graph.new }
 {
     let a = offsets::frame_start(goals, height) + offsets::FRAME_HEADS;
@@ -218,7 +218,7 @@ fn write_entry(
 )
     requires { GraphBytes goals graph.old × ((height < goals) × ((i < 2 * goals) × (goal < 256))) }
     ensures { Appended goals i
-        (entryOn goal overflow (frameAt goals height graph.old).heads path answer)
+        (entry_on goal overflow (frame_at goals height graph.old).heads path answer)
         graph.old graph.new }
 {
     copy_heads(graph, goals, height, i);
@@ -230,7 +230,7 @@ fn write_entry(
 // The kind of the path from the highest head of the frame at index `height` to it.
 fn path_from_head(graph: &[u8], goals: usize, height: usize, step: PathKind) -> PathKind
     requires { StackBytes goals height graph.now × (height < goals) }
-    ensures { result ≡ pathFromHighest goals height step graph.now }
+    ensures { result ≡ path_from_highest goals height step graph.now }
 {
     let hs = frame::heads(stack::frame_at(graph, goals, height), goals);
     let highest = heads::highest(hs, goals);

@@ -10,33 +10,33 @@ use Rattle.definition.specs.declared.replies.Refusal.{Refusal}
 use Rattle.definition.specs.declared.replies.Refusal.TheVariants.{BookLength, BookLine, BookHeader, BookBody, UnknownGoal, DepthAboveTop, CacheLength, CacheForm, WorkLength, ProvisionalCacheFull, CacheConflict, Unreachable}
 use Rattle.definition.specs.declared.replies.Response.{Response}
 use Rattle.definition.specs.declared.replies.Response.TheVariants.{Answered, Refused}
-use Rattle.definition.specs.Answers.{answerNumber, refusalNumber}
+use Rattle.definition.specs.Answers.{answer_number, refusal_number}
 use Rattle.definition.specs.Query.{Reply, query}
-use Rattle.soundness.proofs.Theorems.{never-unreachable}
-use Rattle.query.specs.Replies.{responseCode}
+use Rattle.soundness.proofs.Theorems.{never_unreachable}
+use Rattle.query.specs.Replies.{response_code}
 use Rattle.query.specs.Table.{IsAnswer, OfTable, CodeOfTable}
 
-is-answer : (a : Answer) → IsAnswer (answerNumber a)
-is-answer No = omega arith
-is-answer Yes = omega arith
-is-answer Undecided = omega arith
-is-answer Overflow = omega arith
+is_answer : (a : Answer) → IsAnswer (answer_number a)
+is_answer No = omega arith
+is_answer Yes = omega arith
+is_answer Undecided = omega arith
+is_answer Overflow = omega arith
 
-pub some-refusal : (r : Refusal) → 1 ≤ refusalNumber r
-some-refusal BookLength = omega arith
-some-refusal BookLine = omega arith
-some-refusal BookHeader = omega arith
-some-refusal BookBody = omega arith
-some-refusal UnknownGoal = omega arith
-some-refusal DepthAboveTop = omega arith
-some-refusal CacheLength = omega arith
-some-refusal CacheForm = omega arith
-some-refusal WorkLength = omega arith
-some-refusal ProvisionalCacheFull = omega arith
-some-refusal CacheConflict = omega arith
-some-refusal Unreachable = omega arith
+pub some_refusal : (r : Refusal) → 1 ≤ refusal_number r
+some_refusal BookLength = omega arith
+some_refusal BookLine = omega arith
+some_refusal BookHeader = omega arith
+some_refusal BookBody = omega arith
+some_refusal UnknownGoal = omega arith
+some_refusal DepthAboveTop = omega arith
+some_refusal CacheLength = omega arith
+some_refusal CacheForm = omega arith
+some_refusal WorkLength = omega arith
+some_refusal ProvisionalCacheFull = omega arith
+some_refusal CacheConflict = omega arith
+some_refusal Unreachable = omega arith
 
-in_table : (r : Refusal) → Refused r ≢ Refused Unreachable → refusalNumber r ≤ 11
+in_table : (r : Refusal) → Refused r ≢ Refused Unreachable → refusal_number r ≤ 11
 in_table BookLength ne = omega arith
 in_table BookLine ne = omega arith
 in_table BookHeader ne = omega arith
@@ -50,18 +50,18 @@ in_table ProvisionalCacheFull ne = omega arith
 in_table CacheConflict ne = omega arith
 in_table Unreachable ne = absurd (ne refl)
 
-of-table : (r : Response) → r ≢ Refused Unreachable → OfTable r
-of-table (Answered a) ne = is-answer a
-of-table (Refused r) ne = (some-refusal r, in_table r ne)
+of_table : (r : Response) → r ≢ Refused Unreachable → OfTable r
+of_table (Answered a) ne = is_answer a
+of_table (Refused r) ne = (some_refusal r, in_table r ne)
 
 -- `query`
-pub query-table : (bytes cache work : List ℕ) (goal depth : ℕ) (r : Reply)
+pub query_table : (bytes cache work : List ℕ) (goal depth : ℕ) (r : Reply)
     → r ≡ query bytes cache work goal depth → OfTable r.response
-query-table bytes cache work goal depth r e =
-    let never = never-unreachable bytes cache work goal depth in
-    of-table r.response (subst (λ (x : Reply). x.response ≢ Refused Unreachable) (sym e) never)
+query_table bytes cache work goal depth r e =
+    let never = never_unreachable bytes cache work goal depth in
+    of_table r.response (subst (λ (x : Reply). x.response ≢ Refused Unreachable) (sym e) never)
 
 -- its code
-pub code-table : (r : Response) → OfTable r → CodeOfTable (responseCode r)
-code-table (Answered a) t = inl (omega (arith, t))
-code-table (Refused r) t = inr (refusalNumber r, t, omega arith)
+pub code_table : (r : Response) → OfTable r → CodeOfTable (response_code r)
+code_table (Answered a) t = inl (omega (arith, t))
+code_table (Refused r) t = inr (refusal_number r, t, omega arith)

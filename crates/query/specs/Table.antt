@@ -2,7 +2,7 @@
 use Rattle.std.specs.Prelude.{◌≡◌, ◌⊎◌, ℕ, ◌*◌, ◌≤◌}
 use Rattle.definition.specs.declared.replies.Response.{Response}
 use Rattle.definition.specs.declared.replies.Response.TheVariants.{Answered, Refused}
-use Rattle.definition.specs.Answers.{answerNumber, refusalNumber}
+use Rattle.definition.specs.Answers.{answer_number, refusal_number}
 
 -- the numbers of the answers
 abbrev pub IsAnswer : ℕ → Type 0
@@ -13,8 +13,8 @@ abbrev pub IsRefusal : ℕ → Type 0
 IsRefusal n = (1 ≤ n) × (n ≤ 11)
 
 abbrev pub OfTable : Response → Type 0
-OfTable (Answered a) = IsAnswer (answerNumber a)
-OfTable (Refused r) = IsRefusal (refusalNumber r)
+OfTable (Answered a) = IsAnswer (answer_number a)
+OfTable (Refused r) = IsRefusal (refusal_number r)
 
 -- answer + 256 * refusal: an answer and no refusal, or a refusal with answer 0
 abbrev pub CodeOfTable : ℕ → Type 0

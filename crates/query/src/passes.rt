@@ -1,8 +1,8 @@
 // How often a goal's part was run for what the cache answers.
 ghost use Rattle.std.specs.Prelude.{◌≡◌, ◌&&◌, leb};
-ghost use Rattle.definition.specs.GlobalCache.{slotHeld, slotDepth};
+ghost use Rattle.definition.specs.GlobalCache.{slot_held, slot_depth};
 ghost use Rattle.book.specs.Read.{HeaderInRange};
-ghost use Rattle.query.specs.Passes.{passesFrom, passesIn, passesOf};
+ghost use Rattle.query.specs.Passes.{passes_from, passes_in, passes_of};
 
 use book::BookRead;
 use definition::format::Header;
@@ -10,7 +10,7 @@ use global_cache::slot;
 
 // Whether the success slot answers at a depth.
 fn succeeds(s: &[u8], depth: usize) -> bool
-    ensures { result ≡ (slotHeld s.now && leb (slotDepth s.now) depth) }
+    ensures { result ≡ (slot_held s.now && leb (slot_depth s.now) depth) }
 {
     if !slot::is_held(s) {
         return false;
@@ -20,7 +20,7 @@ fn succeeds(s: &[u8], depth: usize) -> bool
 
 // By the slot that answers at a depth: the success slot, or the overflow slot of that depth.
 fn of_slots(success: &[u8], overflow: &[u8], depth: usize) -> u8
-    ensures { result ≡ passesFrom depth success.now overflow.now }
+    ensures { result ≡ passes_from depth success.now overflow.now }
 {
     if succeeds(success, depth) {
         return slot::passes_of(success);
@@ -33,7 +33,7 @@ fn of_slots(success: &[u8], overflow: &[u8], depth: usize) -> u8
 
 fn of_goal(cache: &[u8], h: Header, goal: usize, depth: usize) -> u8
     requires { HeaderInRange h }
-    ensures { result ≡ passesIn h cache.now goal depth }
+    ensures { result ≡ passes_in h cache.now goal depth }
 {
     let goals = h.goals;
     let top = h.top;
@@ -54,7 +54,7 @@ fn of_goal(cache: &[u8], h: Header, goal: usize, depth: usize) -> u8
 // For the answer to a goal at a depth, after the query that left this cache; 0 where the
 // cache has no answer.
 pub fn of_answer(book: &[u8], cache: &[u8], goal: usize, depth: usize) -> u8
-    ensures { result ≡ passesOf book.now cache.now goal depth }
+    ensures { result ≡ passes_of book.now cache.now goal depth }
 {
     let mut starts = [0u16; 64];
     let read = book::read(book, &mut starts);

@@ -1,7 +1,7 @@
 // The lines that the question program reads and writes.
 ghost use Rattle.std.specs.Prelude.{◌≡◌};
-ghost use Rattle.definition.specs.Answers.{responseAnswer, responseRefusal};
-ghost use Rattle.question.specs.Lines.{readQuestion, outputLine, replyLine, endingNumber, endingLine};
+ghost use Rattle.definition.specs.Answers.{response_answer, response_refusal};
+ghost use Rattle.question.specs.Lines.{read_question, output_line, reply_line, ending_number, ending_line};
 
 use book::{columns, line};
 use definition::replies::{Refusal, Response};
@@ -25,7 +25,7 @@ pub enum Ending {
 
 // Goal and depth, three columns each as a book's fields, and a newline.
 pub fn read_question(s: &[u8]) -> Question
-    ensures { result ≡ readQuestion s.now }
+    ensures { result ≡ read_question s.now }
 {
     if s.len() != 7 {
         return Question::IllFormed;
@@ -46,7 +46,7 @@ pub fn read_question(s: &[u8]) -> Question
 
 // Four numbers, three columns each, and a newline.
 fn output_line(goal: u16, depth: u16, answer: u16, refusal: u16) -> [u8; 13]
-    ensures { result ≡ outputLine goal depth answer refusal }
+    ensures { result ≡ output_line goal depth answer refusal }
 {
     [
         columns::leading(goal / 100),
@@ -67,7 +67,7 @@ fn output_line(goal: u16, depth: u16, answer: u16, refusal: u16) -> [u8; 13]
 
 // The answer's number, 0 for a query that was refused.
 fn answer_number(r: Response) -> u16
-    ensures { result ≡ responseAnswer r }
+    ensures { result ≡ response_answer r }
 {
     match r {
         Response::Answered(answer) => answer.number() as u16,
@@ -77,7 +77,7 @@ fn answer_number(r: Response) -> u16
 
 // The refusal's number, 0 for a query that was accepted.
 fn refusal_number(r: Response) -> u16
-    ensures { result ≡ responseRefusal r }
+    ensures { result ≡ response_refusal r }
 {
     match r {
         Response::Answered(_) => 0,
@@ -87,13 +87,13 @@ fn refusal_number(r: Response) -> u16
 
 // The line for a question that was asked.
 pub fn reply_line(goal: u16, depth: u16, r: Response) -> [u8; 13]
-    ensures { result ≡ replyLine goal depth r }
+    ensures { result ≡ reply_line goal depth r }
 {
     output_line(goal, depth, answer_number(r), refusal_number(r))
 }
 
 fn ending_number(e: Ending) -> u16
-    ensures { result ≡ endingNumber e }
+    ensures { result ≡ ending_number e }
 {
     match e {
         Ending::Book(r) => r.number() as u16,
@@ -104,7 +104,7 @@ fn ending_number(e: Ending) -> u16
 
 // The line with which the program ends before its input does.
 pub fn ending_line(e: Ending) -> [u8; 13]
-    ensures { result ≡ endingLine e }
+    ensures { result ≡ ending_line e }
 {
     output_line(0, 0, 0, ending_number(e))
 }

@@ -3,7 +3,7 @@
 // vectors.bin has them; tests/make-replay makes it and tells its form.
 ghost use Rattle.std.specs.Prelude.{◌≡◌, true, length};
 ghost use Rattle.io.specs.Counts.{IsPrefixLen};
-ghost use Rattle.replay.specs.Recorded.{WorkLeft, AsRecorded, withBook, withQuery};
+ghost use Rattle.replay.specs.Recorded.{WorkLeft, AsRecorded, with_book, with_query};
 
 use libc::STDOUT_FILENO;
 
@@ -109,7 +109,7 @@ fn replay_query(file: i32, book: &[u8], cache: &mut [u8], after: &mut [u8]) -> b
 
 impl Tally {
     fn with_query(self, same: bool) -> Tally
-        ensures { result ≡ withQuery same self }
+        ensures { result ≡ with_query same self }
     {
         let queries = std::num::wrapping_add_u64(self.queries, 1);
         if same {
@@ -127,7 +127,7 @@ impl Tally {
     }
 
     fn with_book(self) -> Tally
-        ensures { result ≡ withBook self }
+        ensures { result ≡ with_book self }
     {
         Tally {
             books: std::num::wrapping_add_u64(self.books, 1),

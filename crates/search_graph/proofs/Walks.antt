@@ -8,36 +8,36 @@ use lib.ListN.{length, take, drop, length-drop}
 use types.Run.{OneOf, miss}
 use denote.Enum.Declared.{tag_of}
 use mathlib.Core.Option.{none, some}
-use Rattle.search_graph.proofs.Cycle.{part-skeleton}
+use Rattle.search_graph.proofs.Cycle.{part_skeleton}
 use Rattle.definition.specs.Stack.{Stack}
-use Rattle.definition.proofs.Skeleton.{skeleton, candidate-same}
+use Rattle.definition.proofs.Skeleton.{skeleton, candidate_same}
 use Rattle.definition.specs.declared.format.Header.{Header}
 use Rattle.definition.specs.declared.answers.Answer.TheVariants as answers
 use Rattle.definition.specs.Part.{Part, Parts, Node, UndecidedLine, Then}
 use Rattle.definition.specs.Part as part
 use Rattle.definition.specs.Graph.{and_then}
 use Rattle.definition.specs.Graph as graph
-use Rattle.definition.specs.Candidates.{enterSingleCandidate, noCandidateUsages}
-use Rattle.definition.specs.Evaluate.{evalPart}
-use Rattle.definition.proofs.Lists.{part-from}
-use Rattle.layout.specs.Work.{stack_of, mergedOf}
+use Rattle.definition.specs.Candidates.{enter_single_candidate, no_candidate_usages}
+use Rattle.definition.specs.Evaluate.{eval_part}
+use Rattle.definition.proofs.Lists.{part_from_lem}
+use Rattle.layout.specs.Work.{stack_of, merged_of}
 use Rattle.stack.specs.Places.{PlacesHeld}
-use Rattle.stack.proofs.Places.{same-places}
+use Rattle.stack.proofs.Places.{same_places}
 use Rattle.book.specs.declared.code.Op.{Op}
 use Rattle.book.specs.declared.code.Code.{Code}
 use Rattle.book.specs.declared.code.Code.TheVariants as codes
 use Rattle.book.specs.declared.part.Call.{Call}
-use Rattle.book.specs.Lines.{lineIn}
+use Rattle.book.specs.Lines.{line_in}
 use Rattle.book.specs.Codes.{op_of, code_of}
 use Rattle.book.specs.Calls.{call_of}
-use Rattle.book.specs.Parts.{Reads, partIn, PassedOver, ReadsParts, parts_in}
+use Rattle.book.specs.Parts.{Reads, part_in, PassedOver, ReadsParts, parts_in}
 use Rattle.book.specs.contracts.code.Code.{the_type}
-use Rattle.book.proofs.Walk.{a-line, no-goal-line, known-code, is_call, is-group, is-pick, is-undecided}
-use Rattle.book.proofs.Walk.{no-parts, others-of, first-and, none_read, none_then, others-read, first_then}
+use Rattle.book.proofs.Walk.{a_line, no_goal_line, known_code, is_call, is_group_lem, is_pick, is_undecided}
+use Rattle.book.proofs.Walk.{no_parts, others_of, first_and_lem, none_read, none_then, others_read, first_then}
 use Rattle.evaluation.specs.declared.Outcome.{Outcome}
 use Rattle.evaluation.specs.declared.Outcome.TheVariants.{Done}
-use Rattle.evaluation.specs.Workspace.{graphIn, stackIn}
-use Rattle.evaluation.specs.Outcomes.{outcomeOf, FewEntries}
+use Rattle.evaluation.specs.Workspace.{graph_in, stack_in}
+use Rattle.evaluation.specs.Outcomes.{outcome_of, FewEntries}
 use Rattle.delegate.specs.declared.group.Group.{Group}
 use Rattle.delegate.specs.declared.group.Weighed.{Weighed}
 use Rattle.delegate.specs.declared.group.Weighed.TheVariants as weighed
@@ -49,83 +49,83 @@ use Rattle.delegate.specs.declared.pick.Tried.TheVariants as tried
 use Rattle.delegate.specs.Picks.{graph_at, PickBegun, CandidateEntered, CandidateFinished, PickEnded}
 use Rattle.delegate.specs.Picks as picks
 use Rattle.delegate.proofs.Groups.{rest_then}
-use Rattle.search_graph.specs.Calls.{Running, evaluator, goalFrom, partFrom, Comes, keptBelow}
+use Rattle.search_graph.specs.Calls.{Running, evaluator, goal_from, part_from, Comes, kept_below}
 
 -- ---- by the first line
-module _ (goals : ℕ) (inPick : Bool) (p : List ℕ) (reads : Reads goals inPick p) where
+module _ (goals : ℕ) (in_pick : Bool) (p : List ℕ) (reads : Reads goals in_pick p) where
   -- a call's goal is one of the book's
-  pub call_known : code_of (lineIn p).code ≡ codes.Call → (call_of (lineIn p)).goal < goals
-  call_known k = (is_call goals inPick p (lineIn p) refl reads k).1
+  pub call_known : code_of (line_in p).code ≡ codes.Call → (call_of (line_in p)).goal < goals
+  call_known k = (is_call goals in_pick p (line_in p) refl reads k).1
 
   -- what is no call, no group and no pick is an undecided line: no part starts with another code
-  undecided : (code : Code) → code ≡ code_of (lineIn p).code → OneOf (0 ∷ 4 ∷ 5 ∷ []) (tag_of the_type code)
-      → partIn goals inPick p ≡ UndecidedLine
-  undecided codes.Goal e k = absurd (no-goal-line goals inPick p (lineIn p) refl reads (sym e))
+  undecided : (code : Code) → code ≡ code_of (line_in p).code → OneOf (0 ∷ 4 ∷ 5 ∷ []) (tag_of the_type code)
+      → part_in goals in_pick p ≡ UndecidedLine
+  undecided codes.Goal e k = absurd (no_goal_line goals in_pick p (line_in p) refl reads (sym e))
   undecided codes.Call e k = absurd (miss (0 ∷ 4 ∷ 5 ∷ []) 1 tt k)
   undecided (codes.Group op) e k = absurd (miss (0 ∷ 4 ∷ 5 ∷ []) 2 tt k)
   undecided codes.Pick e k = absurd (miss (0 ∷ 4 ∷ 5 ∷ []) 3 tt k)
-  undecided codes.Undecided e k = is-undecided goals inPick p (lineIn p) refl reads (sym e)
-  undecided codes.Unknown e k = absurd (known-code goals inPick p (lineIn p) refl reads (sym e))
+  undecided codes.Undecided e k = is_undecided goals in_pick p (line_in p) refl reads (sym e)
+  undecided codes.Unknown e k = absurd (known_code goals in_pick p (line_in p) refl reads (sym e))
 
-below-height : (inPick : Bool) (height i : ℕ) → i < keptBelow inPick height → i < height
-below-height true height i lt = lt
-below-height false height i lt = omega arith
+below_height : (in_pick : Bool) (height i : ℕ) → i < kept_below in_pick height → i < height
+below_height true height i lt = lt
+below_height false height i lt = omega arith
 
 -- what a part comes to that is no group and no pick
 module _ {book starts places cache work : List ℕ} {h : Header} {root height n : ℕ}
     (run : Running book starts places cache work h root height n)
-    (inPick : Bool) (p : List ℕ) (reads : Reads h.goals inPick p) where
-  pub call-comes : code_of (lineIn p).code ≡ codes.Call → {call : Call} → call ≡ call_of (lineIn p)
+    (in_pick : Bool) (p : List ℕ) (reads : Reads h.goals in_pick p) where
+  pub call_comes : code_of (line_in p).code ≡ codes.Call → {call : Call} → call ≡ call_of (line_in p)
       → {new cache1 places1 : List ℕ} {r : Outcome}
       → Comes h.goals root height height
-      (goalFrom book h root height n work cache call.goal call.step call.lower) work new cache1 places1 r
-      → Comes h.goals root height (keptBelow inPick height) (partFrom book p inPick h root height n work cache)
+      (goal_from book h root height n work cache call.goal call.step call.lower) work new cache1 places1 r
+      → Comes h.goals root height (kept_below in_pick height) (part_from book p in_pick h root height n work cache)
       work new cache1 places1 r
-  call-comes k made c =
+  call_comes k made c =
       record {
         is = c.is
-            ∙ ap (λ (x : Call). goalFrom book h root height n work cache x.goal x.step x.lower) made
-            ∙ ap (λ (x : Part). evalPart (evaluator book h height) h.goals x
+            ∙ ap (λ (x : Call). goal_from book h root height n work cache x.goal x.step x.lower) made
+            ∙ ap (λ (x : Part). eval_part (evaluator book h height) h.goals x
             (graph_at h.goals root height n work cache))
-            (sym (is_call h.goals inPick p (lineIn p) refl reads k).0);
+            (sym (is_call h.goals in_pick p (line_in p) refl reads k).0);
         few = c.few;
-        merged = λ i lt. c.merged i (below-height inPick height i lt);
+        merged = λ i lt. c.merged i (below_height in_pick height i lt);
         placed = c.placed;
       }
 
-  pub undecided-comes : (code : Code) → code ≡ code_of (lineIn p).code → OneOf (0 ∷ 4 ∷ 5 ∷ []) (tag_of the_type code)
-      → Comes h.goals root height (keptBelow inPick height) (partFrom book p inPick h root height n work cache)
+  pub undecided_comes : (code : Code) → code ≡ code_of (line_in p).code → OneOf (0 ∷ 4 ∷ 5 ∷ []) (tag_of the_type code)
+      → Comes h.goals root height (kept_below in_pick height) (part_from book p in_pick h root height n work cache)
       work work cache places
       (Done answers.Undecided n)
-  unfolding outcomeOf
-  undecided-comes code e k =
+  unfolding outcome_of
+  undecided_comes code e k =
       record {
-        is = ap (λ (x : Part). evalPart (evaluator book h height) h.goals x
+        is = ap (λ (x : Part). eval_part (evaluator book h height) h.goals x
             (graph_at h.goals root height n work cache))
-            (sym (undecided h.goals inPick p reads code e k));
+            (sym (undecided h.goals in_pick p reads code e k));
         few = run.entries;
         merged = λ i lt. refl;
         placed = run.placed;
       }
 
 -- an outcome by other names
-pub comes-as : {goals root height low : ℕ} {whole : graph.Outcome}
+pub comes_as : {goals root height low : ℕ} {whole : graph.Outcome}
     {old new new1 cache cache1 places places1 : List ℕ} {r r1 : Outcome}
     → new1 ≡ new → cache1 ≡ cache → places1 ≡ places → r1 ≡ r
     → Comes goals root height low whole old new cache places r
     → Comes goals root height low whole old new1 cache1 places1 r1
-comes-as {goals} {root} {height} {old = old} ew ec ep er c =
+comes_as {goals} {root} {height} {old = old} ew ec ep er c =
     record {
-      is = (λ i. outcomeOf goals root height (graphIn goals (ew i)) (ec i) (er i)) ∙ c.is;
+      is = (λ i. outcome_of goals root height (graph_in goals (ew i)) (ec i) (er i)) ∙ c.is;
       few = subst (FewEntries goals) (sym er) c.few;
-      merged = λ i lt. ap (mergedOf goals i) ew ∙ c.merged i lt;
-      placed = subst (PlacesHeld (stackIn goals height old)) (sym ep) c.placed;
+      merged = λ i lt. ap (merged_of goals i) ew ∙ c.merged i lt;
+      placed = subst (PlacesHeld (stack_in goals height old)) (sym ep) c.placed;
     }
 
 -- ---- the parts below a first line: k are left at t, and after the first of them the others at u
 pub record LeftAt (goals : ℕ) (inside : Bool) (k : ℕ) (t u : List ℕ) : Type 0 where
   pub parts : ReadsParts goals inside (k - 1) u
-  pub first : parts_in goals inside k t ≡ Then (partIn goals inside t) (parts_in goals inside (k - 1) u)
+  pub first : parts_in goals inside k t ≡ Then (part_in goals inside t) (parts_in goals inside (k - 1) u)
   pub shorter : length u ≤ length t
 
 module _ (goals : ℕ) (inside : Bool) (k : ℕ) (t : List ℕ) (parts : ReadsParts goals inside k t) (pos : 0 < k) where
@@ -133,7 +133,7 @@ module _ (goals : ℕ) (inside : Bool) (k : ℕ) (t : List ℕ) (parts : ReadsPa
   passed u over =
       let s = over.shorter in
       record {
-        parts = others-read goals inside k t parts pos u over.lines;
+        parts = others_read goals inside k t parts pos u over.lines;
         first = first_then goals inside k t parts pos u over.lines;
         shorter = omega arith;
       }
@@ -147,64 +147,64 @@ module _ (goals : ℕ) (inside : Bool) (k : ℕ) (t : List ℕ) (parts : ReadsPa
         shorter = omega arith;
       }
 
-pub part-shorter : (n : ℕ) (bs : List ℕ) → 0 < n → n ≤ length bs
+pub part_shorter : (n : ℕ) (bs : List ℕ) → 0 < n → n ≤ length bs
     → length (take (length bs - n) (drop n bs)) < length bs
-part-shorter n bs pos fits = let e : length (take (length bs - n) (drop n bs)) ≡ length bs - n = ap length
-    (part-from n bs) ∙ length-drop n bs in omega arith
+part_shorter n bs pos fits = let e : length (take (length bs - n) (drop n bs)) ≡ length bs - n = ap length
+    (part_from_lem n bs) ∙ length-drop n bs in omega arith
 
 -- ---- a turn of the loop over a group's parts: those that are left make the whole. `first` is the workspace before the loop
-pub record GroupWalk (book : List ℕ) (h : Header) (root height : ℕ) (inPick : Bool) (whole : graph.Outcome) (room : ℕ)
+pub record GroupWalk (book : List ℕ) (h : Header) (root height : ℕ) (in_pick : Bool) (whole : graph.Outcome) (room : ℕ)
     (first work cache places : List ℕ) (group : Group) (t : List ℕ) (k : ℕ) : Type 0 where
   pub few : group.entries ≤ 2 * h.goals
-  pub parts : ReadsParts h.goals inPick k t
+  pub parts : ReadsParts h.goals in_pick k t
   pub shorter : length t < room
-  pub value : groups.rest (evaluator book h height) h.goals group (parts_in h.goals inPick k t)
+  pub value : groups.rest (evaluator book h height) h.goals group (parts_in h.goals in_pick k t)
       (graph_at h.goals root height group.entries work cache)
       ≡ whole
-  pub merged : (i : ℕ) → i < keptBelow inPick height → mergedOf h.goals i work ≡ mergedOf h.goals i first
-  pub bones : skeleton (stackIn h.goals height work) ≡ skeleton (stackIn h.goals height first)
-  pub placed : PlacesHeld (stackIn h.goals height first) places
+  pub merged : (i : ℕ) → i < kept_below in_pick height → merged_of h.goals i work ≡ merged_of h.goals i first
+  pub bones : skeleton (stack_in h.goals height work) ≡ skeleton (stack_in h.goals height first)
+  pub placed : PlacesHeld (stack_in h.goals height first) places
 
 -- before the first part, with the bytes after the first line as the code takes them
-pub group-starts : {book starts places cache work : List ℕ} {h : Header} {root height n : ℕ}
+pub group_starts : {book starts places cache work : List ℕ} {h : Header} {root height n : ℕ}
     (run : Running book starts places cache work h root height n)
-    (inPick : Bool) (p : List ℕ) (reads : Reads h.goals inPick p) (op : Op)
-    → code_of (lineIn p).code ≡ codes.Group op
-    → {group : Group} → GroupStarted op n group → (k : ℕ) → k ≡ (lineIn p).first
-    → GroupWalk book h root height inPick (partFrom book p inPick h root height n work cache) (length p) work work
+    (in_pick : Bool) (p : List ℕ) (reads : Reads h.goals in_pick p) (op : Op)
+    → code_of (line_in p).code ≡ codes.Group op
+    → {group : Group} → GroupStarted op n group → (k : ℕ) → k ≡ (line_in p).first
+    → GroupWalk book h root height in_pick (part_from book p in_pick h root height n work cache) (length p) work work
     cache places group
     (take (length p - 16) (drop 16 p)) k
-group-starts {book} {starts} {places} {cache} {work} {h} {root} {height} run inPick p reads op c started k count =
+group_starts {book} {starts} {places} {cache} {work} {h} {root} {height} run in_pick p reads op c started k count =
     let t = take (length p - 16) (drop 16 p) in
-    let below : (partIn h.goals inPick p ≡ Node (op_of op) (parts_in h.goals inPick k t))
-    × ReadsParts h.goals inPick k t =
-    rw (count, part-from) (is-group h.goals inPick p (lineIn p) refl reads op c) in
+    let below : (part_in h.goals in_pick p ≡ Node (op_of op) (parts_in h.goals in_pick k t))
+    × ReadsParts h.goals in_pick k t =
+    rw (count, part_from_lem) (is_group_lem h.goals in_pick p (line_in p) refl reads op c) in
     record {
       few = rw started.count run.entries;
       parts = below.1;
-      shorter = part-shorter 16 p (omega arith) (a-line h.goals inPick p (lineIn p) refl reads);
-      value = started.whole (evaluator book h height) h.goals (parts_in h.goals inPick k t) _
-          ∙ (λ i. evalPart (evaluator book h height) h.goals (sym below.0 i)
+      shorter = part_shorter 16 p (omega arith) (a_line h.goals in_pick p (line_in p) refl reads);
+      value = started.whole (evaluator book h height) h.goals (parts_in h.goals in_pick k t) _
+          ∙ (λ i. eval_part (evaluator book h height) h.goals (sym below.0 i)
           (graph_at h.goals root height (started.count i) work cache));
       merged = λ i lt. refl;
       bones = refl;
       placed = run.placed;
     }
 
-module _ {book : List ℕ} {h : Header} {root height : ℕ} {inPick : Bool} {whole : graph.Outcome} {room : ℕ}
+module _ {book : List ℕ} {h : Header} {root height : ℕ} {in_pick : Bool} {whole : graph.Outcome} {room : ℕ}
     {first work cache places : List ℕ}
     {group : Group} {t : List ℕ} {k : ℕ}
-    (walk : GroupWalk book h root height inPick whole room first work cache places group t k) where
+    (walk : GroupWalk book h root height in_pick whole room first work cache places group t k) where
   -- after the last part
-  pub group-ends : k ≤ 0 → {r : Outcome} → GroupClosed group r
-      → Comes h.goals root height (keptBelow inPick height) whole first work cache places r
-  group-ends z closed =
+  pub group_ends : k ≤ 0 → {r : Outcome} → GroupClosed group r
+      → Comes h.goals root height (kept_below in_pick height) whole first work cache places r
+  group_ends z closed =
       record {
-        is = closed.whole (evaluator book h height) h.goals root height (graphIn h.goals work) cache
+        is = closed.whole (evaluator book h height) h.goals root height (graph_in h.goals work) cache
             ∙ ap (λ (ps : Parts).
             groups.rest (evaluator book h height) h.goals group ps
             (graph_at h.goals root height group.entries work cache))
-            (sym (no-parts h.goals inPick k t walk.parts z))
+            (sym (no_parts h.goals in_pick k t walk.parts z))
             ∙ walk.value;
         few = closed.few h.goals walk.few;
         merged = walk.merged;
@@ -213,48 +213,48 @@ module _ {book : List ℕ} {h : Header} {root height : ℕ} {inPick : Bool} {who
 
   -- after a part
   module _ {work1 cache1 places1 : List ℕ} {o : Outcome}
-      (read : Comes h.goals root height (keptBelow inPick height)
-      (partFrom book t inPick h root height group.entries work cache) work work1 cache1 places1 o)
+      (read : Comes h.goals root height (kept_below in_pick height)
+      (part_from book t in_pick h root height group.entries work cache) work work1 cache1 places1 o)
       {r : Weighed} (weigh : GroupWeighed o group r) where
-    group-goes-on : (ps : Parts) → parts_in h.goals inPick k t ≡ Then (partIn h.goals inPick t) ps
-        → groups.left_of (evaluator book h height) h.goals root height ps (graphIn h.goals work1) cache1
+    group_goes_on : (ps : Parts) → parts_in h.goals in_pick k t ≡ Then (part_in h.goals in_pick t) ps
+        → groups.left_of (evaluator book h height) h.goals root height ps (graph_in h.goals work1) cache1
         r ≡ whole
-    group-goes-on ps e =
-        weigh.whole (evaluator book h height) h.goals root height ps (graphIn h.goals work1) cache1
+    group_goes_on ps e =
+        weigh.whole (evaluator book h height) h.goals root height ps (graph_in h.goals work1) cache1
         ∙ ap (λ (x : graph.Outcome). and_then x (groups.next (evaluator book h height) h.goals group ps)) read.is
-        ∙ sym (rest_then (evaluator book h height) h.goals group (partIn h.goals inPick t) ps _)
+        ∙ sym (rest_then (evaluator book h height) h.goals group (part_in h.goals in_pick t) ps _)
         ∙ ap (λ (qs : Parts).
         groups.rest (evaluator book h height) h.goals group qs
         (graph_at h.goals root height group.entries work cache))
         (sym e)
         ∙ walk.value
 
-    group-merged : (i : ℕ) → i < keptBelow inPick height → mergedOf h.goals i work1 ≡ mergedOf h.goals i first
-    group-merged i lt = read.merged i lt ∙ walk.merged i lt
+    group_merged : (i : ℕ) → i < kept_below in_pick height → merged_of h.goals i work1 ≡ merged_of h.goals i first
+    group_merged i lt = read.merged i lt ∙ walk.merged i lt
 
-    group-placed : PlacesHeld (stackIn h.goals height first) places1
-    group-placed = same-places (stackIn h.goals height work) (stackIn h.goals height first) places1
+    group_placed : PlacesHeld (stack_in h.goals height first) places1
+    group_placed = same_places (stack_in h.goals height work) (stack_in h.goals height first) places1
         (sym walk.bones) read.placed
 
-    pub group-stops : 0 < k → (x : Outcome) → r ≡ weighed.Ended x
-        → Comes h.goals root height (keptBelow inPick height) whole first work1 cache1 places1 x
+    pub group_stops : 0 < k → (x : Outcome) → r ≡ weighed.Ended x
+        → Comes h.goals root height (kept_below in_pick height) whole first work1 cache1 places1 x
     unfolding groups.left_of
-    group-stops pos x e =
-        let ps = others-of h.goals inPick k t walk.parts pos in
+    group_stops pos x e =
+        let ps = others_of h.goals in_pick k t walk.parts pos in
         record {
-          is = sym (ap (groups.left_of (evaluator book h height) h.goals root height ps (graphIn h.goals work1)
+          is = sym (ap (groups.left_of (evaluator book h height) h.goals root height ps (graph_in h.goals work1)
               cache1) e)
-              ∙ group-goes-on ps (first-and h.goals inPick k t walk.parts pos);
+              ∙ group_goes_on ps (first_and_lem h.goals in_pick k t walk.parts pos);
           few = subst (groups.FewLeft h.goals) e (weigh.few h.goals read.few);
-          merged = group-merged;
-          placed = group-placed;
+          merged = group_merged;
+          placed = group_placed;
         }
 
-    pub group-next : (x : Group) → r ≡ weighed.More x → {u : List ℕ} → LeftAt h.goals inPick k t u
-        → GroupWalk book h root height inPick whole room first work1 cache1 places1 x u (k - 1)
+    pub group_next : (x : Group) → r ≡ weighed.More x → {u : List ℕ} → LeftAt h.goals in_pick k t u
+        → GroupWalk book h root height in_pick whole room first work1 cache1 places1 x u (k - 1)
     unfolding groups.left_of
-    group-next x e {u} left =
-        let ps = parts_in h.goals inPick (k - 1) u in
+    group_next x e {u} left =
+        let ps = parts_in h.goals in_pick (k - 1) u in
         let s = walk.shorter in
         let s1 = left.shorter in
         record {
@@ -262,88 +262,88 @@ module _ {book : List ℕ} {h : Header} {root height : ℕ} {inPick : Bool} {who
           parts = left.parts;
           shorter = omega arith;
           value = sym (ap (groups.left_of (evaluator book h height) h.goals root height ps
-              (graphIn h.goals work1) cache1) e)
-              ∙ group-goes-on ps left.first;
-          merged = group-merged;
-          bones = part-skeleton book h root height group.entries work cache inPick t read (weigh.answered x e)
+              (graph_in h.goals work1) cache1) e)
+              ∙ group_goes_on ps left.first;
+          merged = group_merged;
+          bones = part_skeleton book h root height group.entries work cache in_pick t read (weigh.answered x e)
               ∙ walk.bones;
-          placed = group-placed;
+          placed = group_placed;
         }
 
 -- ---- likewise of the loop over a pick's candidates, which stand inside a pick: the merged usages of the top frame are part of the pick
-abbrev pub pickFrom : List ℕ → Header → ℕ → ℕ → List ℕ → List ℕ → Pick → List ℕ → ℕ → graph.Outcome
-pickFrom book h root height work cache pick t k =
+abbrev pub pick_from : List ℕ → Header → ℕ → ℕ → List ℕ → List ℕ → Pick → List ℕ → ℕ → graph.Outcome
+pick_from book h root height work cache pick t k =
     picks.rest (evaluator book h height) h.goals pick (parts_in h.goals true k t)
-    (mergedOf h.goals (height - 1) work)
+    (merged_of h.goals (height - 1) work)
     (graph_at h.goals root height pick.entries work cache)
 
-pub begun-same : {goals height entries : ℕ} {old new : List ℕ} {pick : Pick}
-    → PickBegun goals height entries old new pick → stackIn goals height new ≡ stackIn goals height old
-begun-same {goals} {height} begun = ap (stack_of goals height) begun.graph
+pub begun_same : {goals height entries : ℕ} {old new : List ℕ} {pick : Pick}
+    → PickBegun goals height entries old new pick → stack_in goals height new ≡ stack_in goals height old
+begun_same {goals} {height} begun = ap (stack_of goals height) begun.graph
 
-pub entered-skeleton : {goals height : ℕ} {old new : List ℕ} → CandidateEntered goals height old new
-    → skeleton (stackIn goals height new) ≡ skeleton (stackIn goals height old)
-entered-skeleton {goals} {height} {old} enter =
+pub entered_skeleton : {goals height : ℕ} {old new : List ℕ} → CandidateEntered goals height old new
+    → skeleton (stack_in goals height new) ≡ skeleton (stack_in goals height old)
+entered_skeleton {goals} {height} {old} enter =
     ap (λ (g : graph.Graph). skeleton g.stack) (enter.whole 0 0 [])
-    ∙ candidate-same (some (noCandidateUsages goals)) (stackIn goals height old)
+    ∙ candidate_same (some (no_candidate_usages goals)) (stack_in goals height old)
 
 pub record PickWalk (book : List ℕ) (h : Header) (root height : ℕ) (whole : graph.Outcome) (room : ℕ)
     (first work cache places : List ℕ) (pick : Pick) (t : List ℕ) (k : ℕ) : Type 0 where
   pub few : pick.entries ≤ 2 * h.goals
   pub parts : ReadsParts h.goals true k t
   pub shorter : length t < room
-  pub value : pickFrom book h root height work cache pick t k ≡ whole
-  pub merged : (i : ℕ) → i < height - 1 → mergedOf h.goals i work ≡ mergedOf h.goals i first
-  pub bones : skeleton (stackIn h.goals height work) ≡ skeleton (stackIn h.goals height first)
-  pub placed : PlacesHeld (stackIn h.goals height first) places
+  pub value : pick_from book h root height work cache pick t k ≡ whole
+  pub merged : (i : ℕ) → i < height - 1 → merged_of h.goals i work ≡ merged_of h.goals i first
+  pub bones : skeleton (stack_in h.goals height work) ≡ skeleton (stack_in h.goals height first)
+  pub placed : PlacesHeld (stack_in h.goals height first) places
 
 -- before the first candidate
 module _ {book starts places cache work : List ℕ} {h : Header} {root height n : ℕ}
     (run : Running book starts places cache work h root height n)
-    (inPick : Bool) (p : List ℕ) (reads : Reads h.goals inPick p) (c : code_of (lineIn p).code ≡ codes.Pick)
+    (in_pick : Bool) (p : List ℕ) (reads : Reads h.goals in_pick p) (c : code_of (line_in p).code ≡ codes.Pick)
     {work1 : List ℕ} {pick : Pick} (begun : PickBegun h.goals height n work work1 pick) (k : ℕ)
-    (count : k ≡ (lineIn p).first) where
-  candidates : (partIn h.goals inPick p ≡ Node part.Pick
+    (count : k ≡ (line_in p).first) where
+  candidates : (part_in h.goals in_pick p ≡ Node part.Pick
       (parts_in h.goals true k (take (length p - 16) (drop 16 p))))
       × ReadsParts h.goals true k (take (length p - 16) (drop 16 p))
-  candidates = rw (count, part-from) (is-pick h.goals inPick p (lineIn p) refl reads c).1
+  candidates = rw (count, part_from_lem) (is_pick h.goals in_pick p (line_in p) refl reads c).1
 
-  pub pick-starts : PickWalk book h root height
-      (pickFrom book h root height work1 cache pick (take (length p - 16) (drop 16 p)) k) (length p)
+  pub pick_starts : PickWalk book h root height
+      (pick_from book h root height work1 cache pick (take (length p - 16) (drop 16 p)) k) (length p)
       work1 work1 cache places pick (take (length p - 16) (drop 16 p)) k
-  pick-starts =
+  pick_starts =
       record {
         few = rw begun.count run.entries;
         parts = candidates.1;
-        shorter = part-shorter 16 p (omega arith) (a-line h.goals inPick p (lineIn p) refl reads);
+        shorter = part_shorter 16 p (omega arith) (a_line h.goals in_pick p (line_in p) refl reads);
         value = refl;
         merged = λ i lt. refl;
         bones = refl;
-        placed = subst (λ (l : Stack). PlacesHeld l places) (sym (begun-same begun)) run.placed;
+        placed = subst (λ (l : Stack). PlacesHeld l places) (sym (begun_same begun)) run.placed;
       }
 
   -- what the candidates make is what the part makes
-  pub pick-whole : {new cache1 places1 : List ℕ} {r : Outcome}
+  pub pick_whole : {new cache1 places1 : List ℕ} {r : Outcome}
       → Comes h.goals root height (height - 1)
-      (pickFrom book h root height work1 cache pick (take (length p - 16) (drop 16 p)) k) work1 new cache1 places1 r
-      → Comes h.goals root height (keptBelow inPick height) (partFrom book p inPick h root height n work cache)
+      (pick_from book h root height work1 cache pick (take (length p - 16) (drop 16 p)) k) work1 new cache1 places1 r
+      → Comes h.goals root height (kept_below in_pick height) (part_from book p in_pick h root height n work cache)
       work new cache1 places1 r
-  pick-whole {places1 = places1} came =
+  pick_whole {places1 = places1} came =
       record {
         is = came.is
             ∙ begun.whole (evaluator book h height) (parts_in h.goals true k (take (length p - 16) (drop 16 p)))
             root pick.entries cache
-            ∙ (λ i. evalPart (evaluator book h height) h.goals (sym candidates.0 i)
+            ∙ (λ i. eval_part (evaluator book h height) h.goals (sym candidates.0 i)
             (graph_at h.goals root height (begun.count i) work cache));
         few = came.few;
         merged = λ i lt. let low = alone i lt in came.merged i low ∙ begun.kept i low;
-        placed = subst (λ (l : Stack). PlacesHeld l places1) (begun-same begun) came.placed;
+        placed = subst (λ (l : Stack). PlacesHeld l places1) (begun_same begun) came.placed;
       }
     where
       -- no pick stands in a pick
-      alone : (i : ℕ) → i < keptBelow inPick height → i < height - 1
-      alone i lt = subst (λ (b : Bool). i < keptBelow b height)
-          (is-pick h.goals inPick p (lineIn p) refl reads c).0 lt
+      alone : (i : ℕ) → i < kept_below in_pick height → i < height - 1
+      alone i lt = subst (λ (b : Bool). i < kept_below b height)
+          (is_pick h.goals in_pick p (line_in p) refl reads c).0 lt
 
 module _ {book : List ℕ} {h : Header} {root height : ℕ} {whole : graph.Outcome} {room : ℕ}
     {first work cache places : List ℕ}
@@ -356,9 +356,9 @@ module _ {book : List ℕ} {h : Header} {root height : ℕ} {whole : graph.Outco
       record {
         is = ended.whole root cache
             ∙ ap (λ (ps : Parts).
-            picks.rest (evaluator book h height) h.goals pick ps (mergedOf h.goals (height - 1) work)
+            picks.rest (evaluator book h height) h.goals pick ps (merged_of h.goals (height - 1) work)
             (graph_at h.goals root height pick.entries work cache))
-            (sym (no-parts h.goals true k t walk.parts z))
+            (sym (no_parts h.goals true k t walk.parts z))
             ∙ walk.value;
         few = ended.few;
         merged = λ i lt. ended.kept i (omega arith) ∙ walk.merged i lt;
@@ -368,53 +368,53 @@ module _ {book : List ℕ} {h : Header} {root height : ℕ} {whole : graph.Outco
   -- after a candidate
   module _ {work1 : List ℕ} (enter : CandidateEntered h.goals height work work1) {work2 cache2 places2 : List ℕ}
       {o : Outcome}
-      (read : Comes h.goals root height height (partFrom book t true h root height pick.entries work1 cache)
+      (read : Comes h.goals root height height (part_from book t true h root height pick.entries work1 cache)
       work1 work2 cache2 places2 o)
       {work3 : List ℕ} {r : Tried} (finished : CandidateFinished h.goals height o pick work2 work3 r) where
-    own-kept : mergedOf h.goals (height - 1) work2 ≡ mergedOf h.goals (height - 1) work
-    own-kept = read.merged (height - 1) (omega arith) ∙ enter.kept (height - 1) (omega arith)
+    own_kept : merged_of h.goals (height - 1) work2 ≡ merged_of h.goals (height - 1) work
+    own_kept = read.merged (height - 1) (omega arith) ∙ enter.kept (height - 1) (omega arith)
 
-    entered : evalPart (evaluator book h height) h.goals (partIn h.goals true t)
+    entered : eval_part (evaluator book h height) h.goals (part_in h.goals true t)
         (graph_at h.goals root height pick.entries work1 cache)
-        ≡ evalPart (evaluator book h height) h.goals (partIn h.goals true t)
-        (enterSingleCandidate h.goals (graph_at h.goals root height pick.entries work cache))
-    entered = ap (evalPart (evaluator book h height) h.goals (partIn h.goals true t))
+        ≡ eval_part (evaluator book h height) h.goals (part_in h.goals true t)
+        (enter_single_candidate h.goals (graph_at h.goals root height pick.entries work cache))
+    entered = ap (eval_part (evaluator book h height) h.goals (part_in h.goals true t))
         (enter.whole root pick.entries cache)
 
-    pick-goes-on : (ps : Parts) → parts_in h.goals true k t ≡ Then (partIn h.goals true t) ps
+    pick_goes_on : (ps : Parts) → parts_in h.goals true k t ≡ Then (part_in h.goals true t) ps
         → picks.left_of (evaluator book h height) h.goals root height ps work3 cache2 r ≡ whole
-    pick-goes-on ps e =
+    pick_goes_on ps e =
         finished.whole (evaluator book h height) ps root cache2
         ∙ (λ i. and_then ((read.is ∙ entered) i)
-        (picks.next (evaluator book h height) h.goals pick ps (own-kept i)))
+        (picks.next (evaluator book h height) h.goals pick ps (own_kept i)))
         ∙ ap (λ (qs : Parts).
-        picks.rest (evaluator book h height) h.goals pick qs (mergedOf h.goals (height - 1) work)
+        picks.rest (evaluator book h height) h.goals pick qs (merged_of h.goals (height - 1) work)
         (graph_at h.goals root height pick.entries work cache))
         (sym e)
         ∙ walk.value
 
-    pick-merged : (i : ℕ) → i < height - 1 → mergedOf h.goals i work3 ≡ mergedOf h.goals i first
-    pick-merged i lt = finished.kept i lt ∙ read.merged i (omega arith) ∙ enter.kept i (omega arith)
+    pick_merged : (i : ℕ) → i < height - 1 → merged_of h.goals i work3 ≡ merged_of h.goals i first
+    pick_merged i lt = finished.kept i lt ∙ read.merged i (omega arith) ∙ enter.kept i (omega arith)
         ∙ walk.merged i lt
 
-    pick-bones : skeleton (stackIn h.goals height work1) ≡ skeleton (stackIn h.goals height first)
-    pick-bones = entered-skeleton enter ∙ walk.bones
+    pick_bones : skeleton (stack_in h.goals height work1) ≡ skeleton (stack_in h.goals height first)
+    pick_bones = entered_skeleton enter ∙ walk.bones
 
-    pick-places : PlacesHeld (stackIn h.goals height first) places2
-    pick-places = same-places (stackIn h.goals height work1) (stackIn h.goals height first) places2
-        (sym pick-bones) read.placed
+    pick_places : PlacesHeld (stack_in h.goals height first) places2
+    pick_places = same_places (stack_in h.goals height work1) (stack_in h.goals height first) places2
+        (sym pick_bones) read.placed
 
-    pub pick-stops : 0 < k → (x : Outcome) → r ≡ tried.Ended x
+    pub pick_stops : 0 < k → (x : Outcome) → r ≡ tried.Ended x
         → Comes h.goals root height (height - 1) whole first work3 cache2 places2 x
     unfolding picks.left_of
-    pick-stops pos x e =
-        let ps = others-of h.goals true k t walk.parts pos in
+    pick_stops pos x e =
+        let ps = others_of h.goals true k t walk.parts pos in
         record {
           is = sym (ap (picks.left_of (evaluator book h height) h.goals root height ps work3 cache2) e)
-              ∙ pick-goes-on ps (first-and h.goals true k t walk.parts pos);
+              ∙ pick_goes_on ps (first_and_lem h.goals true k t walk.parts pos);
           few = subst (picks.FewLeft h.goals) e finished.few;
-          merged = pick-merged;
-          placed = pick-places;
+          merged = pick_merged;
+          placed = pick_places;
         }
 
     pub pick_next : (x : Pick) → r ≡ tried.More x → {u : List ℕ} → LeftAt h.goals true k t u
@@ -429,11 +429,11 @@ module _ {book : List ℕ} {h : Header} {root height : ℕ} {whole : graph.Outco
           parts = left.parts;
           shorter = omega arith;
           value = sym (ap (picks.left_of (evaluator book h height) h.goals root height ps work3 cache2) e)
-              ∙ pick-goes-on ps left.first;
-          merged = pick-merged;
+              ∙ pick_goes_on ps left.first;
+          merged = pick_merged;
           bones =
-              ap skeleton (finished.stack x e) ∙ candidate-same none (stackIn h.goals height work2)
-              ∙ part-skeleton book h root height pick.entries work1 cache true t read (finished.answered x e)
-              ∙ pick-bones;
-          placed = pick-places;
+              ap skeleton (finished.stack x e) ∙ candidate_same none (stack_in h.goals height work2)
+              ∙ part_skeleton book h root height pick.entries work1 cache true t read (finished.answered x e)
+              ∙ pick_bones;
+          placed = pick_places;
         }

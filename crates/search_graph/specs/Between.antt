@@ -3,18 +3,18 @@ use Rattle.std.specs.Prelude.{◌≡◌, Bool, List, ◌∷◌, ℕ, ◌+◌, �
 use Rattle.std.proofs.Math.Option.{none}
 use Rattle.definition.specs.declared.paths.PathKind.{PathKind}
 use Rattle.definition.specs.declared.format.Header.{Header}
-use Rattle.definition.specs.Stack.{CountsTrue, stackFind}
-use Rattle.definition.specs.Graph.{Graph, withStack}
+use Rattle.definition.specs.Stack.{CountsTrue, stack_find}
+use Rattle.definition.specs.Graph.{Graph, with_stack}
 use Rattle.definition.specs.Graph as graph
 use Rattle.definition.specs.Task as task
-use Rattle.definition.specs.Evaluate.{evaluateGoalWith, newFrame, afterTask}
-use Rattle.layout.specs.Work.{graph_of, mergedOf}
+use Rattle.definition.specs.Evaluate.{evaluate_goal_with, new_frame, after_task}
+use Rattle.layout.specs.Work.{graph_of, merged_of}
 use Rattle.stack.specs.Places.{Placed}
 use Rattle.global_cache.specs.Cache.{CacheBytes}
 use Rattle.evaluation.specs.declared.Outcome.{Outcome}
 use Rattle.evaluation.specs.declared.Ran.{Ran}
-use Rattle.evaluation.specs.Workspace.{WorkBytes, graphIn, stackIn}
-use Rattle.evaluation.specs.Outcomes.{outcomeOf, taskOutcomeOf, TaskCountsIn, FewEntries, FewTaskEntries}
+use Rattle.evaluation.specs.Workspace.{WorkBytes, graph_in, stack_in}
+use Rattle.evaluation.specs.Outcomes.{outcome_of, task_outcome_of, TaskCountsIn, FewEntries, FewTaskEntries}
 use Rattle.lookup.specs.declared.Found.{Found}
 use Rattle.lookup.specs.declared.Found.TheVariants.{Push}
 use Rattle.lookup.specs.Lookups.{found}
@@ -23,7 +23,7 @@ use Rattle.task.specs.Turns.{turned, CountsTurned, FewTurned}
 
 -- the merged usages are as they were
 abbrev pub MergedKept : ℕ → List ℕ → List ℕ → Type 0
-MergedKept goals old new = (i : ℕ) → mergedOf goals i new ≡ mergedOf goals i old
+MergedKept goals old new = (i : ℕ) → merged_of goals i new ≡ merged_of goals i old
 
 pub record Looking (h : Header) (root height n goal : ℕ) (work cache places : List ℕ) : Type 0 where
   pub bytes : WorkBytes h.goals work
@@ -33,32 +33,32 @@ pub record Looking (h : Header) (root height n goal : ℕ) (work cache places : 
   pub known : goal < h.goals
   pub divides : 1 ≤ h.divisor
   pub shallow : root < 256
-  pub counts : CountsTrue (stackIn h.goals height work)
-  pub placed : Placed (stackIn h.goals height work) places
+  pub counts : CountsTrue (stack_in h.goals height work)
+  pub placed : Placed (stack_in h.goals height work) places
 
 pub record LookedUp (h : Header) (root height n goal : ℕ) (step : PathKind) (lower : Bool)
     (old new cache : List ℕ) (r : Found) : Type 0 where
   pub is : (compute : ℕ → Graph → graph.Outcome)
-      → evaluateGoalWith h compute (graph_of h.goals root height n (graphIn h.goals old) cache) goal step lower
-      ≡ found h compute goal step r (graph_of h.goals root height n (graphIn h.goals new) cache)
+      → evaluate_goal_with h compute (graph_of h.goals root height n (graph_in h.goals old) cache) goal step lower
+      ≡ found h compute goal step r (graph_of h.goals root height n (graph_in h.goals new) cache)
   pub low : (d : ℕ) → r ≡ Push d → d < 256
-  pub missed : (d : ℕ) → r ≡ Push d → graphIn h.goals new ≡ graphIn h.goals old
-  pub off : (d : ℕ) → r ≡ Push d → stackFind (stackIn h.goals height old) goal ≡ none
+  pub missed : (d : ℕ) → r ≡ Push d → graph_in h.goals new ≡ graph_in h.goals old
+  pub off : (d : ℕ) → r ≡ Push d → stack_find (stack_in h.goals height old) goal ≡ none
   pub merged : MergedKept h.goals old new
 
 pub record Pushed (goals height goal : ℕ) (step : PathKind) (available : ℕ) (old new : List ℕ) : Type 0 where
   pub is : (root n : ℕ) (cache : List ℕ)
-      → graph_of goals root (height + 1) n (graphIn goals new) cache
-      ≡ withStack (graph_of goals root height n (graphIn goals old) cache)
-      (newFrame goals goal step available (stackIn goals height old) ∷ stackIn goals height old)
+      → graph_of goals root (height + 1) n (graph_in goals new) cache
+      ≡ with_stack (graph_of goals root height n (graph_in goals old) cache)
+      (new_frame goals goal step available (stack_in goals height old) ∷ stack_in goals height old)
   pub merged : MergedKept goals old new
 
 pub record IterationEnded (goals height left : ℕ) (overflow : Bool) (o : Outcome) (old new : List ℕ) (r : Iteration) : Type 0 where
   pub is : (root : ℕ) (cache : List ℕ) (pass : ℕ) (next : Bool → Graph → task.TaskOutcome)
-      → task.iteration left pass next overflow (outcomeOf goals root height (graphIn goals old) cache o)
-      ≡ turned goals root height pass next (graphIn goals new) cache r
+      → task.iteration left pass next overflow (outcome_of goals root height (graph_in goals old) cache o)
+      ≡ turned goals root height pass next (graph_in goals new) cache r
   pub few : FewTurned goals left r
-  pub counts : CountsTurned (stackIn goals height new) r
+  pub counts : CountsTurned (stack_in goals height new) r
   pub merged : MergedKept goals old new
 
 pub record Finishing (h : Header) (height goal : ℕ) (ran : Ran) (work cache : List ℕ) : Type 0 where
@@ -67,14 +67,14 @@ pub record Finishing (h : Header) (height goal : ℕ) (ran : Ran) (work cache : 
   pub stack : height < h.goals
   pub known : goal < h.goals
   pub few : FewTaskEntries h.goals ran.outcome
-  pub counts : TaskCountsIn (stackIn h.goals height work) ran.outcome
+  pub counts : TaskCountsIn (stack_in h.goals height work) ran.outcome
   pub passes : ran.passes < 256
 
 pub record Finished (h : Header) (height goal : ℕ) (step : PathKind) (available : ℕ) (ran : Ran)
-    (old new cache cacheAfter : List ℕ) (r : Outcome) : Type 0 where
+    (old new cache cache_after : List ℕ) (r : Outcome) : Type 0 where
   pub is : (root : ℕ)
-      → outcomeOf h.goals root height (graphIn h.goals new) cacheAfter r
-      ≡ afterTask h goal step available
-      (taskOutcomeOf h.goals root height ran.passes (graphIn h.goals old) cache ran.outcome)
+      → outcome_of h.goals root height (graph_in h.goals new) cache_after r
+      ≡ after_task h goal step available
+      (task_outcome_of h.goals root height ran.passes (graph_in h.goals old) cache ran.outcome)
   pub few : FewEntries h.goals r
   pub merged : MergedKept h.goals old new

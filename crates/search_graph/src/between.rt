@@ -2,7 +2,7 @@
 // part of the workspace.
 ghost use Rattle.std.specs.Prelude.{◌≡◌, ◌≤◌, ◌<◌, pred};
 ghost use Rattle.definition.specs.Stack.{CountsTrue};
-ghost use Rattle.evaluation.specs.Workspace.{WorkBytes, stackIn};
+ghost use Rattle.evaluation.specs.Workspace.{WorkBytes, stack_in};
 ghost use Rattle.evaluation.specs.Outcomes.{CountsIn, FewEntries};
 ghost use Rattle.search_graph.specs.Between.{Looking, LookedUp, Pushed, IterationEnded, Finishing, Finished};
 
@@ -62,7 +62,7 @@ pub fn push(
     step: PathKind,
     available: usize,
 )
-    requires work_bytes { WorkBytes goals work.old × CountsTrue (stackIn goals height work.old) }
+    requires work_bytes { WorkBytes goals work.old × CountsTrue (stack_in goals height work.old) }
     requires height_lt_goals { (height < goals) × ((goal < 256) × (available < 256)) }
     ensures { Pushed goals height goal step available work.old work.new }
 {
@@ -78,7 +78,7 @@ pub fn end_iteration(
     left: usize,
     overflow: bool,
 ) -> Iteration
-    requires work_bytes { WorkBytes goals work.old × CountsIn (stackIn goals height work.old) o }
+    requires work_bytes { WorkBytes goals work.old × CountsIn (stack_in goals height work.old) o }
     requires le_height { (1 ≤ height) × ((height ≤ goals) × FewEntries goals o) }
     ensures { IterationEnded goals height left overflow o work.old work.new result }
 {

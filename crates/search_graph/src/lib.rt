@@ -4,7 +4,7 @@ pub mod between;
 
 ghost use Rattle.std.specs.Prelude.{false, ◌-◌, ◌≤◌, ◌<◌};
 ghost use Rattle.book.specs.Parts.{Reads};
-ghost use Rattle.search_graph.specs.Calls.{Running, Comes, goalFrom, TaskComes, taskFrom, partFrom, keptBelow};
+ghost use Rattle.search_graph.specs.Calls.{Running, Comes, goal_from, TaskComes, task_from, part_from, kept_below};
 
 use book::code::Code;
 use book::part;
@@ -40,7 +40,7 @@ pub fn evaluate(
     requires running { Running book.now starts.now places.old cache.old work.old h root height entries }
     requires goal_lt_goals { goal < h.goals }
     ensures { Comes h.goals root height height
-        (goalFrom book.now h root height entries work.old cache.old goal step lower)
+        (goal_from book.now h root height entries work.old cache.old goal step lower)
         work.old work.new cache.new places.new result }
 {
     let found = between::look_up(
@@ -95,7 +95,7 @@ fn rerun(
     requires running { Running book.now starts.now places.old cache.old work.old h root height entries }
     requires le_height { (1 ≤ height) × ((left < 99) × Reads h.goals false p.now) }
     ensures { TaskComes h.goals root (height - 1)
-        (taskFrom book.now p.now h root height entries left work.old cache.old)
+        (task_from book.now p.now h root height entries left work.old cache.old)
         work.old work.new cache.new places.new result }
 {
     let mut more = left;
@@ -137,8 +137,8 @@ fn read_part(
 ) -> Outcome
     requires running { Running book.now starts.now places.old cache.old work.old h root height entries }
     requires le_height { (1 ≤ height) × Reads h.goals in_pick p.now }
-    ensures { Comes h.goals root height (keptBelow in_pick height)
-        (partFrom book.now p.now in_pick h root height entries work.old cache.old)
+    ensures { Comes h.goals root height (kept_below in_pick height)
+        (part_from book.now p.now in_pick h root height entries work.old cache.old)
         work.old work.new cache.new places.new result }
 {
     let code = part::code(p);

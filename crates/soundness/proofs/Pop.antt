@@ -8,10 +8,10 @@ use Prim.Native.Nat.{◌<◌, ◌≤◌, suc, ℕ}
 use native.Mathlib.Omega.{arith}
 use lib.Dec.{T, eqb, eqb_refl, eqb→eq}
 use lib.ListN.{length}
-use Rattle.definition.specs.Endings.{pop, tidyUp}
-use Rattle.definition.specs.Graph.{Entry, Graph, withEntryHeads, withPathFromHead, withProvisionalCache, withStack}
-use Rattle.definition.specs.Heads.{CycleHeads, forEachHead, highestIndex, optHighestIndex, pathsAt, removeHead, usagesAt}
-use Rattle.definition.specs.ProvisionalCache.{headThrough, pathsKeepKind, reasonKeeps, rebaseEntries, rebaseEntry, rebasedHeads, survivors, underNewHead, unusedHead}
+use Rattle.definition.specs.Endings.{pop, tidy_up}
+use Rattle.definition.specs.Graph.{Entry, Graph, with_entry_heads, with_path_from_head, with_provisional_cache, with_stack}
+use Rattle.definition.specs.Heads.{CycleHeads, for_each_head, highest_index, opt_highest_index, paths_at, remove_head, usages_at}
+use Rattle.definition.specs.ProvisionalCache.{head_through, paths_keep_kind, reason_keeps, rebase_entries, rebase_entry, rebased_heads, survivors, under_new_head, unused_head}
 use Rattle.definition.specs.Stack.{Frame, Stack}
 use Rattle.definition.specs.Usages.{is_empty}
 use Rattle.definition.specs.declared.answers.Answer.{Answer}
@@ -26,8 +26,8 @@ use Rattle.definition.specs.declared.usages.HeadUsages.{HeadUsages}
 use Rattle.soundness.specs.Always.{Every, HasHead}
 use Rattle.soundness.specs.Pop.{HeadsAfter, HeadsBefore, PopKeepsHeads}
 use Rattle.definition.proofs.Tests.{and_right}
-use Rattle.soundness.proofs.Logic.{of-true}
-use Rattle.soundness.proofs.HeadLaws.{each_from, highest-present, is-highest, removed-from}
+use Rattle.soundness.proofs.Logic.{of_true}
+use Rattle.soundness.proofs.HeadLaws.{each_from, highest_present, is_highest, removed_from}
 
 -- ---- a list of entries, of which some are dropped and others kept as R says
 pub data Left (R : Entry → Entry → Type 0) : List Entry → List Entry → Type 0 where
@@ -35,51 +35,51 @@ pub data Left (R : Entry → Entry → Type 0) : List Entry → List Entry → T
   drop : {e : Entry} {es ds : List Entry} → Left R es ds → Left R (e ∷ es) ds
   keep : {e d : Entry} {es ds : List Entry} → R e d → Left R es ds → Left R (e ∷ es) (d ∷ ds)
 
-left-fewer : {R : Entry → Entry → Type 0} {es ds : List Entry} → Left R es ds → length ds ≤ length es
-left-fewer empty = omega arith
-left-fewer (drop l) = omega (arith, left-fewer l)
-left-fewer (keep r l) = omega (arith, left-fewer l)
+left_fewer : {R : Entry → Entry → Type 0} {es ds : List Entry} → Left R es ds → length ds ≤ length es
+left_fewer empty = omega arith
+left_fewer (drop l) = omega (arith, left_fewer l)
+left_fewer (keep r l) = omega (arith, left_fewer l)
 
-pub left-every : {R : Entry → Entry → Type 0} (P Q : Entry → Type 0) → ((e d : Entry) → R e d → P e → Q d)
+pub left_every : {R : Entry → Entry → Type 0} (P Q : Entry → Type 0) → ((e d : Entry) → R e d → P e → Q d)
     → {es ds : List Entry} → Left R es ds → Every P es → Every Q ds
-left-every P Q h empty v = tt
-left-every P Q h (drop l) v = left-every P Q h l v.1
-left-every P Q h (keep {e = e} {d = d} r l) v = (h e d r v.0, left-every P Q h l v.1)
+left_every P Q h empty v = tt
+left_every P Q h (drop l) v = left_every P Q h l v.1
+left_every P Q h (keep {e = e} {d = d} r l) v = (h e d r v.0, left_every P Q h l v.1)
 
 -- ---- what an ending makes of an entry, when the frame p on s is popped
 
 -- an entry with that answer, which used p so, is kept
-abbrev pub keepsUse : Ending → Answer → HeadUsages → Bool
-keepsUse ending.Nothing result u = false
-keepsUse (ending.Fixpoint fixpoint) result u = reasonKeeps (ReachedFixpoint fixpoint) result u
-keepsUse ending.NoUsages result u = reasonKeeps NoCycleUsages result u
-keepsUse (ending.Ambiguity kind) result u = reasonKeeps (Ambiguity kind) result u
-keepsUse ending.Overflow result u = reasonKeeps (Ambiguity Overflow) result u
-keepsUse ending.Rerun result u = false
+abbrev pub keeps_use : Ending → Answer → HeadUsages → Bool
+keeps_use ending.Nothing result u = false
+keeps_use (ending.Fixpoint fixpoint) result u = reason_keeps (ReachedFixpoint fixpoint) result u
+keeps_use ending.NoUsages result u = reason_keeps NoCycleUsages result u
+keeps_use (ending.Ambiguity kind) result u = reason_keeps (Ambiguity kind) result u
+keeps_use ending.Overflow result u = reason_keeps (Ambiguity Overflow) result u
+keeps_use ending.Rerun result u = false
 
 module _ (s : Stack) (p : Frame) where
   -- the heads without p, joined with the heads of p
-  abbrev pub movedBy : (CycleHead → Option CycleHead → CycleHead) → CycleHeads → CycleHeads
-  movedBy φ hs = forEachHead φ (removeHead hs (length s)) p.heads
+  abbrev pub moved_by : (CycleHead → Option CycleHead → CycleHead) → CycleHeads → CycleHeads
+  moved_by φ hs = for_each_head φ (remove_head hs (length s)) p.heads
 
   -- the entry is kept as it is: nothing is done, p is not its highest head, or is and was used for nothing
   pub data Stays (end : Ending) (e : Entry) : Type 0 where
     untouched : end ≡ ending.Nothing → Stays end e
-    lower : eqb (highestIndex e.heads) (length s) ≡ false → Stays end e
-    idle : end ≡ ending.Rerun → eqb (highestIndex e.heads) (length s) ≡ true
-        → is_empty (usagesAt e.heads (length s)) ≡ true → Stays end e
+    lower : eqb (highest_index e.heads) (length s) ≡ false → Stays end e
+    idle : end ≡ ending.Rerun → eqb (highest_index e.heads) (length s) ≡ true
+        → is_empty (usages_at e.heads (length s)) ≡ true → Stays end e
 
   -- its heads are moved by φ: it used p for nothing, or may be kept though it used p
   pub data Moves (end : Ending) (e : Entry) : (CycleHead → Option CycleHead → CycleHead) → Type 0 where
-    unused : is_empty (usagesAt e.heads (length s)) ≡ true → Moves end e unusedHead
-    through : T (keepsUse end e.result (usagesAt e.heads (length s)))
-        → Moves end e (headThrough (pathsAt e.heads (length s)))
+    unused : is_empty (usages_at e.heads (length s)) ≡ true → Moves end e unused_head
+    through : T (keeps_use end e.result (usages_at e.heads (length s)))
+        → Moves end e (head_through (paths_at e.heads (length s)))
 
   -- the entry is kept as the other
   pub data Kept (end : Ending) (e : Entry) : Entry → Type 0 where
     stays : Stays end e → Kept end e e
-    moves : {φ : CycleHead → Option CycleHead → CycleHead} → Moves end e φ → (i : ℕ) → HasHead (movedBy φ e.heads) i
-        → (path : PathKind) → Kept end e (withPathFromHead (withEntryHeads e (movedBy φ e.heads)) path)
+    moves : {φ : CycleHead → Option CycleHead → CycleHead} → Moves end e φ → (i : ℕ) → HasHead (moved_by φ e.heads) i
+        → (path : PathKind) → Kept end e (with_path_from_head (with_entry_heads e (moved_by φ e.heads)) path)
 
   abbrev KeptAs : Ending → Entry → Option Entry → Type 0
   KeptAs end e none = Unit {0}
@@ -92,41 +92,41 @@ module _ (s : Stack) (p : Frame) where
 
   -- ---- rebased, for a reason that the ending gives
   module _ (end : Ending) (reason : RebaseReason)
-      (fits : (result : Answer) (u : HeadUsages) → T (reasonKeeps reason result u) → T (keepsUse end result u)) where
+      (fits : (result : Answer) (u : HeadUsages) → T (reason_keeps reason result u) → T (keeps_use end result u)) where
     under : {φ : CycleHead → Option CycleHead → CycleHead} (e : Entry) → Moves end e φ → (o : Option ℕ)
-        → optHighestIndex (movedBy φ e.heads) ≡ o → KeptAs end e (underNewHead s p e (movedBy φ e.heads))
-    under e m none h = rw (h, underNewHead) tt
-    under {φ} e m (some new) h = rw (h, underNewHead) (moves m new (highest-present (movedBy φ e.heads) new h) _)
+        → opt_highest_index (moved_by φ e.heads) ≡ o → KeptAs end e (under_new_head s p e (moved_by φ e.heads))
+    under e m none h = rw (h, under_new_head) tt
+    under {φ} e m (some new) h = rw (h, under_new_head) (moves m new (highest_present (moved_by φ e.heads) new h) _)
 
     module _ (e : Entry) where
       abbrev used : HeadUsages
-      used = usagesAt e.heads (length s)
+      used = usages_at e.heads (length s)
 
       abbrev ep : ℕ
-      ep = pathsAt e.heads (length s)
+      ep = paths_at e.heads (length s)
 
-      abbrev keepKind : Bool
-      keepKind = pathsKeepKind s p.stepKindFromParent e.pathFromHead ep 0 p.heads
+      abbrev keep_kind : Bool
+      keep_kind = paths_keep_kind s p.step_kind_from_parent e.path_from_head ep 0 p.heads
 
-      over : (a b : Bool) → is_empty used ≡ a → (keepKind && reasonKeeps reason e.result used) ≡ b
-          → KeptAs end e (elim (rebasedHeads s p reason e used ep) [ none ↦ none | some hs ↦ underNewHead s p e hs ])
-      over true b h k = rw (h, rebasedHeads) (under e (unused h) _ refl)
-      over false false h k = rw (h, k, rebasedHeads) tt
+      over : (a b : Bool) → is_empty used ≡ a → (keep_kind && reason_keeps reason e.result used) ≡ b
+          → KeptAs end e (elim (rebased_heads s p reason e used ep) [ none ↦ none | some hs ↦ under_new_head s p e hs ])
+      over true b h k = rw (h, rebased_heads) (under e (unused h) _ refl)
+      over false false h k = rw (h, k, rebased_heads) tt
       over false true h k =
-          rw (h, k, rebasedHeads)
-          (under e (through (fits e.result used (and_right keepKind _ (of-true _ k)))) _ refl)
+          rw (h, k, rebased_heads)
+          (under e (through (fits e.result used (and_right keep_kind _ (of_true _ k)))) _ refl)
 
-      one : (a : Bool) → eqb (highestIndex e.heads) (length s) ≡ a → KeptAs end e (rebaseEntry s p reason e)
-      one false h = rw (h, rebaseEntry) (stays (lower h))
-      one true h = rw (h, rebaseEntry) (over _ _ refl refl)
+      one : (a : Bool) → eqb (highest_index e.heads) (length s) ≡ a → KeptAs end e (rebase_entry s p reason e)
+      one false h = rw (h, rebase_entry) (stays (lower h))
+      one true h = rw (h, rebase_entry) (over _ _ refl refl)
 
-    rebased : (es : List Entry) → Left (Kept end) es (rebaseEntries s p reason es)
+    rebased : (es : List Entry) → Left (Kept end) es (rebase_entries s p reason es)
     rebased [] = empty
-    rebased (e ∷ es) = add (rebaseEntry s p reason e) (one e _ refl) (rebased es)
+    rebased (e ∷ es) = add (rebase_entry s p reason e) (one e _ refl) (rebased es)
 
   -- ---- or cleared for a rerun
-  survived : (e : Entry) (a b : Bool) → eqb (highestIndex e.heads) (length s) ≡ a
-      → is_empty (usagesAt e.heads (length s)) ≡ b → {es ds : List Entry} → Left (Kept ending.Rerun) es ds
+  survived : (e : Entry) (a b : Bool) → eqb (highest_index e.heads) (length s) ≡ a
+      → is_empty (usages_at e.heads (length s)) ≡ b → {es ds : List Entry} → Left (Kept ending.Rerun) es ds
       → Left (Kept ending.Rerun) (e ∷ es) (elim (not a || b) [ true ↦ e ∷ ds | false ↦ ds ])
   survived e false b h u l = keep (stays (lower h)) l
   survived e true true h u l = keep (stays (idle refl h u)) l
@@ -136,43 +136,43 @@ module _ (s : Stack) (p : Frame) where
   cleared [] = empty
   cleared (e ∷ es) = survived e _ _ refl refl (cleared es)
 
-  untouched-all : (es : List Entry) → Left (Kept ending.Nothing) es es
-  untouched-all [] = empty
-  untouched-all (e ∷ es) = keep (stays (untouched refl)) (untouched-all es)
+  untouched_all : (es : List Entry) → Left (Kept ending.Nothing) es es
+  untouched_all [] = empty
+  untouched_all (e ∷ es) = keep (stays (untouched refl)) (untouched_all es)
 
 pub tidied : (end : Ending) (g : Graph) (p : Frame)
-    → Left (Kept g.stack p end) g.provisionalCache (tidyUp end g p).provisionalCache
-tidied ending.Nothing g p = untouched-all g.stack p g.provisionalCache
+    → Left (Kept g.stack p end) g.provisional_cache (tidy_up end g p).provisional_cache
+tidied ending.Nothing g p = untouched_all g.stack p g.provisional_cache
 tidied (ending.Fixpoint fixpoint) g p =
-    rebased g.stack p _ (ReachedFixpoint fixpoint) (λ r u k. k) g.provisionalCache
-tidied ending.NoUsages g p = rebased g.stack p _ NoCycleUsages (λ r u k. k) g.provisionalCache
-tidied (ending.Ambiguity kind) g p = rebased g.stack p _ (Ambiguity kind) (λ r u k. k) g.provisionalCache
-tidied ending.Overflow g p = rebased g.stack p _ (Ambiguity Overflow) (λ r u k. k) g.provisionalCache
-tidied ending.Rerun g p = cleared g.stack p g.provisionalCache
+    rebased g.stack p _ (ReachedFixpoint fixpoint) (λ r u k. k) g.provisional_cache
+tidied ending.NoUsages g p = rebased g.stack p _ NoCycleUsages (λ r u k. k) g.provisional_cache
+tidied (ending.Ambiguity kind) g p = rebased g.stack p _ (Ambiguity kind) (λ r u k. k) g.provisional_cache
+tidied ending.Overflow g p = rebased g.stack p _ (Ambiguity Overflow) (λ r u k. k) g.provisional_cache
+tidied ending.Rerun g p = cleared g.stack p g.provisional_cache
 
 -- no ending adds an entry
-pub tidied-fewer : (end : Ending) (g : Graph) (p : Frame)
-    → length (tidyUp end g p).provisionalCache ≤ length g.provisionalCache
-tidied-fewer end g p = left-fewer (tidied end g p)
+pub tidied_fewer : (end : Ending) (g : Graph) (p : Frame)
+    → length (tidy_up end g p).provisional_cache ≤ length g.provisional_cache
+tidied_fewer end g p = left_fewer (tidied end g p)
 
 -- nothing but the entries is changed
-pub tidies-entries : (end : Ending) (g : Graph) (p : Frame)
-    → tidyUp end g p ≡ withProvisionalCache g (tidyUp end g p).provisionalCache
-tidies-entries ending.Nothing g p = refl
-tidies-entries (ending.Fixpoint fixpoint) g p = refl
-tidies-entries ending.NoUsages g p = refl
-tidies-entries (ending.Ambiguity kind) g p = refl
-tidies-entries ending.Overflow g p = refl
-tidies-entries ending.Rerun g p = refl
+pub tidies_entries : (end : Ending) (g : Graph) (p : Frame)
+    → tidy_up end g p ≡ with_provisional_cache g (tidy_up end g p).provisional_cache
+tidies_entries ending.Nothing g p = refl
+tidies_entries (ending.Fixpoint fixpoint) g p = refl
+tidies_entries ending.NoUsages g p = refl
+tidies_entries (ending.Ambiguity kind) g p = refl
+tidies_entries ending.Overflow g p = refl
+tidies_entries ending.Rerun g p = refl
 
 -- ---- the heads, of which L holds before, and L' afterwards
 abbrev pub EachHead : (ℕ → Type 0) → CycleHeads → Type 0
 EachHead L hs = (i : ℕ) → HasHead hs i → L i
 
-pub not-highest : (n : ℕ) (hs : CycleHeads) → EachHead (λ i. i ≤ n) hs → eqb (highestIndex hs) n ≡ false
+pub not_highest : (n : ℕ) (hs : CycleHeads) → EachHead (λ i. i ≤ n) hs → eqb (highest_index hs) n ≡ false
     → HasHead hs n → ⊥
-not-highest n hs v h q =
-    let t : T (eqb (highestIndex hs) n) = rw (is-highest hs n q v) (eqb_refl n) in
+not_highest n hs v h q =
+    let t : T (eqb (highest_index hs) n) = rw (is_highest hs n q v) (eqb_refl n) in
     rw h at t
 
 module _ (s : Stack) (p : Frame) (L L' : ℕ → Type 0) (bound : (i : ℕ) → L i → i ≤ length s)
@@ -180,33 +180,33 @@ module _ (s : Stack) (p : Frame) (L L' : ℕ → Type 0) (bound : (i : ℕ) → 
   unnamed : (hs : CycleHeads) → EachHead L hs → (HasHead hs (length s) → ⊥) → EachHead L' hs
   unnamed hs v h i q = others i (λ z. h (rw z at q)) (v i q)
 
-  moved-heads : (φ : CycleHead → Option CycleHead → CycleHead) (hs : CycleHeads) → EachHead L hs
-      → EachHead L' (movedBy s p φ hs)
-  moved-heads φ hs v i q = go (each_from φ (removeHead hs (length s)) p.heads i q)
+  moved_heads : (φ : CycleHead → Option CycleHead → CycleHead) (hs : CycleHeads) → EachHead L hs
+      → EachHead L' (moved_by s p φ hs)
+  moved_heads φ hs v i q = go (each_from φ (remove_head hs (length s)) p.heads i q)
     where
-      go : HasHead (removeHead hs (length s)) i ⊎ HasHead p.heads i → L' i
-      go (inl r) = let (d, h) = removed-from hs (length s) i r in others i d (v i h)
+      go : HasHead (remove_head hs (length s)) i ⊎ HasHead p.heads i → L' i
+      go (inl r) = let (d, h) = removed_from hs (length s) i r in others i d (v i h)
       go (inr r) = own i r
 
   -- with a rerun L still holds of an entry whose highest head is p
-  pub kept-heads : {end : Ending} (e d : Entry) → Kept s p end e d → EachHead L e.heads
+  pub kept_heads : {end : Ending} (e d : Entry) → Kept s p end e d → EachHead L e.heads
       → (end ≡ ending.Nothing → HasHead e.heads (length s) → ⊥)
       → EachHead L' d.heads
-      ⊎ ((end ≡ ending.Rerun) × EachHead L d.heads × (highestIndex d.heads ≡ length s))
-  kept-heads e d (stays (untouched z)) v h = inl (unnamed e.heads v (h z))
-  kept-heads e d (stays (lower z)) v h =
-      inl (unnamed e.heads v (not-highest (length s) e.heads (λ i q. bound i (v i q)) z))
-  kept-heads e d (stays (idle z h u)) v k =
-      inr (z, v, eqb→eq (highestIndex e.heads) (length s) (of-true _ h))
-  kept-heads e d (moves {φ} m i q path) v h = inl (moved-heads φ e.heads v)
+      ⊎ ((end ≡ ending.Rerun) × EachHead L d.heads × (highest_index d.heads ≡ length s))
+  kept_heads e d (stays (untouched z)) v h = inl (unnamed e.heads v (h z))
+  kept_heads e d (stays (lower z)) v h =
+      inl (unnamed e.heads v (not_highest (length s) e.heads (λ i q. bound i (v i q)) z))
+  kept_heads e d (stays (idle z h u)) v k =
+      inr (z, v, eqb→eq (highest_index e.heads) (length s) (of_true _ h))
+  kept_heads e d (moves {φ} m i q path) v h = inl (moved_heads φ e.heads v)
 
 -- ---- document 02: the heads that are on the stack
-pub keeps-heads : PopKeepsHeads
-keeps-heads end g p s z own v =
+pub keeps_heads_lem : PopKeepsHeads
+keeps_heads_lem end g p s z own v =
     rw (z, pop) (
-      ap (λ (g : Graph). g.stack) (tidies-entries end (withStack g s) p),
-      left-every (HeadsBefore end (length s)) (HeadsAfter end (length s))
-          (λ e d k w. kept-heads s p (λ i. i < suc (length s)) (λ i. i < length s) (λ i l. omega arith)
+      ap (λ (g : Graph). g.stack) (tidies_entries end (with_stack g s) p),
+      left_every (HeadsBefore end (length s)) (HeadsAfter end (length s))
+          (λ e d k w. kept_heads s p (λ i. i < suc (length s)) (λ i. i < length s) (λ i l. omega arith)
           (λ i d l. omega arith) own e d k w.0 w.1)
-          (tidied end (withStack g s) p) v,
+          (tidied end (with_stack g s) p) v,
     )

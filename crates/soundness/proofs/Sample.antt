@@ -6,72 +6,72 @@ use native.Mathlib.Omega.{arith}
 use lib.Dec.{T}
 use lib.ListN.{replicate}
 use Rattle.definition.specs.Query.{query}
-use Rattle.definition.specs.Reader.{Accepted, readBook}
-use Rattle.definition.specs.Usages.{counterLimit}
+use Rattle.definition.specs.Reader.{Accepted, read_book}
+use Rattle.definition.specs.Usages.{counter_limit}
 use Rattle.definition.specs.declared.answers.Answer.TheVariants.{Yes}
 use Rattle.definition.specs.declared.paths.PathKind.TheVariants.{Coinductive, Inductive}
 use Rattle.definition.specs.declared.replies.Response.TheVariants.{Answered}
 use Rattle.soundness.specs.Groups.{GroupsFit, OneKindEach, grouped, reaches}
 use Rattle.soundness.specs.Sets.{greatest, least}
 use Rattle.soundness.specs.Statement.{AllRight}
-use Rattle.soundness.proofs.SampleBooks.{book, bytes, lines, mixedBook, mixedBytes, mixedQueries, queries, tornBook, tornBytes, workspace}
-use Rattle.soundness.proofs.Reading.{any-read}
-use Rattle.soundness.proofs.Choices.{test-mixed}
-use Rattle.soundness.proofs.Theorems.{demand-3, mixed-books, mixed-groups}
+use Rattle.soundness.proofs.SampleBooks.{book, bytes, lines, mixed_book, mixed_bytes, mixed_queries, queries, torn_book, torn_bytes, workspace}
+use Rattle.soundness.proofs.Reading.{any_read}
+use Rattle.soundness.proofs.Choices.{test_mixed}
+use Rattle.soundness.proofs.Theorems.{demand_3, mixed_books, mixed_groups}
 
-inductive-right : AllRight (least (book Inductive)) (bytes 0) (replicate 35 0) queries
-inductive-right =
-    demand-3.no-coinductive-step (bytes 0) (book Inductive) (lines 0) refl refl
+inductive_right : AllRight (least (book Inductive)) (bytes 0) (replicate 35 0) queries
+inductive_right =
+    demand_3.no_coinductive_step (bytes 0) (book Inductive) (lines 0) refl refl
     (λ e h. omega arith, (λ e h. omega arith, (λ e h. omega arith, tt))) 35 queries
 
-coinductive-right : AllRight (greatest (book Coinductive)) (bytes 2) (replicate 35 0) queries
-coinductive-right =
-    demand-3.no-inductive-step (bytes 2) (book Coinductive) (lines 2) refl refl
+coinductive_right : AllRight (greatest (book Coinductive)) (bytes 2) (replicate 35 0) queries
+coinductive_right =
+    demand_3.no_inductive_step (bytes 2) (book Coinductive) (lines 2) refl refl
     (λ e h. omega arith, (λ e h. omega arith, (λ e h. omega arith, tt))) 35 queries
 
 -- the first is answered No, so the goal is outside the least set; the second Yes, so it is in the greatest
-pub outside-least : (reading : Bool) → T (not (least (book Inductive) reading 0))
-unfolding counterLimit
-outside-least = inductive-right.0.whenNo refl
+pub outside_least : (reading : Bool) → T (not (least (book Inductive) reading 0))
+unfolding counter_limit
+outside_least = inductive_right.0.when_no refl
 
-pub in-greatest : (reading : Bool) → T (greatest (book Coinductive) reading 0)
-unfolding counterLimit
-in-greatest = coinductive-right.0.whenYes refl
+pub in_greatest : (reading : Bool) → T (greatest (book Coinductive) reading 0)
+unfolding counter_limit
+in_greatest = coinductive_right.0.when_yes refl
 
 -- the two sets of one book differ
-pub sets-differ : T (not (least (book Inductive) true 0)) × T (greatest (book Inductive) false 0)
-sets-differ = (tt, tt)
+pub sets_differ : T (not (least (book Inductive) true 0)) × T (greatest (book Inductive) false 0)
+sets_differ = (tt, tt)
 
 -- ---- a mixed book, its choice and its order
-mixed-read : readBook mixedBytes ≡ Accepted mixedBook
-mixed-read = refl
+mixed_read : read_book mixed_bytes ≡ Accepted mixed_book
+mixed_read = refl
 
-pub condition : OneKindEach mixedBook
+pub condition : OneKindEach mixed_book
 unfolding reaches
-condition = test-mixed mixedBook (any-read mixedBytes mixedBook mixed-read) tt
+condition = test_mixed mixed_book (any_read mixed_bytes mixed_book mixed_read) tt
 
-pub fit : GroupsFit mixedBook
-fit = mixed-groups mixedBytes mixedBook mixed-read
+pub fit : GroupsFit mixed_book
+fit = mixed_groups mixed_bytes mixed_book mixed_read
 
-mixed-right : AllRight (grouped mixedBook (fit.choice condition).0 fit.order.0) mixedBytes (replicate 84 0)
-    mixedQueries
-mixed-right =
-    mixed-books mixedBytes mixedBook mixed-read (fit.choice condition).0 (fit.choice condition).1 fit.order.0
-    fit.order.1 84 mixedQueries
+mixed_right : AllRight (grouped mixed_book (fit.choice condition).0 fit.order.0) mixed_bytes (replicate 84 0)
+    mixed_queries
+mixed_right =
+    mixed_books mixed_bytes mixed_book mixed_read (fit.choice condition).0 (fit.choice condition).1 fit.order.0
+    fit.order.1 84 mixed_queries
 
 -- the first is answered Yes and the second No, so goal 1 is in the set and goal 0 is not
-pub mixed-in : (reading : Bool) → T (grouped mixedBook (fit.choice condition).0 fit.order.0 reading 1)
-unfolding counterLimit
-mixed-in = mixed-right.0.whenYes refl
+pub mixed_in : (reading : Bool) → T (grouped mixed_book (fit.choice condition).0 fit.order.0 reading 1)
+unfolding counter_limit
+mixed_in = mixed_right.0.when_yes refl
 
-pub mixed-out : (reading : Bool) → T (not (grouped mixedBook (fit.choice condition).0 fit.order.0 reading 0))
-unfolding counterLimit
-mixed-out = mixed-right.1.0.whenNo refl
+pub mixed_out : (reading : Bool) → T (not (grouped mixed_book (fit.choice condition).0 fit.order.0 reading 0))
+unfolding counter_limit
+mixed_out = mixed_right.1.0.when_no refl
 
 -- ---- the condition is needed: a goal that calls itself by a step of either kind is answered Yes, and the least set
 -- does not have it
-pub not-torn : (readBook tornBytes ≡ Accepted tornBook)
-    × ((query tornBytes (replicate 35 0) workspace 0 1).response ≡ Answered Yes)
-    × T (not (least tornBook true 0))
-unfolding counterLimit
-not-torn = (refl, refl, tt)
+pub not_torn : (read_book torn_bytes ≡ Accepted torn_book)
+    × ((query torn_bytes (replicate 35 0) workspace 0 1).response ≡ Answered Yes)
+    × T (not (least torn_book true 0))
+unfolding counter_limit
+not_torn = (refl, refl, tt)

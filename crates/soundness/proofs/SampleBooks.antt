@@ -4,7 +4,7 @@ use mathlib.Core.List.{List, [], ◌++◌, ◌∷◌}
 use Prim.Native.Nat.{◌+◌, ℕ}
 use lib.ListN.{replicate}
 use Rattle.definition.specs.Part.{Any, Book, Call, End, Node, Then}
-use Rattle.definition.specs.Query.{workLength}
+use Rattle.definition.specs.Query.{work_length}
 use Rattle.definition.specs.declared.format.Header.{Header}
 use Rattle.definition.specs.declared.format.Line.{Line}
 use Rattle.definition.specs.declared.paths.PathKind.{PathKind}
@@ -36,40 +36,40 @@ abbrev pub lines : ℕ → List Line
 lines kind = line 1 1 5 1 1 ∷ line 1 0 0 0 0 ∷ line 2 0 kind 1 0 ∷ []
 
 -- ---- one goal, T 5; its part is an empty all
-abbrev pub emptyAll : List ℕ
-emptyAll = digits 1 1 5 1 1 ++ (digits 1 0 0 0 0 ++ digits 3 0 0 0 0)
+abbrev pub empty_all : List ℕ
+empty_all = digits 1 1 5 1 1 ++ (digits 1 0 0 0 0 ++ digits 3 0 0 0 0)
 
 -- ---- two goals, each a group, T 5, L 2: goal 0 calls itself by an inductive step, goal 1 itself by a coinductive
 -- one, and goal 0
-abbrev pub mixedBytes : List ℕ
-mixedBytes =
+abbrev pub mixed_bytes : List ℕ
+mixed_bytes =
     digits 1 2 5 2 1
     ++ (digits 1 0 0 0 0 ++
     (digits 2 0 0 1 0 ++ (digits 1 1 0 0 0 ++ (digits 4 2 0 0 0 ++ (digits 2 0 0 1 0 ++ digits 2 1 2 1 0)))))
 
-abbrev pub mixedLines : List Line
-mixedLines =
+abbrev pub mixed_lines : List Line
+mixed_lines =
     line 1 2 5 2 1 ∷ line 1 0 0 0 0 ∷ line 2 0 0 1 0 ∷ line 1 1 0 0 0 ∷ line 4 2 0 0 0 ∷ line 2 0 0 1 0 ∷ line 2 1 2 1 0
     ∷ []
 
-abbrev pub mixedBook : Book
-mixedBook =
+abbrev pub mixed_book : Book
+mixed_book =
     record {
       header = record { provisional = true; goals = 2; top = 5; limit = 2; divisor = 1 };
       parts = Call 0 Inductive true ∷ Node Any (Then (Call 0 Inductive true) (Then (Call 1 Coinductive true) End)) ∷ [];
     }
 
-abbrev pub mixedQueries : List Query
-mixedQueries =
-    record { goal = 1; depth = 5; work = replicate (workLength 2) 7 } ∷ record
-    { goal = 0; depth = 5; work = replicate (workLength 2) 7 } ∷ []
+abbrev pub mixed_queries : List Query
+mixed_queries =
+    record { goal = 1; depth = 5; work = replicate (work_length 2) 7 } ∷ record
+    { goal = 0; depth = 5; work = replicate (work_length 2) 7 } ∷ []
 
 -- ---- one goal, T 5, L 2, that calls itself by a step of either kind
-abbrev pub tornBytes : List ℕ
-tornBytes = digits 1 1 5 2 1 ++ (digits 1 0 0 0 0 ++ (digits 4 2 0 0 0 ++ (digits 2 0 0 1 0 ++ digits 2 0 2 1 0)))
+abbrev pub torn_bytes : List ℕ
+torn_bytes = digits 1 1 5 2 1 ++ (digits 1 0 0 0 0 ++ (digits 4 2 0 0 0 ++ (digits 2 0 0 1 0 ++ digits 2 0 2 1 0)))
 
-abbrev pub tornBook : Book
-tornBook =
+abbrev pub torn_book : Book
+torn_book =
     record {
       header = record { provisional = true; goals = 1; top = 5; limit = 2; divisor = 1 };
       parts = Node Any (Then (Call 0 Inductive true) (Then (Call 0 Coinductive true) End)) ∷ [];
@@ -77,11 +77,11 @@ tornBook =
 
 -- ---- queries of goal 0
 abbrev pub workspace : List ℕ
-workspace = replicate (workLength 1) 7
+workspace = replicate (work_length 1) 7
 
-abbrev pub atDepth : ℕ → Query
-atDepth depth = record { goal = 0; depth = depth; work = workspace }
+abbrev pub at_depth : ℕ → Query
+at_depth depth = record { goal = 0; depth = depth; work = workspace }
 
 -- a query at depth 1, one that is refused, and the first again at depth 5
 abbrev pub queries : List Query
-queries = atDepth 1 ∷ record { goal = 3; depth = 1; work = [] } ∷ atDepth 5 ∷ []
+queries = at_depth 1 ∷ record { goal = 3; depth = 1; work = [] } ∷ at_depth 5 ∷ []

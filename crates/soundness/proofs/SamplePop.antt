@@ -15,7 +15,7 @@ use Rattle.definition.specs.declared.endings.Ending.TheVariants as ending
 use Rattle.definition.specs.declared.endings.Fixpoint.TheVariants.{Later}
 use Rattle.soundness.specs.Always.{Every, HasHead, HeadsBelow}
 use Rattle.soundness.specs.Pop.{HeadsAfter, HeadsBefore, PopKeepsHeads}
-use Rattle.soundness.proofs.SampleAlways.{entry, head1, not_there, someHead}
+use Rattle.soundness.proofs.SampleAlways.{entry, head1, not_there, some_head}
 
 abbrev IsRerun : Ending → Type 0
 IsRerun ending.Nothing = ⊥
@@ -43,26 +43,26 @@ below_two : HeadsBelow 2 head1
 below_two i h = omega (arith, at_one i h)
 
 -- a head lies below only what is above it
-not-below : HeadsBelow 1 head1 → ⊥
-not-below h = omega (arith, h 1 (someHead, refl))
+not_below : HeadsBelow 1 head1 → ⊥
+not_below h = omega (arith, h 1 (some_head, refl))
 
 -- ---- before
 named : (end : Ending) → (end ≡ ending.Nothing → ⊥) → HeadsBefore end 1 (entry head1)
 named end h = (below_two, λ z p. h z)
 
-not-with-nothing : HeadsBefore ending.Nothing 1 (entry head1) → ⊥
-not-with-nothing v = v.1 refl (someHead, refl)
+not_with_nothing : HeadsBefore ending.Nothing 1 (entry head1) → ⊥
+not_with_nothing v = v.1 refl (some_head, refl)
 
-not-on-the-stack : (end : Ending) → HeadsBefore end 0 (entry head1) → ⊥
-not-on-the-stack end v = omega (arith, v.0 1 (someHead, refl))
+not_on_the_stack : (end : Ending) → HeadsBefore end 0 (entry head1) → ⊥
+not_on_the_stack end v = omega (arith, v.0 1 (some_head, refl))
 
 -- ---- after
-rerun-may : HeadsAfter ending.Rerun 1 (entry head1)
-rerun-may = inr (refl, below_two, refl)
+rerun_may : HeadsAfter ending.Rerun 1 (entry head1)
+rerun_may = inr (refl, below_two, refl)
 
-others-may-not : (end : Ending) → (IsRerun end → ⊥) → HeadsAfter end 1 (entry head1) → ⊥
-others-may-not end h (inl b) = not-below b
-others-may-not end h (inr (z, b, t)) = h (subst IsRerun (sym z) tt)
+others_may_not : (end : Ending) → (IsRerun end → ⊥) → HeadsAfter end 1 (entry head1) → ⊥
+others_may_not end h (inl b) = not_below b
+others_may_not end h (inr (z, b, t)) = h (subst IsRerun (sym z) tt)
 
 -- ---- the pop: at a fixpoint the heads are on the stack that remains
 module _ (keeps : PopKeepsHeads) (g : Graph) (p : Frame) (s : Stack) (is : g.stack ≡ p ∷ s)
@@ -70,25 +70,25 @@ module _ (keeps : PopKeepsHeads) (g : Graph) (p : Frame) (s : Stack) (is : g.sta
   abbrev Below : ℕ → Entry → Type 0
   Below n e = HeadsBelow n e.heads
 
-  named-all : (es : List Entry) → Every (Below (suc (length s))) es
+  named_all : (es : List Entry) → Every (Below (suc (length s))) es
       → Every (HeadsBefore (ending.Fixpoint Later) (length s)) es
-  named-all [] v = tt
-  named-all (e ∷ es) v = ((v.0, λ z q. subst IsFixpoint z tt), named-all es v.1)
+  named_all [] v = tt
+  named_all (e ∷ es) v = ((v.0, λ z q. subst IsFixpoint z tt), named_all es v.1)
 
-  lower-all : (es : List Entry) → Every (HeadsAfter (ending.Fixpoint Later) (length s)) es
+  lower_all : (es : List Entry) → Every (HeadsAfter (ending.Fixpoint Later) (length s)) es
       → Every (Below (length s)) es
-  lower-all [] v = tt
-  lower-all (e ∷ es) v = (one v.0, lower-all es v.1)
+  lower_all [] v = tt
+  lower_all (e ∷ es) v = (one v.0, lower_all es v.1)
     where
       one : HeadsAfter (ending.Fixpoint Later) (length s) e → Below (length s) e
       one (inl h) = h
       one (inr (z, b, t)) = absurd (subst IsFixpoint z tt)
 
-  at-a-fixpoint : Every (Below (suc (length s))) g.provisionalCache
-      → Every (Below (length s)) (pop (ending.Fixpoint Later) g).provisionalCache
-  at-a-fixpoint v =
-      lower-all (pop (ending.Fixpoint Later) g).provisionalCache
-      (keeps (ending.Fixpoint Later) g p s is lower (named-all g.provisionalCache v)).1
+  at_a_fixpoint : Every (Below (suc (length s))) g.provisional_cache
+      → Every (Below (length s)) (pop (ending.Fixpoint Later) g).provisional_cache
+  at_a_fixpoint v =
+      lower_all (pop (ending.Fixpoint Later) g).provisional_cache
+      (keeps (ending.Fixpoint Later) g p s is lower (named_all g.provisional_cache v)).1
 
-  stack-remains : Every (HeadsBefore ending.Rerun (length s)) g.provisionalCache → (pop ending.Rerun g).stack ≡ s
-  stack-remains v = (keeps ending.Rerun g p s is lower v).0
+  stack_remains : Every (HeadsBefore ending.Rerun (length s)) g.provisional_cache → (pop ending.Rerun g).stack ≡ s
+  stack_remains v = (keeps ending.Rerun g p s is lower v).0

@@ -5,43 +5,43 @@ use Rattle.std.proofs.Math.Option.{none, some}
 use Rattle.definition.specs.declared.paths.PathKind.{PathKind}
 use Rattle.definition.specs.declared.paths.PathKind.TheVariants.{Inductive, Coinductive}
 use Rattle.definition.specs.declared.format.Line.{Line}
-use Rattle.definition.specs.Paths.{kind_of, sameKind}
+use Rattle.definition.specs.Paths.{kind_of, same_kind}
 use Rattle.definition.specs.Part.{Part, Parts, Call, Node, UndecidedLine, End, Then, Book, part_at}
-use Rattle.definition.specs.Reader.{Accepted, readBook}
-use Rattle.soundness.specs.Sets.{Closed, Goals, SelfSupporting, allGoals, greatest, iter, least, noGoals, round}
+use Rattle.definition.specs.Reader.{Accepted, read_book}
+use Rattle.soundness.specs.Sets.{Closed, Goals, SelfSupporting, all_goals, greatest, iter, least, no_goals, round}
 use Rattle.soundness.specs.Statement.{Query, AllRight}
 
 -- ---- steps
 
 -- some call of a part, with its goal and kind, is wanted
 abbrev mutual
-  pub someCall : (ℕ → PathKind → Bool) → Part → Bool
-  someCall wanted (Call goal kind lower) = wanted goal kind
-  someCall wanted (Node op ps) = someCallIn wanted ps
-  someCall wanted UndecidedLine = false
+  pub some_call : (ℕ → PathKind → Bool) → Part → Bool
+  some_call wanted (Call goal kind lower) = wanted goal kind
+  some_call wanted (Node op ps) = some_call_in wanted ps
+  some_call wanted UndecidedLine = false
 
-  pub someCallIn : (ℕ → PathKind → Bool) → Parts → Bool
-  someCallIn wanted End = false
-  someCallIn wanted (Then p ps) = someCall wanted p || someCallIn wanted ps
+  pub some_call_in : (ℕ → PathKind → Bool) → Parts → Bool
+  some_call_in wanted End = false
+  some_call_in wanted (Then p ps) = some_call wanted p || some_call_in wanted ps
 
 -- of a goal's own part
-abbrev pub callsSome : Book → (ℕ → PathKind → Bool) → Goals
-callsSome b wanted goal = elim (part_at b.parts goal) [ none ↦ false | some p ↦ someCall wanted p ]
+abbrev pub calls_some : Book → (ℕ → PathKind → Bool) → Goals
+calls_some b wanted goal = elim (part_at b.parts goal) [ none ↦ false | some p ↦ some_call wanted p ]
 
 -- a step: the caller's part has a call of the goal, of that kind
-abbrev pub hasStep : Book → ℕ → ℕ → PathKind → Bool
-hasStep b caller goal kind = callsSome b (λ g k. eqb g goal && sameKind k kind) caller
+abbrev pub has_step : Book → ℕ → ℕ → PathKind → Bool
+has_step b caller goal kind = calls_some b (λ g k. eqb g goal && same_kind k kind) caller
 
 -- ---- linked goals
 
 -- the goal itself, and the goals that call one of the set
 abbrev pub towards : Book → ℕ → Goals → Goals
-towards b goal s caller = eqb caller goal || callsSome b (λ g k. s g) caller
+towards b goal s caller = eqb caller goal || calls_some b (λ g k. s g) caller
 
 -- a way by calls from a goal to `goal`
 pub data Way (b : Book) (goal : ℕ) : ℕ → Type 0 where
   there : Way b goal goal
-  by_call : (from next : ℕ) (kind : PathKind) → T (hasStep b from next kind) → Way b goal next → Way b goal from
+  by_call : (from next : ℕ) (kind : PathKind) → T (has_step b from next kind) → Way b goal next → Way b goal from
 
 -- there is a way from `from` to `goal`, computed: as many calls as there are goals are enough
 unfoldable pub reaches : Book → ℕ → ℕ → Bool
@@ -62,7 +62,7 @@ excluded Greatest = Inductive
 
 -- a step inside the group of g: from one of its goals to one of its goals
 pub record Inside (b : Book) (g caller goal : ℕ) (kind : PathKind) : Type 0 where
-  pub step : T (hasStep b caller goal kind)
+  pub step : T (has_step b caller goal kind)
   pub from : T (linked b g caller)
   pub to : T (linked b g goal)
 
@@ -85,21 +85,21 @@ abbrev pub held : Book → ℕ → Goals → Goals → Goals
 held b g s t k = elim (linked b g k) [ true ↦ t k | false ↦ s k ]
 
 -- a round of the group of g, the other goals held fixed
-abbrev pub groupRound : Book → Bool → ℕ → Goals → Goals → Goals
-groupRound b reading g s t = round b reading (held b g s t)
+abbrev pub group_round : Book → Bool → ℕ → Goals → Goals → Goals
+group_round b reading g s t = round b reading (held b g s t)
 
 abbrev pub first : Book → Choice → Goals
-first b Least = noGoals
-first b Greatest = allGoals b
+first b Least = no_goals
+first b Greatest = all_goals b
 
 -- the group of g is built, least from no goals, greatest from all; the other goals stay as in s
-abbrev pub buildGroup : Book → (ℕ → Choice) → Bool → ℕ → Goals → Goals
-buildGroup b choice reading g s = held b g s (iter b.header.goals (groupRound b reading g s) (first b (choice g)))
+abbrev pub build_group : Book → (ℕ → Choice) → Bool → ℕ → Goals → Goals
+build_group b choice reading g s = held b g s (iter b.header.goals (group_round b reading g s) (first b (choice g)))
 
 -- one group after the other, each named by one of its goals
-abbrev pub buildGroups : Book → (ℕ → Choice) → Bool → List ℕ → Goals → Goals
-buildGroups b choice reading [] s = s
-buildGroups b choice reading (g ∷ gs) s = buildGroups b choice reading gs (buildGroup b choice reading g s)
+abbrev pub build_groups : Book → (ℕ → Choice) → Bool → List ℕ → Goals → Goals
+build_groups b choice reading [] s = s
+build_groups b choice reading (g ∷ gs) s = build_groups b choice reading gs (build_group b choice reading g s)
 
 -- the goals whose groups are done, once that of g is
 abbrev pub covered : Book → Goals → ℕ → Goals
@@ -111,13 +111,13 @@ CallsFirst b done [] = (k : ℕ) → k < b.header.goals → T (done k)
 CallsFirst b done (g ∷ gs) = ((k : ℕ) → T (reaches b g k) → T (covered b done g k)) × CallsFirst b (covered b done g) gs
 
 abbrev pub grouped : Book → (ℕ → Choice) → List ℕ → Bool → Goals
-grouped b choice order reading = buildGroups b choice reading order noGoals
+grouped b choice order reading = build_groups b choice reading order no_goals
 
 -- ---- the claim, of every list of queries on an accepted book and a cache of n zeros, for every such choice and order
 abbrev pub RightByGroups : Type 0
 RightByGroups =
-    (bytes : List ℕ) (b : Book) → readBook bytes ≡ Accepted b → (choice : ℕ → Choice) → Chosen b choice
-    → (order : List ℕ) → CallsFirst b noGoals order
+    (bytes : List ℕ) (b : Book) → read_book bytes ≡ Accepted b → (choice : ℕ → Choice) → Chosen b choice
+    → (order : List ℕ) → CallsFirst b no_goals order
     → (n : ℕ) (qs : List Query) → AllRight (grouped b choice order) bytes (replicate n 0) qs
 
 -- ---- what such a set is
@@ -126,14 +126,14 @@ RightByGroups =
 pub record ByGroups (b : Book) (choice : ℕ → Choice) (reading : Bool) (s : Goals) : Type 0 where
   -- a fixed point of the round
   pub closed : Closed b reading s
-  pub selfSupporting : SelfSupporting b reading s
+  pub self_supporting : SelfSupporting b reading s
   -- in a group of choice Least: every t that is closed there, given the other goals, has all goals of s there
   pub least : (g : ℕ) → choice g ≡ Least → (t : Goals)
-      → ((k : ℕ) → T (linked b g k) → T (groupRound b reading g s t k) → T (t k))
+      → ((k : ℕ) → T (linked b g k) → T (group_round b reading g s t k) → T (t k))
       → (k : ℕ) → T (linked b g k) → T (s k) → T (t k)
   -- in a group of choice Greatest: s has all goals there of every t that supports itself there, given the other goals
   pub greatest : (g : ℕ) → choice g ≡ Greatest → (t : Goals)
-      → ((k : ℕ) → T (linked b g k) → T (t k) → T (groupRound b reading g s t k))
+      → ((k : ℕ) → T (linked b g k) → T (t k) → T (group_round b reading g s t k))
       → (k : ℕ) → T (linked b g k) → T (t k) → T (s k)
 
 -- what is claimed of an accepted book, so that its groups, choices and sets are the ones that are meant
@@ -144,16 +144,16 @@ pub record GroupsFit (b : Book) : Type 0 where
   -- there is a choice exactly where the book meets the condition, and there always is an order
   pub choice : OneKindEach b → (choice : ℕ → Choice) × Chosen b choice
   pub condition : (choice : ℕ → Choice) → Chosen b choice → OneKindEach b
-  pub order : (order : List ℕ) × CallsFirst b noGoals order
+  pub order : (order : List ℕ) × CallsFirst b no_goals order
   -- the set is what the record above says of it, and no other set is: so every order makes the same set
-  pub set : (choice : ℕ → Choice) → Chosen b choice → (order : List ℕ) → CallsFirst b noGoals order → (reading : Bool)
+  pub set : (choice : ℕ → Choice) → Chosen b choice → (order : List ℕ) → CallsFirst b no_goals order → (reading : Bool)
       → ByGroups b choice reading (grouped b choice order reading)
-  pub only : (choice : ℕ → Choice) → Chosen b choice → (order : List ℕ) → CallsFirst b noGoals order → (reading : Bool)
+  pub only : (choice : ℕ → Choice) → Chosen b choice → (order : List ℕ) → CallsFirst b no_goals order → (reading : Bool)
       → (s : Goals) → ByGroups b choice reading s → s ≡ grouped b choice order reading
   -- with one choice for all groups it is the least set, or the greatest
-  pub allLeast : (order : List ℕ) → CallsFirst b noGoals order → (reading : Bool)
+  pub all_least : (order : List ℕ) → CallsFirst b no_goals order → (reading : Bool)
       → grouped b (λ g. Least) order reading ≡ least b reading
-  pub allGreatest : (order : List ℕ) → CallsFirst b noGoals order → (reading : Bool)
+  pub all_greatest : (order : List ℕ) → CallsFirst b no_goals order → (reading : Bool)
       → grouped b (λ g. Greatest) order reading ≡ greatest b reading
 
 -- ---- the steps, by the book's lines
@@ -166,24 +166,24 @@ pub record StepLine : Type 0 where
   pub kind : PathKind
 
 -- of the lines from number n on, where the goal line before them is the caller's
-abbrev pub stepLinesFrom : ℕ → ℕ → List Line → List StepLine
-stepLinesFrom n caller [] = []
-stepLinesFrom n caller (l ∷ ls) =
+abbrev pub step_lines_from : ℕ → ℕ → List Line → List StepLine
+step_lines_from n caller [] = []
+step_lines_from n caller (l ∷ ls) =
     elim (eqb l.code 1) [
-      | true ↦ stepLinesFrom (suc n) l.first ls
+      | true ↦ step_lines_from (suc n) l.first ls
       | false ↦
           elim (eqb l.code 2) [
             | true ↦
                 record { line = n; caller = caller; goal = l.first; kind = kind_of l.second }
-                ∷ stepLinesFrom (suc n) caller ls
-            | false ↦ stepLinesFrom (suc n) caller ls
+                ∷ step_lines_from (suc n) caller ls
+            | false ↦ step_lines_from (suc n) caller ls
           ]
     ]
 
 -- of a book's lines
-abbrev pub stepLines : List Line → List StepLine
-stepLines [] = []
-stepLines (header ∷ ls) = stepLinesFrom 1 0 ls
+abbrev pub step_lines : List Line → List StepLine
+step_lines [] = []
+step_lines (header ∷ ls) = step_lines_from 1 0 ls
 
 abbrev pub EveryStep : (StepLine → Type 0) → List StepLine → Type 0
 EveryStep P [] = Unit {0}
@@ -195,6 +195,6 @@ SomeStep P (s ∷ ss) = P s ⊎ SomeStep P ss
 
 -- each call line is a step of the goal in whose part it stands, and each step of a part has a line
 pub record StepsAreLines (b : Book) (ls : List Line) : Type 0 where
-  pub lines : EveryStep (λ s. T (hasStep b s.caller s.goal s.kind)) (stepLines ls)
-  pub steps : (caller goal : ℕ) (kind : PathKind) → T (hasStep b caller goal kind)
-      → SomeStep (λ s. (s.caller ≡ caller) × (s.goal ≡ goal) × (s.kind ≡ kind)) (stepLines ls)
+  pub lines : EveryStep (λ s. T (has_step b s.caller s.goal s.kind)) (step_lines ls)
+  pub steps : (caller goal : ℕ) (kind : PathKind) → T (has_step b caller goal kind)
+      → SomeStep (λ s. (s.caller ≡ caller) × (s.goal ≡ goal) × (s.kind ≡ kind)) (step_lines ls)

@@ -2,7 +2,7 @@
 use Rattle.std.specs.Prelude.{◌≡◌, ◌⊎◌, ◌∷◌, ℕ, suc, length}
 use Rattle.definition.specs.declared.endings.Ending.{Ending}
 use Rattle.definition.specs.declared.endings.Ending.TheVariants as ending
-use Rattle.definition.specs.Heads.{highestIndex}
+use Rattle.definition.specs.Heads.{highest_index}
 use Rattle.definition.specs.Stack.{Frame, Stack}
 use Rattle.definition.specs.Graph.{Entry, Graph}
 use Rattle.definition.specs.Endings.{pop}
@@ -17,11 +17,11 @@ HeadsBefore end n e = HeadsBelow (suc n) e.heads × (end ≡ ending.Nothing → 
 abbrev pub HeadsAfter : Ending → ℕ → Entry → Type 0
 HeadsAfter end n e =
     HeadsBelow n e.heads
-    ⊎ ((end ≡ ending.Rerun) × HeadsBelow (suc n) e.heads × (highestIndex e.heads ≡ n))
+    ⊎ ((end ≡ ending.Rerun) × HeadsBelow (suc n) e.heads × (highest_index e.heads ≡ n))
 
 abbrev pub PopKeepsHeads : Type 0
 PopKeepsHeads =
     (end : Ending) (g : Graph) (p : Frame) (s : Stack) → g.stack ≡ p ∷ s
     → HeadsBelow (length s) p.heads
-    → Every (HeadsBefore end (length s)) g.provisionalCache
-    → ((pop end g).stack ≡ s) × Every (HeadsAfter end (length s)) (pop end g).provisionalCache
+    → Every (HeadsBefore end (length s)) g.provisional_cache
+    → ((pop end g).stack ≡ s) × Every (HeadsAfter end (length s)) (pop end g).provisional_cache

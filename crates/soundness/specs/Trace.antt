@@ -10,18 +10,18 @@ use Rattle.definition.specs.declared.endings.Ending.{Ending}
 use Rattle.definition.specs.declared.endings.Ending.TheVariants as ending
 use Rattle.definition.specs.declared.format.Header.{Header}
 use Rattle.definition.specs.declared.replies.Refusal.TheVariants.{Unreachable}
-use Rattle.definition.specs.Answers.{sameAnswer}
-use Rattle.definition.specs.Candidates.{enterSingleCandidate, finishSingleCandidate}
-use Rattle.definition.specs.Endings.{endingOf, pop}
-use Rattle.definition.specs.Evaluate.{Evaluator, computeGoal, evalPart, evaluateGoal, evaluateGoalWith, newFrame}
-use Rattle.definition.specs.Graph.{Done, EvaluationResult, Graph, Outcome, Stopped, withStack}
-use Rattle.definition.specs.Heads.{headsEmpty}
-use Rattle.definition.specs.Lookup.{allowedDepthForNested, checkCycleOnStack, lookupGlobalCache, lookupProvisionalCache}
-use Rattle.definition.specs.Parent.{Ordinary, updateParentGoal}
+use Rattle.definition.specs.Answers.{same_answer}
+use Rattle.definition.specs.Candidates.{enter_single_candidate, finish_single_candidate}
+use Rattle.definition.specs.Endings.{ending_of, pop}
+use Rattle.definition.specs.Evaluate.{Evaluator, compute_goal, eval_part, evaluate_goal, evaluate_goal_with, new_frame}
+use Rattle.definition.specs.Graph.{Done, EvaluationResult, Graph, Outcome, Stopped, with_stack}
+use Rattle.definition.specs.Heads.{heads_empty}
+use Rattle.definition.specs.Lookup.{allowed_depth_for_nested, check_cycle_on_stack, lookup_global_cache, lookup_provisional_cache}
+use Rattle.definition.specs.Parent.{Ordinary, update_parent_goal}
 use Rattle.definition.specs.Part.{All, Any, Book, Call, End, Node, Part, Parts, Pick, Then, UndecidedLine, part_at}
-use Rattle.definition.specs.Query.{newGraph}
+use Rattle.definition.specs.Query.{new_graph}
 use Rattle.definition.specs.Stack.{Stack}
-use Rattle.definition.specs.Task.{Evaluated, TaskOutcome, TaskStopped, evaluateGoalInTask, pushRerun}
+use Rattle.definition.specs.Task.{Evaluated, TaskOutcome, TaskStopped, evaluate_goal_in_task, push_rerun}
 
 pub data Act : Type 0 where
   -- evaluate_goal begins on a goal; it computes the goal, once in each iteration; it ends with an answer
@@ -29,12 +29,12 @@ pub data Act : Type 0 where
   -- a goal's result goes among the provisional entries, or into its slot of the global cache
   InsertsEntry InsertsInSlot : ℕ → EvaluationResult → Act
 
-abbrev pub goalOf : Act → ℕ
-goalOf (Evaluates goal) = goal
-goalOf (Computes goal) = goal
-goalOf (Answers goal) = goal
-goalOf (InsertsEntry goal r) = goal
-goalOf (InsertsInSlot goal r) = goal
+abbrev pub goal_of : Act → ℕ
+goal_of (Evaluates goal) = goal
+goal_of (Computes goal) = goal
+goal_of (Answers goal) = goal
+goal_of (InsertsEntry goal r) = goal
+goal_of (InsertsInSlot goal r) = goal
 
 -- an act, and the state that it finds
 pub record Event : Type 0 where
@@ -53,9 +53,9 @@ after (Done g a) next = next g a
 after (Stopped r) next = []
 
 -- what is met where a lookup finds nothing
-abbrev pub unlessMet : Option Outcome → Trace → Trace
-unlessMet (some o) next = []
-unlessMet none next = next
+abbrev pub unless_met : Option Outcome → Trace → Trace
+unless_met (some o) next = []
+unless_met none next = next
 
 -- ---- compute_goal, over what evaluate_goal meets
 abbrev pub Tracer : Type 0
@@ -63,104 +63,104 @@ Tracer = Graph → ℕ → PathKind → Bool → Trace
 
 module _ (evaluate : Evaluator) (trace : Tracer) (goals : ℕ) where
   abbrev mutual
-    pub tracePart : Part → Graph → Trace
-    tracePart (Call goal kind lower) g = trace g goal kind lower
-    tracePart (Node All ps) g = traceUntil No ps g
-    tracePart (Node Any ps) g = traceUntil Yes ps g
-    tracePart (Node Pick ps) g = tracePick ps g
-    tracePart UndecidedLine g = []
+    pub trace_part : Part → Graph → Trace
+    trace_part (Call goal kind lower) g = trace g goal kind lower
+    trace_part (Node All ps) g = trace_until No ps g
+    trace_part (Node Any ps) g = trace_until Yes ps g
+    trace_part (Node Pick ps) g = trace_pick ps g
+    trace_part UndecidedLine g = []
 
     -- an all stops at a No, an any at a Yes
-    pub traceUntil : Answer → Parts → Graph → Trace
-    traceUntil stop End g = []
-    traceUntil stop (Then p ps) g =
-        tracePart p g ++ after (evalPart evaluate goals p g) λ g1 a.
-        elim (sameAnswer a stop) [ true ↦ [] | false ↦ traceUntil stop ps g1 ]
+    pub trace_until : Answer → Parts → Graph → Trace
+    trace_until stop End g = []
+    trace_until stop (Then p ps) g =
+        trace_part p g ++ after (eval_part evaluate goals p g) λ g1 a.
+        elim (same_answer a stop) [ true ↦ [] | false ↦ trace_until stop ps g1 ]
 
-    pub tracePick : Parts → Graph → Trace
-    tracePick End g = []
-    tracePick (Then p ps) g =
-        tracePart p (enterSingleCandidate goals g) ++
-        after (evalPart evaluate goals p (enterSingleCandidate goals g)) λ g1 a. tracePick ps (finishSingleCandidate g1)
+    pub trace_pick : Parts → Graph → Trace
+    trace_pick End g = []
+    trace_pick (Then p ps) g =
+        trace_part p (enter_single_candidate goals g) ++
+        after (eval_part evaluate goals p (enter_single_candidate goals g)) λ g1 a. trace_pick ps (finish_single_candidate g1)
 
-abbrev pub traceCompute : Evaluator → Tracer → Book → ℕ → Graph → Trace
-traceCompute evaluate trace b input g =
+abbrev pub trace_compute : Evaluator → Tracer → Book → ℕ → Graph → Trace
+trace_compute evaluate trace b input g =
     met g (Computes input) ++
-    elim (part_at b.parts input) [ none ↦ [] | some p ↦ tracePart evaluate trace b.header.goals p g ]
+    elim (part_at b.parts input) [ none ↦ [] | some p ↦ trace_part evaluate trace b.header.goals p g ]
 
 -- ---- evaluate_goal_in_task
 
 -- what is met after an ending: nothing after any but a rerun
-abbrev pub ifRerun : Ending → Trace → Trace
-ifRerun ending.Nothing next = []
-ifRerun (ending.Fixpoint fixpoint) next = []
-ifRerun ending.NoUsages next = []
-ifRerun (ending.Ambiguity kind) next = []
-ifRerun ending.Overflow next = []
-ifRerun ending.Rerun next = next
+abbrev pub if_rerun : Ending → Trace → Trace
+if_rerun ending.Nothing next = []
+if_rerun (ending.Fixpoint fixpoint) next = []
+if_rerun ending.NoUsages next = []
+if_rerun (ending.Ambiguity kind) next = []
+if_rerun ending.Overflow next = []
+if_rerun ending.Rerun next = next
 
 -- an iteration's end: the frame on top is pushed again where it runs again
-abbrev pub traceNext : ℕ → (Graph → Trace) → Graph → Stack → Answer → Trace
-traceNext left rerun g [] result = []
-traceNext left rerun g (f ∷ fs) result =
-    ifRerun (endingOf left f result) (rerun (pushRerun (pop ending.Rerun (withStack g (f ∷ fs))) f result))
+abbrev pub trace_next : ℕ → (Graph → Trace) → Graph → Stack → Answer → Trace
+trace_next left rerun g [] result = []
+trace_next left rerun g (f ∷ fs) result =
+    if_rerun (ending_of left f result) (rerun (push_rerun (pop ending.Rerun (with_stack g (f ∷ fs))) f result))
 
-abbrev pub traceTask : (Graph → Outcome) → (Graph → Trace) → ℕ → Graph → Trace
-traceTask compute trace zero g = trace g
-traceTask compute trace (suc left) g =
-    trace g ++ after (compute g) λ g1 a. traceNext (suc left) (traceTask compute trace left) g1 g1.stack a
+abbrev pub trace_task : (Graph → Outcome) → (Graph → Trace) → ℕ → Graph → Trace
+trace_task compute trace zero g = trace g
+trace_task compute trace (suc left) g =
+    trace g ++ after (compute g) λ g1 a. trace_next (suc left) (trace_task compute trace left) g1 g1.stack a
 
 -- ---- evaluate_goal
-abbrev pub traceInsert : Header → Graph → ℕ → EvaluationResult → Trace
-traceInsert h g input r =
-    elim (headsEmpty r.heads) [
+abbrev pub trace_insert : Header → Graph → ℕ → EvaluationResult → Trace
+trace_insert h g input r =
+    elim (heads_empty r.heads) [
       | true ↦ met g (InsertsInSlot input r)
       | false ↦ elim h.provisional [ true ↦ met g (InsertsEntry input r) | false ↦ [] ]
     ]
 
-abbrev pub traceAfterTask : Header → ℕ → PathKind → ℕ → TaskOutcome → Trace
-traceAfterTask h input step available (TaskStopped r) = []
-traceAfterTask h input step available (Evaluated g r) =
-    traceInsert h
-    (withStack g
-    (updateParentGoal g.stack step r.heads r.encounteredOverflow (Ordinary r.nestedGoals)
-    (available - r.requiredDepth)))
+abbrev pub trace_after_task : Header → ℕ → PathKind → ℕ → TaskOutcome → Trace
+trace_after_task h input step available (TaskStopped r) = []
+trace_after_task h input step available (Evaluated g r) =
+    trace_insert h
+    (with_stack g
+    (update_parent_goal g.stack step r.heads r.encountered_overflow (Ordinary r.nested_goals)
+    (available - r.required_depth)))
     input r
 
-abbrev pub pushNew : Header → Graph → ℕ → PathKind → ℕ → Graph
-pushNew h g input step available = withStack g (newFrame h.goals input step available g.stack ∷ g.stack)
+abbrev pub push_new : Header → Graph → ℕ → PathKind → ℕ → Graph
+push_new h g input step available = with_stack g (new_frame h.goals input step available g.stack ∷ g.stack)
 
-abbrev pub traceNewFrame : Header → (ℕ → Graph → Outcome) → (ℕ → Graph → Trace) → Graph → ℕ → PathKind → ℕ → Trace
-traceNewFrame h compute trace g input step available =
-    traceTask (compute input) (trace input) (pred h.limit) (pushNew h g input step available) ++
-    traceAfterTask h input step available
-    (evaluateGoalInTask (compute input) (pred h.limit) 1 false (pushNew h g input step available))
+abbrev pub trace_new_frame : Header → (ℕ → Graph → Outcome) → (ℕ → Graph → Trace) → Graph → ℕ → PathKind → ℕ → Trace
+trace_new_frame h compute trace g input step available =
+    trace_task (compute input) (trace input) (pred h.limit) (push_new h g input step available) ++
+    trace_after_task h input step available
+    (evaluate_goal_in_task (compute input) (pred h.limit) 1 false (push_new h g input step available))
 
-abbrev pub traceAtDepth : Header → (ℕ → Graph → Outcome) → (ℕ → Graph → Trace) → Graph → ℕ → PathKind → ℕ → Trace
-traceAtDepth h compute trace g input step available =
-    unlessMet (lookupProvisionalCache h g input step available)
-    (unlessMet (lookupGlobalCache h g input step available)
-    (unlessMet (checkCycleOnStack h g input step available)
-    (traceNewFrame h compute trace g input step available)))
+abbrev pub trace_at_depth : Header → (ℕ → Graph → Outcome) → (ℕ → Graph → Trace) → Graph → ℕ → PathKind → ℕ → Trace
+trace_at_depth h compute trace g input step available =
+    unless_met (lookup_provisional_cache h g input step available)
+    (unless_met (lookup_global_cache h g input step available)
+    (unless_met (check_cycle_on_stack h g input step available)
+    (trace_new_frame h compute trace g input step available)))
 
-abbrev pub traceGoalWith : Header → (ℕ → Graph → Outcome) → (ℕ → Graph → Trace) → Tracer
-traceGoalWith h compute trace g input step lower =
+abbrev pub trace_goal_with : Header → (ℕ → Graph → Outcome) → (ℕ → Graph → Trace) → Tracer
+trace_goal_with h compute trace g input step lower =
     met g (Evaluates input) ++
-    (elim (allowedDepthForNested h g.rootDepth g.stack lower) [
+    (elim (allowed_depth_for_nested h g.root_depth g.stack lower) [
       | none ↦ []
-      | some available ↦ traceAtDepth h compute trace g input step available
+      | some available ↦ trace_at_depth h compute trace g input step available
     ] ++
-    after (evaluateGoalWith h compute g input step lower) λ g1 a. met g1 (Answers input))
+    after (evaluate_goal_with h compute g input step lower) λ g1 a. met g1 (Answers input))
 
-abbrev pub traceGoal : Book → ℕ → Tracer
-traceGoal b zero = traceGoalWith b.header (λ input g. Stopped Unreachable) (λ input g. [])
-traceGoal b (suc off) =
-    traceGoalWith b.header (computeGoal (evaluateGoal b off) b)
-    (traceCompute (evaluateGoal b off) (traceGoal b off) b)
+abbrev pub trace_goal : Book → ℕ → Tracer
+trace_goal b zero = trace_goal_with b.header (λ input g. Stopped Unreachable) (λ input g. [])
+trace_goal b (suc off) =
+    trace_goal_with b.header (compute_goal (evaluate_goal b off) b)
+    (trace_compute (evaluate_goal b off) (trace_goal b off) b)
 
 -- the evaluation of a query's root
-abbrev pub traceRoot : Book → List ℕ → ℕ → ℕ → Trace
-traceRoot b cache goal depth = traceGoal b b.header.goals (newGraph depth cache) goal Inductive true
+abbrev pub trace_root : Book → List ℕ → ℕ → ℕ → Trace
+trace_root b cache goal depth = trace_goal b b.header.goals (new_graph depth cache) goal Inductive true
 
 -- ---- what is said of a trace
 

@@ -13,198 +13,198 @@ use Rattle.definition.specs.declared.paths.PathKind.{PathKind}
 use Rattle.definition.specs.declared.paths.PathKind.TheVariants.{Inductive, Unknown, Coinductive, ForcedAmbiguity}
 use Rattle.definition.specs.declared.usages.HeadUsages.{HeadUsages}
 use Rattle.definition.specs.declared.heads.CycleHead.{CycleHead}
-use Rattle.definition.specs.Paths.{extendWith, emptyPath, flagOf}
-use Rattle.definition.specs.Usages.{noUsages, addUsagesFromNested}
-use Rattle.definition.specs.Heads.{insertHead}
-use Rattle.definition.specs.Nested.{NestedGoals, nestedEmpty, insertNested, extendFromChild}
-use Rattle.definition.specs.Stack.{Frame, withReached, withHeads, withOverflow, withUsages, withCandidateUsages, withNestedGoals}
-use Rattle.definition.specs.Parent.{orNoUsages, addRest, Ordinary, CycleOnStack, ProvisionalCacheHit}
+use Rattle.definition.specs.Paths.{extend_with, empty_path, flag_of}
+use Rattle.definition.specs.Usages.{no_usages, add_usages_from_nested}
+use Rattle.definition.specs.Heads.{insert_head}
+use Rattle.definition.specs.Nested.{NestedGoals, nested_empty, insert_nested, extend_from_child}
+use Rattle.definition.specs.Stack.{Frame, with_reached, with_heads, with_overflow, with_usages, with_candidate_usages, with_nested_goals}
+use Rattle.definition.specs.Parent.{or_no_usages, add_rest, Ordinary, CycleOnStack, ProvisionalCacheHit}
 use Rattle.buffer.specs.Regions.{region, overwrite}
-use Rattle.buffer.proofs.Regions.{length-overwrite, region-same}
-use Rattle.layout.specs.Blocks.{usagesOf, headsSize, headsOf, blockSize, candidateOf}
-use Rattle.layout.specs.Frame.{frameOverflow, frameTracks, candidateStart, nestedStart, frameSize, truth, whenSet, frame_of}
-use Rattle.layout.proofs.Frames.{set_after, frame-reached, frame-overflow, frame-has-usages, frame-usages, frame-heads, frame-candidate, frame-nested}
+use Rattle.buffer.proofs.Regions.{length_overwrite, region_same}
+use Rattle.layout.specs.Blocks.{usages_of, heads_size, heads_of, block_size, candidate_of}
+use Rattle.layout.specs.Frame.{frame_overflow, frame_tracks, candidate_start, nested_start, frame_size, truth, when_set, frame_of}
+use Rattle.layout.proofs.Frames.{set_after, frame_reached_lem, frame_overflow_lem, frame_has_usages, frame_usages, frame_heads, frame_candidate, frame_nested}
 use Rattle.stack.specs.Results.{is_some}
-use Rattle.stack.proofs.Parts.{part, returned, part_length, part-back}
-use Rattle.layout.specs.AtIndex.{addFromNestedAt}
-use Rattle.stack.specs.Child.{HeadBegun, trackedAt, joined, used, trackAt, joinAt, useOwn, addHeadAt, reachFrame, insertOwn}
+use Rattle.stack.proofs.Parts.{part, returned, part_length, part_back}
+use Rattle.layout.specs.AtIndex.{add_from_nested_at}
+use Rattle.stack.specs.Child.{HeadBegun, tracked_at, joined, used, track_at, join_at, use_own, add_head_at, reach_frame, insert_own}
 
 -- ---- `track`
-tracked-none : (o : Option (List HeadUsages)) (i : ℕ) (u : HeadUsages) → is_some o ≡ false → o ≡ trackedAt o i u
-tracked-none none i u e = refl
-tracked-none (some us) i u e = absurd (true≢false e)
+tracked_none : (o : Option (List HeadUsages)) (i : ℕ) (u : HeadUsages) → is_some o ≡ false → o ≡ tracked_at o i u
+tracked_none none i u e = refl
+tracked_none (some us) i u e = absurd (true≢false e)
 
-pub track-none : (f : Frame) (i : ℕ) (u : HeadUsages) (t : Bool) → t ≡ is_some f.candidateUsages → t ≡ false → f ≡ trackAt i u f
-track-none f i u t is e = ap (withCandidateUsages f) (tracked-none f.candidateUsages i u (sym is ∙ e))
+pub track_none : (f : Frame) (i : ℕ) (u : HeadUsages) (t : Bool) → t ≡ is_some f.candidate_usages → t ≡ false → f ≡ track_at i u f
+track_none f i u t is e = ap (with_candidate_usages f) (tracked_none f.candidate_usages i u (sym is ∙ e))
 
-tracked : (n : ℕ) (us : List HeadUsages) (i : ℕ) (u : HeadUsages) → whenSet n (addFromNestedAt us i u) ≡ trackedAt (whenSet n us) i u
+tracked : (n : ℕ) (us : List HeadUsages) (i : ℕ) (u : HeadUsages) → when_set n (add_from_nested_at us i u) ≡ tracked_at (when_set n us) i u
 tracked zero us i u = refl
 tracked (suc n) us i u = refl
 
-pub track-frame : (goals : ℕ) (bs ys : List ℕ) (a e i : ℕ) (u : HeadUsages) → length bs ≡ frameSize goals → a ≡ candidateStart goals → e ≡ nestedStart goals
-    → length ys ≡ length (part bs a e) → candidateOf goals ys ≡ addFromNestedAt (candidateOf goals (part bs a e)) i u
-    → frame_of goals (returned bs a e ys) ≡ trackAt i u (frame_of goals bs)
+pub track_frame : (goals : ℕ) (bs ys : List ℕ) (a e i : ℕ) (u : HeadUsages) → length bs ≡ frame_size goals → a ≡ candidate_start goals → e ≡ nested_start goals
+    → length ys ≡ length (part bs a e) → candidate_of goals ys ≡ add_from_nested_at (candidate_of goals (part bs a e)) i u
+    → frame_of goals (returned bs a e ys) ≡ track_at i u (frame_of goals bs)
 unfolding frame_of
-track-frame goals bs ys a e i u long is-a is-e kept is_y =
-    let n : length ys ≡ blockSize goals = omega (arith, part_length bs a e ys (omega arith) (omega arith) kept) in
-    let w : e - a ≡ blockSize goals = omega arith in
-    let us : List HeadUsages = candidateOf goals (region (candidateStart goals) (blockSize goals) bs) in
-    let is : candidateOf goals ys ≡ addFromNestedAt us i u = is_y ∙ ap₂ (λ (k m : ℕ). addFromNestedAt (candidateOf goals (region k m bs)) i u) is-a w in
-    ap (frame_of goals) (part-back bs a e ys (omega arith) (omega arith) kept ∙ ap (λ (k : ℕ). overwrite bs k ys) is-a)
-    ∙ frame-candidate goals bs long ys n
-    ∙ ap (λ (l : List HeadUsages). withCandidateUsages (frame_of goals bs) (whenSet (get_or bs frameTracks 0) l)) is
-    ∙ ap (withCandidateUsages (frame_of goals bs)) (tracked (get_or bs frameTracks 0) us i u)
+track_frame goals bs ys a e i u long is-a is-e kept is_y =
+    let n : length ys ≡ block_size goals = omega (arith, part_length bs a e ys (omega arith) (omega arith) kept) in
+    let w : e - a ≡ block_size goals = omega arith in
+    let us : List HeadUsages = candidate_of goals (region (candidate_start goals) (block_size goals) bs) in
+    let is : candidate_of goals ys ≡ add_from_nested_at us i u = is_y ∙ ap₂ (λ (k m : ℕ). add_from_nested_at (candidate_of goals (region k m bs)) i u) is-a w in
+    ap (frame_of goals) (part_back bs a e ys (omega arith) (omega arith) kept ∙ ap (λ (k : ℕ). overwrite bs k ys) is-a)
+    ∙ frame_candidate goals bs long ys n
+    ∙ ap (λ (l : List HeadUsages). with_candidate_usages (frame_of goals bs) (when_set (get_or bs frame_tracks 0) l)) is
+    ∙ ap (with_candidate_usages (frame_of goals bs)) (tracked (get_or bs frame_tracks 0) us i u)
 
 -- ---- `join`
-pub join-frame : (goals : ℕ) (bs ys : List ℕ) (e i p : ℕ) (step : PathKind) (c : CycleHead) → length bs ≡ frameSize goals → e ≡ candidateStart goals → p ≡ extendWith c.paths step
-    → length ys ≡ length (part bs 40 e) → headsOf goals ys ≡ insertHead (headsOf goals (part bs 40 e)) i p c.usages
-    → frame_of goals (returned bs 40 e ys) ≡ joinAt step i c (frame_of goals bs)
+pub join_frame : (goals : ℕ) (bs ys : List ℕ) (e i p : ℕ) (step : PathKind) (c : CycleHead) → length bs ≡ frame_size goals → e ≡ candidate_start goals → p ≡ extend_with c.paths step
+    → length ys ≡ length (part bs 40 e) → heads_of goals ys ≡ insert_head (heads_of goals (part bs 40 e)) i p c.usages
+    → frame_of goals (returned bs 40 e ys) ≡ join_at step i c (frame_of goals bs)
 unfolding frame_of
-join-frame goals bs ys e i p step c long is-e is-p kept is_y =
-    let n : length ys ≡ headsSize goals = omega (arith, part_length bs 40 e ys (omega arith) (omega arith) kept) in
-    let w : e - 40 ≡ headsSize goals = omega arith in
-    let is : headsOf goals ys ≡ joined step i c (headsOf goals (region 40 (headsSize goals) bs)) = is_y ∙ ap₂ (λ (m q : ℕ). insertHead (headsOf goals (region 40 m bs)) i q c.usages) w is-p in
-    ap (frame_of goals) (part-back bs 40 e ys (omega arith) (omega arith) kept)
-    ∙ frame-heads goals bs long ys n
-    ∙ ap (withHeads (frame_of goals bs)) is
+join_frame goals bs ys e i p step c long is-e is-p kept is_y =
+    let n : length ys ≡ heads_size goals = omega (arith, part_length bs 40 e ys (omega arith) (omega arith) kept) in
+    let w : e - 40 ≡ heads_size goals = omega arith in
+    let is : heads_of goals ys ≡ joined step i c (heads_of goals (region 40 (heads_size goals) bs)) = is_y ∙ ap₂ (λ (m q : ℕ). insert_head (heads_of goals (region 40 m bs)) i q c.usages) w is-p in
+    ap (frame_of goals) (part_back bs 40 e ys (omega arith) (omega arith) kept)
+    ∙ frame_heads goals bs long ys n
+    ∙ ap (with_heads (frame_of goals bs)) is
 
 -- ---- `become_head`
-set-some : (n : ℕ) (u : HeadUsages) → is_some (whenSet n u) ≡ true → n ≢ 0
-set-some zero u e = absurd (true≢false (sym e))
-set-some (suc n) u e = λ q. omega arith
+set_some : (n : ℕ) (u : HeadUsages) → is_some (when_set n u) ≡ true → n ≢ 0
+set_some zero u e = absurd (true≢false (sym e))
+set_some (suc n) u e = λ q. omega arith
 
-some_is : (n : ℕ) (u : HeadUsages) → n ≢ 0 → whenSet n u ≡ some u
+some_is : (n : ℕ) (u : HeadUsages) → n ≢ 0 → when_set n u ≡ some u
 some_is zero u ne = absurd (ne refl)
 some_is (suc n) u ne = refl
 
-none_is : (o : Option HeadUsages) → is_some o ≡ false → orNoUsages o ≡ noUsages
+none_is : (o : Option HeadUsages) → is_some o ≡ false → or_no_usages o ≡ no_usages
 none_is none e = refl
 none_is (some u) e = absurd (true≢false e)
 
-pub head-already : (goals : ℕ) (bs : List ℕ) (t : Bool) → t ≡ is_some (frame_of goals bs).usages → t ≡ true → HeadBegun goals bs bs
+pub head_already : (goals : ℕ) (bs : List ℕ) (t : Bool) → t ≡ is_some (frame_of goals bs).usages → t ≡ true → HeadBegun goals bs bs
 unfolding frame_of
-head-already goals bs t is e =
-    let ne = set-some (get_or bs 6 0) (usagesOf (region 8 32 bs)) (sym is ∙ e) in
+head_already goals bs t is e =
+    let ne = set_some (get_or bs 6 0) (usages_of (region 8 32 bs)) (sym is ∙ e) in
     record {
       marked = ne;
-      usages = sym (ap orNoUsages (some_is (get_or bs 6 0) (usagesOf (region 8 32 bs)) ne));
+      usages = sym (ap or_no_usages (some_is (get_or bs 6 0) (usages_of (region 8 32 bs)) ne));
       others = λ u. refl;
     }
 
-pub head-new : (goals : ℕ) (bs ys : List ℕ) (t : Bool) (x : HeadUsages) → length bs ≡ frameSize goals → t ≡ is_some (frame_of goals bs).usages → t ≡ false
-    → x ≡ noUsages → length ys ≡ length (part bs 8 40) → usagesOf ys ≡ x → HeadBegun goals bs (set (returned bs 8 40 ys) 6 1)
-head-new goals bs ys t x long is e is_x kept is_y =
+pub head_new : (goals : ℕ) (bs ys : List ℕ) (t : Bool) (x : HeadUsages) → length bs ≡ frame_size goals → t ≡ is_some (frame_of goals bs).usages → t ≡ false
+    → x ≡ no_usages → length ys ≡ length (part bs 8 40) → usages_of ys ≡ x → HeadBegun goals bs (set (returned bs 8 40 ys) 6 1)
+head_new goals bs ys t x long is e is_x kept is_y =
     let n : length ys ≡ 32 = omega (arith, part_length bs 8 40 ys (omega arith) (omega arith) kept) in
     let o : List ℕ = overwrite bs 8 ys in
-    let back : returned bs 8 40 ys ≡ o = part-back bs 8 40 ys (omega arith) (omega arith) kept in
-    let lo : length o ≡ frameSize goals = length-overwrite bs 8 ys (omega arith) ∙ long in
-    let there : region 8 32 o ≡ ys = ap (λ (m : ℕ). region 8 m o) (sym n) ∙ region-same bs 8 ys (omega arith) in
+    let back : returned bs 8 40 ys ≡ o = part_back bs 8 40 ys (omega arith) (omega arith) kept in
+    let lo : length o ≡ frame_size goals = length_overwrite bs 8 ys (omega arith) ∙ long in
+    let there : region 8 32 o ≡ ys = ap (λ (m : ℕ). region 8 m o) (sym n) ∙ region_same bs 8 ys (omega arith) in
     let one : get_or (set o 6 1) 6 0 ≡ 1 = get_or-set_same o 6 1 0 (omega arith) in
     record {
       marked = λ q. let z : ◌≡◌ {A = ℕ} 1 0 = sym one ∙ ap (λ (l : List ℕ). get_or (set l 6 1) 6 0) (sym back) ∙ q in omega arith;
       usages =
-          ap (λ (l : List ℕ). usagesOf (region 8 32 (set l 6 1))) back
-          ∙ ap usagesOf (set_after o 6 1 (omega arith) 8 32 (omega arith) ∙ there) ∙ is_y ∙ is_x
+          ap (λ (l : List ℕ). usages_of (region 8 32 (set l 6 1))) back
+          ∙ ap usages_of (set_after o 6 1 (omega arith) 8 32 (omega arith) ∙ there) ∙ is_y ∙ is_x
           ∙ sym (none_is (frame_of goals bs).usages (sym is ∙ e));
       others = λ u.
-          ap (λ (l : List ℕ). withUsages (frame_of goals (set l 6 1)) u) back
-          ∙ ap (λ (f : Frame). withUsages f u) (frame-has-usages goals o lo 1)
-          ∙ ap (λ (f : Frame). withUsages f u) (frame-usages goals bs long ys n);
+          ap (λ (l : List ℕ). with_usages (frame_of goals (set l 6 1)) u) back
+          ∙ ap (λ (f : Frame). with_usages f u) (frame_has_usages goals o lo 1)
+          ∙ ap (λ (f : Frame). with_usages f u) (frame_usages goals bs long ys n);
     }
 
 -- ---- `use_itself` and `count_itself`
-pub use-frame : (goals : ℕ) (old bs ys : List ℕ) (u : HeadUsages) → length bs ≡ frameSize goals → HeadBegun goals old bs
-    → length ys ≡ length (part bs 8 40) → usagesOf ys ≡ addUsagesFromNested (usagesOf (part bs 8 40)) u
-    → frame_of goals (returned bs 8 40 ys) ≡ useOwn u (frame_of goals old)
-use-frame goals old bs ys u long begun kept is_y =
+pub use_frame : (goals : ℕ) (old bs ys : List ℕ) (u : HeadUsages) → length bs ≡ frame_size goals → HeadBegun goals old bs
+    → length ys ≡ length (part bs 8 40) → usages_of ys ≡ add_usages_from_nested (usages_of (part bs 8 40)) u
+    → frame_of goals (returned bs 8 40 ys) ≡ use_own u (frame_of goals old)
+use_frame goals old bs ys u long begun kept is_y =
     let n : length ys ≡ 32 = omega (arith, part_length bs 8 40 ys (omega arith) (omega arith) kept) in
-    ap (frame_of goals) (part-back bs 8 40 ys (omega arith) (omega arith) kept)
-    ∙ frame-usages goals bs long ys n
-    ∙ ap (withUsages (frame_of goals bs)) (some_is (get_or bs 6 0) (usagesOf ys) begun.marked)
-    ∙ begun.others (some (usagesOf ys))
-    ∙ ap (λ (x : HeadUsages). withUsages (frame_of goals old) (some x)) (is_y ∙ ap (λ (x : HeadUsages). addUsagesFromNested x u) begun.usages)
+    ap (frame_of goals) (part_back bs 8 40 ys (omega arith) (omega arith) kept)
+    ∙ frame_usages goals bs long ys n
+    ∙ ap (with_usages (frame_of goals bs)) (some_is (get_or bs 6 0) (usages_of ys) begun.marked)
+    ∙ begun.others (some (usages_of ys))
+    ∙ ap (λ (x : HeadUsages). with_usages (frame_of goals old) (some x)) (is_y ∙ ap (λ (x : HeadUsages). add_usages_from_nested x u) begun.usages)
 
 -- ---- `count_joined`: the step's own path is the same one step further
-pub flag-extended : (k : PathKind) → flagOf k ≡ extendWith (flagOf k) k
-flag-extended Inductive = refl
-flag-extended Unknown = refl
-flag-extended Coinductive = refl
-flag-extended ForcedAmbiguity = refl
+pub flag_extended : (k : PathKind) → flag_of k ≡ extend_with (flag_of k) k
+flag_extended Inductive = refl
+flag_extended Unknown = refl
+flag_extended Coinductive = refl
+flag_extended ForcedAmbiguity = refl
 
 -- ---- `add_head`
-module _ (step : PathKind) (own i : ℕ) (c : CycleHead) (f g h : Frame) (first : g ≡ trackAt i c.usages f) where
+module _ (step : PathKind) (own i : ℕ) (c : CycleHead) (f g h : Frame) (first : g ≡ track_at i c.usages f) where
   abbrev choice : Bool → Bool → Frame
   choice t s =
-      withCandidateUsages
-      (withUsages
-      (withHeads f (elim t [ true ↦ joined step i c f.heads | false ↦ f.heads ]))
+      with_candidate_usages
+      (with_usages
+      (with_heads f (elim t [ true ↦ joined step i c f.heads | false ↦ f.heads ]))
       (elim s [ true ↦ used c.usages f.usages | false ↦ f.usages ]))
-      (trackedAt f.candidateUsages i c.usages)
+      (tracked_at f.candidate_usages i c.usages)
 
-  pub head-below : h ≡ joinAt step i c g → i < own → h ≡ addHeadAt step own i c f
-  head-below e lt = e ∙ ap (joinAt step i c) first ∙ sym (ap₂ choice (lt-ltb i own lt) (ne_eqb i own (λ q. omega arith)))
+  pub head_below : h ≡ join_at step i c g → i < own → h ≡ add_head_at step own i c f
+  head_below e lt = e ∙ ap (join_at step i c) first ∙ sym (ap₂ choice (lt-ltb i own lt) (ne_eqb i own (λ q. omega arith)))
 
-  pub head-own : h ≡ useOwn c.usages g → i ≡ own → h ≡ addHeadAt step own i c f
-  head-own e q = e ∙ ap (useOwn c.usages) first ∙ sym (ap₂ choice (le-ltb i own (omega arith)) (eq-eqb i own q))
+  pub head_own : h ≡ use_own c.usages g → i ≡ own → h ≡ add_head_at step own i c f
+  head_own e q = e ∙ ap (use_own c.usages) first ∙ sym (ap₂ choice (le-ltb i own (omega arith)) (eq-eqb i own q))
 
-  pub head-above : h ≡ g → own ≤ i → (i ≡ own → ⊥) → h ≡ addHeadAt step own i c f
-  head-above e le ne = e ∙ first ∙ sym (ap₂ choice (le-ltb i own le) (ne_eqb i own ne))
+  pub head_above : h ≡ g → own ≤ i → (i ≡ own → ⊥) → h ≡ add_head_at step own i c f
+  head_above e le ne = e ∙ first ∙ sym (ap₂ choice (le-ltb i own le) (ne_eqb i own ne))
 
 -- ---- `reach`
-pub marked-yes : (t o : Bool) → o ≡ true → true ≡ (t || o)
-marked-yes true o e = refl
-marked-yes false o e = sym e
+pub marked_yes : (t o : Bool) → o ≡ true → true ≡ (t || o)
+marked_yes true o e = refl
+marked_yes false o e = sym e
 
-pub marked-no : (t o : Bool) → o ≡ false → t ≡ (t || o)
-marked-no true o e = refl
-marked-no false o e = sym e
+pub marked_no : (t o : Bool) → o ≡ false → t ≡ (t || o)
+marked_no true o e = refl
+marked_no false o e = sym e
 
-pub reach-frame : (goals : ℕ) (bs : List ℕ) (m l : ℕ) (overflow : Bool) (reached : ℕ) → length bs ≡ frameSize goals
+pub reach_frame_lem : (goals : ℕ) (bs : List ℕ) (m l : ℕ) (overflow : Bool) (reached : ℕ) → length bs ≡ frame_size goals
     → truth m ≡ (truth (get_or bs 5 0) || overflow) → l ≡ min (get_or (set bs 5 m) 3 0) reached
-    → frame_of goals (set (set bs 5 m) 3 l) ≡ reachFrame overflow reached (frame_of goals bs)
+    → frame_of goals (set (set bs 5 m) 3 l) ≡ reach_frame overflow reached (frame_of goals bs)
 unfolding frame_of
-reach-frame goals bs m l overflow reached long is_m is-l =
-    let l1 : length (set bs 5 m) ≡ frameSize goals = length-set bs 5 m ∙ long in
+reach_frame_lem goals bs m l overflow reached long is_m is-l =
+    let l1 : length (set bs 5 m) ≡ frame_size goals = length-set bs 5 m ∙ long in
     let e3 : l ≡ min (get_or bs 3 0) reached = is-l ∙ ap (λ (x : ℕ). min x reached) (get_or-set_other bs 5 3 m 0 (λ e. omega arith)) in
-    frame-reached goals (set bs frameOverflow m) l1 l
-    ∙ ap (λ (f : Frame). withReached f l) (frame-overflow goals bs long m)
-    ∙ (λ t. withOverflow (withReached (frame_of goals bs) (e3 t)) (is_m t))
+    frame_reached_lem goals (set bs frame_overflow m) l1 l
+    ∙ ap (λ (f : Frame). with_reached f l) (frame_overflow_lem goals bs long m)
+    ∙ (λ t. with_overflow (with_reached (frame_of goals bs) (e3 t)) (is_m t))
 
 -- ---- the nested goals, changed by f
-pub nested-frame : (f : NestedGoals → NestedGoals) (goals : ℕ) (bs ys : List ℕ) (a : ℕ) → length bs ≡ frameSize goals → a ≡ nestedStart goals
+pub nested_frame : (f : NestedGoals → NestedGoals) (goals : ℕ) (bs ys : List ℕ) (a : ℕ) → length bs ≡ frame_size goals → a ≡ nested_start goals
     → length ys ≡ length (part bs a (a + goals)) → ys ≡ f (part bs a (a + goals))
-    → frame_of goals (returned bs a (a + goals) ys) ≡ withNestedGoals (frame_of goals bs) (f (frame_of goals bs).nestedGoals)
+    → frame_of goals (returned bs a (a + goals) ys) ≡ with_nested_goals (frame_of goals bs) (f (frame_of goals bs).nested_goals)
 unfolding frame_of
-nested-frame f goals bs ys a long is-a kept is_y =
+nested_frame f goals bs ys a long is-a kept is_y =
     let n : length ys ≡ goals = omega (arith, part_length bs a (a + goals) ys (omega arith) (omega arith) kept) in
     let e : a + goals - a ≡ goals = omega arith in
-    let is : ys ≡ f (region (nestedStart goals) goals bs) = is_y ∙ ap₂ (λ (k m : ℕ). f (region k m bs)) is-a e in
-    ap (frame_of goals) (part-back bs a (a + goals) ys (omega arith) (omega arith) kept ∙ ap (λ (k : ℕ). overwrite bs k ys) is-a)
-    ∙ frame-nested goals bs long ys n
-    ∙ ap (withNestedGoals (frame_of goals bs)) is
+    let is : ys ≡ f (region (nested_start goals) goals bs) = is_y ∙ ap₂ (λ (k m : ℕ). f (region k m bs)) is-a e in
+    ap (frame_of goals) (part_back bs a (a + goals) ys (omega arith) (omega arith) kept ∙ ap (λ (k : ℕ). overwrite bs k ys) is-a)
+    ∙ frame_nested goals bs long ys n
+    ∙ ap (with_nested_goals (frame_of goals bs)) is
 
 -- the frame's own goal
-pub itself-frame : (f h : Frame) (g : ℕ) → g ≡ f.input → h ≡ withNestedGoals f (insertNested f.nestedGoals g 1) → h ≡ insertOwn f
-itself-frame f h g is e = e ∙ ap (λ (x : ℕ). withNestedGoals f (insertNested f.nestedGoals x 1)) is
+pub itself_frame : (f h : Frame) (g : ℕ) → g ≡ f.input → h ≡ with_nested_goals f (insert_nested f.nested_goals g 1) → h ≡ insert_own f
+itself_frame f h g is e = e ∙ ap (λ (x : ℕ). with_nested_goals f (insert_nested f.nested_goals x 1)) is
 
 -- ---- after a nested goal; f, and what it becomes step by step
-module _ (step : PathKind) (overflow : Bool) (reached : ℕ) (f f1 : Frame) (first : f1 ≡ reachFrame overflow reached f) where
-  module _ (child : NestedGoals) (t : Bool) (is-t : t ≡ nestedEmpty child) (f2 : Frame) (next : f2 ≡ withNestedGoals f1 (extendFromChild f1.nestedGoals step child)) where
+module _ (step : PathKind) (overflow : Bool) (reached : ℕ) (f f1 : Frame) (first : f1 ≡ reach_frame overflow reached f) where
+  module _ (child : NestedGoals) (t : Bool) (is-t : t ≡ nested_empty child) (f2 : Frame) (next : f2 ≡ with_nested_goals f1 (extend_from_child f1.nested_goals step child)) where
     abbrev after : Bool → Frame
-    after b = withNestedGoals (reachFrame overflow reached f) (elim b [ true ↦ insertNested (extendFromChild f.nestedGoals step child) f.input emptyPath | false ↦ extendFromChild f.nestedGoals step child ])
+    after b = with_nested_goals (reach_frame overflow reached f) (elim b [ true ↦ insert_nested (extend_from_child f.nested_goals step child) f.input empty_path | false ↦ extend_from_child f.nested_goals step child ])
 
-    so_far : f2 ≡ withNestedGoals (reachFrame overflow reached f) (extendFromChild f.nestedGoals step child)
-    so_far = next ∙ ap (λ (x : Frame). withNestedGoals x (extendFromChild x.nestedGoals step child)) first
+    so_far : f2 ≡ with_nested_goals (reach_frame overflow reached f) (extend_from_child f.nested_goals step child)
+    so_far = next ∙ ap (λ (x : Frame). with_nested_goals x (extend_from_child x.nested_goals step child)) first
 
-    pub ordinary-empty : t ≡ true → f2 ≡ addRest step overflow (Ordinary child) reached f
-    ordinary-empty e = so_far ∙ sym (ap after (ap not (sym is-t ∙ e)))
+    pub ordinary_empty : t ≡ true → f2 ≡ add_rest step overflow (Ordinary child) reached f
+    ordinary_empty e = so_far ∙ sym (ap after (ap not (sym is-t ∙ e)))
 
-    pub ordinary-more : t ≡ false → (f3 : Frame) → f3 ≡ insertOwn f2 → f3 ≡ addRest step overflow (Ordinary child) reached f
-    ordinary-more e f3 last = last ∙ ap insertOwn so_far ∙ sym (ap after (ap not (sym is-t ∙ e)))
+    pub ordinary_more : t ≡ false → (f3 : Frame) → f3 ≡ insert_own f2 → f3 ≡ add_rest step overflow (Ordinary child) reached f
+    ordinary_more e f3 last = last ∙ ap insert_own so_far ∙ sym (ap after (ap not (sym is-t ∙ e)))
 
-  pub entry-added : (f2 : Frame) → f2 ≡ insertOwn f1 → f2 ≡ addRest step overflow ProvisionalCacheHit reached f
-  entry-added f2 e = e ∙ ap insertOwn first
+  pub entry_added : (f2 : Frame) → f2 ≡ insert_own f1 → f2 ≡ add_rest step overflow ProvisionalCacheHit reached f
+  entry_added f2 e = e ∙ ap insert_own first
 
-  pub cycle-added : (goal p : ℕ) (f2 f3 : Frame) → p ≡ flagOf step → f2 ≡ withNestedGoals f1 (insertNested f1.nestedGoals goal p) → f3 ≡ insertOwn f2 → f3 ≡ addRest step overflow (CycleOnStack goal) reached f
-  cycle-added goal p f2 f3 is e last =
-      last ∙ ap insertOwn (e ∙ ap₂ (λ (x : Frame) (q : ℕ). withNestedGoals x (insertNested x.nestedGoals goal q)) first is)
+  pub cycle_added : (goal p : ℕ) (f2 f3 : Frame) → p ≡ flag_of step → f2 ≡ with_nested_goals f1 (insert_nested f1.nested_goals goal p) → f3 ≡ insert_own f2 → f3 ≡ add_rest step overflow (CycleOnStack goal) reached f
+  cycle_added goal p f2 f3 is e last =
+      last ∙ ap insert_own (e ∙ ap₂ (λ (x : Frame) (q : ℕ). with_nested_goals x (insert_nested x.nested_goals goal q)) first is)

@@ -12,71 +12,71 @@ use Rattle.definition.specs.declared.usages.HeadUsages.{HeadUsages}
 use Rattle.definition.specs.declared.answers.Answer.{Answer}
 use Rattle.definition.specs.declared.format.Header.{Header}
 use Rattle.definition.specs.Answers.{answer_of}
-use Rattle.definition.specs.Usages.{noUsages}
+use Rattle.definition.specs.Usages.{no_usages}
 use Rattle.definition.specs.Stack.{Frame, Stack}
-use Rattle.definition.specs.Parent.{orNoUsages}
-use Rattle.definition.specs.Lookup.{allowedDepthForNested}
-use Rattle.layout.specs.Frame.{truth, result_of, whenSet}
+use Rattle.definition.specs.Parent.{or_no_usages}
+use Rattle.definition.specs.Lookup.{allowed_depth_for_nested}
+use Rattle.layout.specs.Frame.{truth, result_of, when_set}
 use Rattle.stack.specs.Results.{is_some}
 use Rattle.stack.specs.declared.frame.Depth.TheVariants.{Allowed, Overflow}
 
 -- ---- a byte that says whether something is there
-pub test-truth : (n : ℕ) → not (eqb n 0) ≡ truth n
-test-truth zero = refl
-test-truth (suc n) = ap not (ne_eqb (suc n) 0 (λ e. omega arith))
+pub test_truth : (n : ℕ) → not (eqb n 0) ≡ truth n
+test_truth zero = refl
+test_truth (suc n) = ap not (ne_eqb (suc n) 0 (λ e. omega arith))
 
-pub test-some : {A : Type 0} (n : ℕ) (x : A) → not (eqb n 0) ≡ is_some (whenSet n x)
-test-some zero x = refl
-test-some (suc n) x = ap not (ne_eqb (suc n) 0 (λ e. omega arith))
+pub test_some : {A : Type 0} (n : ℕ) (x : A) → not (eqb n 0) ≡ is_some (when_set n x)
+test_some zero x = refl
+test_some (suc n) x = ap not (ne_eqb (suc n) 0 (λ e. omega arith))
 
-pub usages-absent : (n : ℕ) (u r : HeadUsages) → n ≡ 0 → r ≡ noUsages → r ≡ orNoUsages (whenSet n u)
-usages-absent n u r e is = is ∙ sym (ap (λ (k : ℕ). orNoUsages (whenSet k u)) e)
+pub usages_absent : (n : ℕ) (u r : HeadUsages) → n ≡ 0 → r ≡ no_usages → r ≡ or_no_usages (when_set n u)
+usages_absent n u r e is = is ∙ sym (ap (λ (k : ℕ). or_no_usages (when_set k u)) e)
 
-pub usages-present : (n : ℕ) (u r : HeadUsages) → (n ≡ 0 → ⊥) → r ≡ u → r ≡ orNoUsages (whenSet n u)
-usages-present zero u r ne is = absurd (ne refl)
-usages-present (suc n) u r ne is = is
+pub usages_present : (n : ℕ) (u r : HeadUsages) → (n ≡ 0 → ⊥) → r ≡ u → r ≡ or_no_usages (when_set n u)
+usages_present zero u r ne is = absurd (ne refl)
+usages_present (suc n) u r ne is = is
 
-pub result-absent : (n : ℕ) → n ≡ 0 → none ≡ result_of n
-result-absent n e = sym (ap result_of e)
+pub result_absent : (n : ℕ) → n ≡ 0 → none ≡ result_of n
+result_absent n e = sym (ap result_of e)
 
-pub result-present : (n : ℕ) (a : Answer) → (n ≡ 0 → ⊥) → a ≡ answer_of (n - 1) → some a ≡ result_of n
-result-present zero a ne is = absurd (ne refl)
-result-present (suc n) a ne is = let e : suc n - 1 ≡ n = omega arith in ap some (is ∙ ap answer_of e)
+pub result_present : (n : ℕ) (a : Answer) → (n ≡ 0 → ⊥) → a ≡ answer_of (n - 1) → some a ≡ result_of n
+result_present zero a ne is = absurd (ne refl)
+result_present (suc n) a ne is = let e : suc n - 1 ≡ n = omega arith in ap some (is ∙ ap answer_of e)
 
 -- ---- the depth for a nested goal
-pub allowed-small : (x d : ℕ) → x < 256 → Allowed x ≡ Allowed d → d < 256
-allowed-small x d h e = let f : x ≡ d = cc in omega arith
+pub allowed_small : (x d : ℕ) → x < 256 → Allowed x ≡ Allowed d → d < 256
+allowed_small x d h e = let f : x ≡ d = cc in omega arith
 
-pub overflow-small : (d : ℕ) → Overflow ≡ Allowed d → d < 256
-overflow-small d e = let z : ◌≡◌ {A = ℕ} 0 1 = cc in absurd (omega arith)
+pub overflow_small : (d : ℕ) → Overflow ≡ Allowed d → d < 256
+overflow_small d e = let z : ◌≡◌ {A = ℕ} 0 1 = cc in absurd (omega arith)
 
-pub divided-small : (x divisor : ℕ) → x < 256 → x / divisor < 256
-divided-small x divisor h = omega (arith, div-le_self x divisor)
+pub divided_small : (x divisor : ℕ) → x < 256 → x / divisor < 256
+divided_small x divisor h = omega (arith, div-le_self x divisor)
 
-pub less-small : (x : ℕ) → x < 256 → x - 1 < 256
-less-small x h = omega arith
+pub less_small : (x : ℕ) → x < 256 → x - 1 < 256
+less_small x h = omega arith
 
 abbrev lowered : ℕ → ℕ → Bool → Bool → Option ℕ
 lowered d divisor t o = elim t [ true ↦ none | false ↦ elim o [ true ↦ some (d / divisor) | false ↦ some (d - 1) ] ]
 
 -- in a frame f with the depth d
-module _ (f : Frame) (lower : Bool) (divisor d : ℕ) (is : d ≡ f.availableDepth) (h : Header) (root : ℕ) (fs : Stack) (by : h.divisor ≡ divisor) where
-  pub depth-kept : lower ≡ false → some d ≡ allowedDepthForNested h root (f ∷ fs) lower
-  depth-kept low = ap some is ∙ sym (ap (allowedDepthForNested h root (f ∷ fs)) low)
+module _ (f : Frame) (lower : Bool) (divisor d : ℕ) (is : d ≡ f.available_depth) (h : Header) (root : ℕ) (fs : Stack) (by : h.divisor ≡ divisor) where
+  pub depth_kept : lower ≡ false → some d ≡ allowed_depth_for_nested h root (f ∷ fs) lower
+  depth_kept low = ap some is ∙ sym (ap (allowed_depth_for_nested h root (f ∷ fs)) low)
 
-  opened : lower ≡ true → lowered d divisor (eqb d 0) f.encounteredOverflow ≡ allowedDepthForNested h root (f ∷ fs) lower
+  opened : lower ≡ true → lowered d divisor (eqb d 0) f.encountered_overflow ≡ allowed_depth_for_nested h root (f ∷ fs) lower
   opened low =
-      (λ t. lowered (is t) (sym by t) (eqb (is t) 0) f.encounteredOverflow)
-      ∙ sym (ap (allowedDepthForNested h root (f ∷ fs)) low)
+      (λ t. lowered (is t) (sym by t) (eqb (is t) 0) f.encountered_overflow)
+      ∙ sym (ap (allowed_depth_for_nested h root (f ∷ fs)) low)
 
-  pub depth-none : lower ≡ true → d ≡ 0 → none ≡ allowedDepthForNested h root (f ∷ fs) lower
-  depth-none low z = sym (ap (λ (t : Bool). lowered d divisor t f.encounteredOverflow) (eq-eqb d 0 z)) ∙ opened low
+  pub depth_none : lower ≡ true → d ≡ 0 → none ≡ allowed_depth_for_nested h root (f ∷ fs) lower
+  depth_none low z = sym (ap (λ (t : Bool). lowered d divisor t f.encountered_overflow) (eq-eqb d 0 z)) ∙ opened low
 
-  left : lower ≡ true → (d ≡ 0 → ⊥) → lowered d divisor false f.encounteredOverflow ≡ allowedDepthForNested h root (f ∷ fs) lower
-  left low nz = sym (ap (λ (t : Bool). lowered d divisor t f.encounteredOverflow) (ne_eqb d 0 nz)) ∙ opened low
+  left : lower ≡ true → (d ≡ 0 → ⊥) → lowered d divisor false f.encountered_overflow ≡ allowed_depth_for_nested h root (f ∷ fs) lower
+  left low nz = sym (ap (λ (t : Bool). lowered d divisor t f.encountered_overflow) (ne_eqb d 0 nz)) ∙ opened low
 
-  pub depth-divided : lower ≡ true → (d ≡ 0 → ⊥) → f.encounteredOverflow ≡ true → some (d / divisor) ≡ allowedDepthForNested h root (f ∷ fs) lower
-  depth-divided low nz o = sym (ap (lowered d divisor false) o) ∙ left low nz
+  pub depth_divided : lower ≡ true → (d ≡ 0 → ⊥) → f.encountered_overflow ≡ true → some (d / divisor) ≡ allowed_depth_for_nested h root (f ∷ fs) lower
+  depth_divided low nz o = sym (ap (lowered d divisor false) o) ∙ left low nz
 
-  pub depth-less : lower ≡ true → (d ≡ 0 → ⊥) → f.encounteredOverflow ≡ false → some (d - 1) ≡ allowedDepthForNested h root (f ∷ fs) lower
-  depth-less low nz o = sym (ap (lowered d divisor false) o) ∙ left low nz
+  pub depth_less : lower ≡ true → (d ≡ 0 → ⊥) → f.encountered_overflow ≡ false → some (d - 1) ≡ allowed_depth_for_nested h root (f ∷ fs) lower
+  depth_less low nz o = sym (ap (lowered d divisor false) o) ∙ left low nz

@@ -4,74 +4,74 @@ use Rattle.std.proofs.Math.Option.{Option, none, some}
 use Rattle.definition.specs.declared.paths.PathKind.{PathKind}
 use Rattle.definition.specs.declared.usages.HeadUsages.{HeadUsages}
 use Rattle.definition.specs.declared.heads.CycleHead.{CycleHead}
-use Rattle.definition.specs.Paths.{flagOf, extendWith, emptyPath}
-use Rattle.definition.specs.Usages.{oneUsage, addUsagesFromNested}
-use Rattle.definition.specs.Heads.{CycleHeads, insertHead}
-use Rattle.definition.specs.Nested.{NestedGoals, insertNested, extendFromChild}
-use Rattle.definition.specs.Stack.{Frame, withReached, withHeads, withOverflow, withUsages, withCandidateUsages, withNestedGoals}
-use Rattle.definition.specs.Parent.{orNoUsages}
+use Rattle.definition.specs.Paths.{flag_of, extend_with, empty_path}
+use Rattle.definition.specs.Usages.{one_usage, add_usages_from_nested}
+use Rattle.definition.specs.Heads.{CycleHeads, insert_head}
+use Rattle.definition.specs.Nested.{NestedGoals, insert_nested, extend_from_child}
+use Rattle.definition.specs.Stack.{Frame, with_reached, with_heads, with_overflow, with_usages, with_candidate_usages, with_nested_goals}
+use Rattle.definition.specs.Parent.{or_no_usages}
 use Rattle.buffer.specs.Regions.{region}
-use Rattle.layout.specs.Blocks.{usagesSize, usagesOf}
-use Rattle.layout.specs.Frame.{frameIsHead, usagesStart, frame_of}
-use Rattle.layout.specs.AtIndex.{addFromNestedAt}
+use Rattle.layout.specs.Blocks.{usages_size, usages_of}
+use Rattle.layout.specs.Frame.{frame_is_head, usages_start, frame_of}
+use Rattle.layout.specs.AtIndex.{add_from_nested_at}
 
 -- the usages of a candidate, where one is tracked, with those of a nested goal at index i
-abbrev pub trackedAt : Option (List HeadUsages) → ℕ → HeadUsages → Option (List HeadUsages)
-trackedAt none i u = none
-trackedAt (some us) i u = some (addFromNestedAt us i u)
+abbrev pub tracked_at : Option (List HeadUsages) → ℕ → HeadUsages → Option (List HeadUsages)
+tracked_at none i u = none
+tracked_at (some us) i u = some (add_from_nested_at us i u)
 
 -- the head c of the child, one step further
 abbrev pub joined : PathKind → ℕ → CycleHead → CycleHeads → CycleHeads
-joined step i c hs = insertHead hs i (extendWith c.paths step) c.usages
+joined step i c hs = insert_head hs i (extend_with c.paths step) c.usages
 
 abbrev pub used : HeadUsages → Option HeadUsages → Option HeadUsages
-used u before = some (addUsagesFromNested (orNoUsages before) u)
+used u before = some (add_usages_from_nested (or_no_usages before) u)
 
 -- each of them on a frame
-abbrev pub trackAt : ℕ → HeadUsages → Frame → Frame
-trackAt i u f = withCandidateUsages f (trackedAt f.candidateUsages i u)
+abbrev pub track_at : ℕ → HeadUsages → Frame → Frame
+track_at i u f = with_candidate_usages f (tracked_at f.candidate_usages i u)
 
-abbrev pub joinAt : PathKind → ℕ → CycleHead → Frame → Frame
-joinAt step i c f = withHeads f (joined step i c f.heads)
+abbrev pub join_at : PathKind → ℕ → CycleHead → Frame → Frame
+join_at step i c f = with_heads f (joined step i c f.heads)
 
-abbrev pub useOwn : HeadUsages → Frame → Frame
-useOwn u f = withUsages f (used u f.usages)
+abbrev pub use_own : HeadUsages → Frame → Frame
+use_own u f = with_usages f (used u f.usages)
 
 -- the head c of the child, at index i, for the parent at index `own`
-abbrev pub addHeadAt : PathKind → ℕ → ℕ → CycleHead → Frame → Frame
-addHeadAt step own i c f =
-    withCandidateUsages
-    (withUsages
-    (withHeads f (elim (ltb i own) [ true ↦ joined step i c f.heads | false ↦ f.heads ]))
+abbrev pub add_head_at : PathKind → ℕ → ℕ → CycleHead → Frame → Frame
+add_head_at step own i c f =
+    with_candidate_usages
+    (with_usages
+    (with_heads f (elim (ltb i own) [ true ↦ joined step i c f.heads | false ↦ f.heads ]))
     (elim (eqb i own) [ true ↦ used c.usages f.usages | false ↦ f.usages ]))
-    (trackedAt f.candidateUsages i c.usages)
+    (tracked_at f.candidate_usages i c.usages)
 
 -- the head of a cycle: reached by the last step alone, and used once, in the kind of the whole cycle
-abbrev pub cycleHead : PathKind → PathKind → CycleHead
-cycleHead step kind = record { paths = flagOf step; usages = oneUsage kind }
+abbrev pub cycle_head : PathKind → PathKind → CycleHead
+cycle_head step kind = record { paths = flag_of step; usages = one_usage kind }
 
 -- the frame is a head: its usages stand in its bytes, and nothing else is another
 pub record HeadBegun (goals : ℕ) (old new : List ℕ) : Type 0 where
-  pub marked : get_or new frameIsHead 0 ≢ 0
-  pub usages : usagesOf (region usagesStart usagesSize new) ≡ orNoUsages (frame_of goals old).usages
-  pub others : (u : Option HeadUsages) → withUsages (frame_of goals new) u ≡ withUsages (frame_of goals old) u
+  pub marked : get_or new frame_is_head 0 ≢ 0
+  pub usages : usages_of (region usages_start usages_size new) ≡ or_no_usages (frame_of goals old).usages
+  pub others : (u : Option HeadUsages) → with_usages (frame_of goals new) u ≡ with_usages (frame_of goals old) u
 
 -- overflow, and the depth reached
-abbrev pub reachFrame : Bool → ℕ → Frame → Frame
-reachFrame overflow reached f =
-    withOverflow (withReached f (min f.minReachedAvailableDepth reached)) (f.encounteredOverflow || overflow)
+abbrev pub reach_frame : Bool → ℕ → Frame → Frame
+reach_frame overflow reached f =
+    with_overflow (with_reached f (min f.min_reached_available_depth reached)) (f.encountered_overflow || overflow)
 
 -- paths to a nested goal, to the frame's own goal, and to the nested goals of the child
-abbrev pub insertGoal : ℕ → ℕ → Frame → Frame
-insertGoal goal paths f = withNestedGoals f (insertNested f.nestedGoals goal paths)
+abbrev pub insert_goal : ℕ → ℕ → Frame → Frame
+insert_goal goal paths f = with_nested_goals f (insert_nested f.nested_goals goal paths)
 
-abbrev pub insertOwn : Frame → Frame
-insertOwn f = insertGoal f.input emptyPath f
+abbrev pub insert_own : Frame → Frame
+insert_own f = insert_goal f.input empty_path f
 
-abbrev pub extendNested : PathKind → NestedGoals → Frame → Frame
-extendNested step child f = withNestedGoals f (extendFromChild f.nestedGoals step child)
+abbrev pub extend_nested : PathKind → NestedGoals → Frame → Frame
+extend_nested step child f = with_nested_goals f (extend_from_child f.nested_goals step child)
 
 -- the rest after a goal whose nested goals are among the frame's already; `none`: it has none
-abbrev pub finishNested : Bool → Bool → ℕ → Frame → Frame
-finishNested overflow true reached f = reachFrame overflow reached f
-finishNested overflow false reached f = insertOwn (reachFrame overflow reached f)
+abbrev pub finish_nested : Bool → Bool → ℕ → Frame → Frame
+finish_nested overflow true reached f = reach_frame overflow reached f
+finish_nested overflow false reached f = insert_own (reach_frame overflow reached f)

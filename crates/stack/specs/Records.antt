@@ -1,27 +1,27 @@
 -- A frame's fields: its first eight bytes, and the record that stands for them.
 use Rattle.std.specs.Prelude.{Bool, true, false, List, [], ◌∷◌, ℕ, get_or}
-use Rattle.layout.specs.Frame.{frameInput, frameStep, frameAvailable, frameReached, frameProvisional, frameOverflow, frameIsHead, frameTracks, truth}
+use Rattle.layout.specs.Frame.{frame_input, frame_step, frame_available, frame_reached, frame_provisional, frame_overflow, frame_is_head, frame_tracks, truth}
 use Rattle.stack.specs.declared.frame.fields.FrameRecord.{FrameRecord}
 
-abbrev pub recordOf : List ℕ → FrameRecord
-recordOf bs =
+abbrev pub record_of : List ℕ → FrameRecord
+record_of bs =
     record {
-      input = get_or bs frameInput 0;
-      step = get_or bs frameStep 0;
-      available = get_or bs frameAvailable 0;
-      reached = get_or bs frameReached 0;
-      provisional = get_or bs frameProvisional 0;
-      overflow = truth (get_or bs frameOverflow 0);
-      head = get_or bs frameIsHead 0;
-      tracks = get_or bs frameTracks 0;
+      input = get_or bs frame_input 0;
+      step = get_or bs frame_step 0;
+      available = get_or bs frame_available 0;
+      reached = get_or bs frame_reached 0;
+      provisional = get_or bs frame_provisional 0;
+      overflow = truth (get_or bs frame_overflow 0);
+      head = get_or bs frame_is_head 0;
+      tracks = get_or bs frame_tracks 0;
     }
 
-abbrev pub flagByte : Bool → ℕ
-flagByte true = 1
-flagByte false = 0
+abbrev pub flag_byte : Bool → ℕ
+flag_byte true = 1
+flag_byte false = 0
 
 abbrev pub bytes_of : FrameRecord → List ℕ
-bytes_of f = f.input ∷ f.step ∷ f.available ∷ f.reached ∷ f.provisional ∷ flagByte f.overflow ∷ f.head ∷ f.tracks ∷ []
+bytes_of f = f.input ∷ f.step ∷ f.available ∷ f.reached ∷ f.provisional ∷ flag_byte f.overflow ∷ f.head ∷ f.tracks ∷ []
 
 -- the record with the mark
 abbrev pub overflowed : FrameRecord → FrameRecord

@@ -1,21 +1,21 @@
 -- The usages of the candidate that a frame tracks, and usages that are taken from a frame.
 use Rattle.std.specs.Prelude.{ℕ, List, [], ◌∷◌}
 use Rattle.definition.specs.declared.usages.HeadUsages.{HeadUsages}
-use Rattle.definition.specs.Heads.{ignoreAtHeads}
-use Rattle.definition.specs.Stack.{Frame, withHeads, withUsages}
-use Rattle.definition.specs.Candidates.{candidateUsagesOf, ignoreOwnUsages}
-use Rattle.layout.specs.AtIndex.{ignoreAt}
+use Rattle.definition.specs.Heads.{ignore_at_heads}
+use Rattle.definition.specs.Stack.{Frame, with_heads, with_usages}
+use Rattle.definition.specs.Candidates.{candidate_usages_of, ignore_own_usages}
+use Rattle.layout.specs.AtIndex.{ignore_at}
 
 -- the usages of the candidate that a frame tracks; none where it tracks none
-abbrev pub trackedOf : ℕ → Frame → List HeadUsages
-trackedOf goals f = candidateUsagesOf goals (f ∷ [])
+abbrev pub tracked_of : ℕ → Frame → List HeadUsages
+tracked_of goals f = candidate_usages_of goals (f ∷ [])
 
 -- usages are taken from the head at index i, from every head, from the frame's own
-abbrev pub ignoreHeadAt : ℕ → HeadUsages → Frame → Frame
-ignoreHeadAt i u f = withHeads f (ignoreAt i u f.heads)
+abbrev pub ignore_head_at : ℕ → HeadUsages → Frame → Frame
+ignore_head_at i u f = with_heads f (ignore_at i u f.heads)
 
-abbrev pub ignoreHeads : List HeadUsages → Frame → Frame
-ignoreHeads us f = withHeads f (ignoreAtHeads f.heads us)
+abbrev pub ignore_heads : List HeadUsages → Frame → Frame
+ignore_heads us f = with_heads f (ignore_at_heads f.heads us)
 
-abbrev pub ignoreOwn : HeadUsages → Frame → Frame
-ignoreOwn u f = withUsages f (ignoreOwnUsages f.usages u)
+abbrev pub ignore_own : HeadUsages → Frame → Frame
+ignore_own u f = with_usages f (ignore_own_usages f.usages u)

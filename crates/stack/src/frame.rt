@@ -1,17 +1,17 @@
 // One frame's bytes: `layout::offsets` says where its fields and blocks stand.
 ghost use Rattle.std.specs.Prelude.{◌≡◌, [], ◌∷◌, ℕ, ◌<◌, length};
-ghost use Rattle.definition.specs.Paths.{kindNumber};
-ghost use Rattle.definition.specs.Steps.{countSteps};
-ghost use Rattle.definition.specs.Stack.{Stack, stepKinds, requiredDepthOf};
-ghost use Rattle.definition.specs.Parent.{orNoUsages, markOverflow};
-ghost use Rattle.definition.specs.Task.{rerunFrame};
-ghost use Rattle.definition.specs.Evaluate.{newFrame};
+ghost use Rattle.definition.specs.Paths.{kind_number};
+ghost use Rattle.definition.specs.Steps.{count_steps};
+ghost use Rattle.definition.specs.Stack.{Stack, step_kinds, required_depth_of};
+ghost use Rattle.definition.specs.Parent.{or_no_usages, mark_overflow};
+ghost use Rattle.definition.specs.Task.{rerun_frame};
+ghost use Rattle.definition.specs.Evaluate.{new_frame};
 ghost use Rattle.buffer.specs.Regions.{region};
-ghost use Rattle.layout.specs.Blocks.{headsSize};
-ghost use Rattle.layout.specs.Frame.{headsStart, frame_of};
+ghost use Rattle.layout.specs.Blocks.{heads_size};
+ghost use Rattle.layout.specs.Frame.{heads_start, frame_of};
 ghost use Rattle.layout.specs.Steps.{unpacked};
 ghost use Rattle.stack.specs.Bytes.{FrameBytes, FrameChanged};
-ghost use Rattle.stack.specs.Results.{is_some, provisionalOf, NestedDepth};
+ghost use Rattle.stack.specs.Results.{is_some, provisional_of, NestedDepth};
 
 use buffer::scalars;
 use definition::answers::Answer;
@@ -48,14 +48,14 @@ pub fn input(frame: &[u8], goals: usize) -> usize
 
 pub fn step_kind(frame: &[u8], goals: usize) -> PathKind
     requires { FrameBytes goals frame.now }
-    ensures { result ≡ (frame_of goals frame.now).stepKindFromParent }
+    ensures { result ≡ (frame_of goals frame.now).step_kind_from_parent }
 {
     PathKind::from_number(frame[offsets::FRAME_STEP])
 }
 
 pub fn available(frame: &[u8], goals: usize) -> usize
     requires { FrameBytes goals frame.now }
-    ensures { (result ≡ (frame_of goals frame.now).availableDepth) × (result < 256) }
+    ensures { (result ≡ (frame_of goals frame.now).available_depth) × (result < 256) }
 {
     scalars::wide(frame[offsets::FRAME_AVAILABLE])
 }
@@ -63,14 +63,14 @@ pub fn available(frame: &[u8], goals: usize) -> usize
 // The least available depth that a nested goal reached.
 pub fn reached(frame: &[u8], goals: usize) -> usize
     requires { FrameBytes goals frame.now }
-    ensures { (result ≡ (frame_of goals frame.now).minReachedAvailableDepth) × (result < 256) }
+    ensures { (result ≡ (frame_of goals frame.now).min_reached_available_depth) × (result < 256) }
 {
     scalars::wide(frame[offsets::FRAME_REACHED])
 }
 
 pub fn provisional_result(frame: &[u8], goals: usize) -> Provisional
     requires { FrameBytes goals frame.now }
-    ensures { provisionalOf result ≡ (frame_of goals frame.now).provisionalResult }
+    ensures { provisional_of result ≡ (frame_of goals frame.now).provisional_result }
 {
     let n = frame[offsets::FRAME_PROVISIONAL];
     if n == 0 {
@@ -81,7 +81,7 @@ pub fn provisional_result(frame: &[u8], goals: usize) -> Provisional
 
 pub fn overflow(frame: &[u8], goals: usize) -> bool
     requires { FrameBytes goals frame.now }
-    ensures { result ≡ (frame_of goals frame.now).encounteredOverflow }
+    ensures { result ≡ (frame_of goals frame.now).encountered_overflow }
 {
     frame[offsets::FRAME_OVERFLOW] != 0
 }
@@ -97,7 +97,7 @@ pub fn is_head(frame: &[u8], goals: usize) -> bool
 // Whether it tracks the usages of a candidate.
 pub fn tracks(frame: &[u8], goals: usize) -> bool
     requires { FrameBytes goals frame.now }
-    ensures { result ≡ is_some (frame_of goals frame.now).candidateUsages }
+    ensures { result ≡ is_some (frame_of goals frame.now).candidate_usages }
 {
     frame[offsets::FRAME_TRACKS] != 0
 }
@@ -105,7 +105,7 @@ pub fn tracks(frame: &[u8], goals: usize) -> bool
 // The usages as a cycle head, none where it is no head.
 pub fn own_usages(frame: &[u8], goals: usize) -> HeadUsages
     requires { FrameBytes goals frame.now }
-    ensures { result ≡ orNoUsages (frame_of goals frame.now).usages }
+    ensures { result ≡ or_no_usages (frame_of goals frame.now).usages }
 {
     if frame[offsets::FRAME_IS_HEAD] == 0 {
         return HeadUsages::none();
@@ -116,7 +116,7 @@ pub fn own_usages(frame: &[u8], goals: usize) -> HeadUsages
 // The block of heads.
 pub fn heads(frame: &[u8], goals: usize) -> &[u8]
     requires { FrameBytes goals frame.now }
-    ensures { result.now ≡ region headsStart (headsSize goals) frame.now }
+    ensures { result.now ≡ region heads_start (heads_size goals) frame.now }
 {
     let end = offsets::candidate_start(goals);
     &frame[offsets::FRAME_HEADS..end]
@@ -125,7 +125,7 @@ pub fn heads(frame: &[u8], goals: usize) -> &[u8]
 // The nested goals.
 pub fn nested(frame: &[u8], goals: usize) -> &[u8]
     requires { FrameBytes goals frame.now }
-    ensures { result.now ≡ (frame_of goals frame.now).nestedGoals }
+    ensures { result.now ≡ (frame_of goals frame.now).nested_goals }
 {
     let start = offsets::nested_start(goals);
     let end = start + goals;
@@ -135,7 +135,7 @@ pub fn nested(frame: &[u8], goals: usize) -> &[u8]
 // How many steps of each kind lie at or below it.
 pub fn steps(frame: &[u8], goals: usize) -> u64
     requires { FrameBytes goals frame.now }
-    ensures { unpacked result ≡ (frame_of goals frame.now).stepCounts }
+    ensures { unpacked result ≡ (frame_of goals frame.now).step_counts }
 {
     buffer::read_u64(frame, offsets::counts_start(goals))
 }
@@ -143,7 +143,7 @@ pub fn steps(frame: &[u8], goals: usize) -> u64
 // StackEntry::required_depth
 pub fn required_depth(frame: &[u8], goals: usize) -> usize
     requires { FrameBytes goals frame.now }
-    ensures { (result ≡ requiredDepthOf (frame_of goals frame.now)) × (result < 256) }
+    ensures { (result ≡ required_depth_of (frame_of goals frame.now)) × (result < 256) }
 {
     let a = available(frame, goals);
     let b = reached(frame, goals);
@@ -177,7 +177,7 @@ pub fn nested_depth(frame: &[u8], goals: usize, divisor: usize, lower: bool) -> 
 // The first eight bytes of a new frame.
 fn start_fields(b: &mut [u8], goal: usize, step: PathKind, available: usize)
     requires { (length b.old ≡ 8) × ((goal < 256) × (available < 256)) }
-    ensures { b.new ≡ goal ∷ kindNumber step ∷ available ∷ available ∷ 0 ∷ 0 ∷ 0 ∷ 0 ∷ [] }
+    ensures { b.new ≡ goal ∷ kind_number step ∷ available ∷ available ∷ 0 ∷ 0 ∷ 0 ∷ 0 ∷ [] }
 {
     b[offsets::FRAME_INPUT] = scalars::low(goal);
     b[offsets::FRAME_STEP] = step.number();
@@ -199,8 +199,8 @@ pub fn start(
     steps: u64,
 )
     requires { FrameBytes goals frame.old × ((goal < 256) × (available < 256)) }
-    ensures { (s : Stack) → unpacked steps ≡ countSteps (step ∷ stepKinds s)
-        → frame_of goals frame.new ≡ newFrame goals goal step available s }
+    ensures { (s : Stack) → unpacked steps ≡ count_steps (step ∷ step_kinds s)
+        → frame_of goals frame.new ≡ new_frame goals goal step available s }
 {
     start_fields(&mut frame[0..offsets::FRAME_USAGES], goal, step, available);
     let c = offsets::candidate_start(goals);
@@ -217,7 +217,7 @@ pub fn start(
 // the frame without using its result are still there, and must be rebased at the end.
 pub fn reset(frame: &mut [u8], goals: usize, answer: Answer)
     requires { FrameBytes goals frame.old }
-    ensures { FrameChanged goals (λ f. rerunFrame f answer) frame.old frame.new }
+    ensures { FrameChanged goals (λ f. rerun_frame f answer) frame.old frame.new }
 {
     frame[offsets::FRAME_PROVISIONAL] = answer.number() + 1;
     frame[offsets::FRAME_OVERFLOW] = 0;
@@ -232,7 +232,7 @@ pub fn reset(frame: &mut [u8], goals: usize, answer: Answer)
 // The frame met overflow; its own goal is among its nested goals then.
 pub fn mark_overflow(frame: &mut [u8], goals: usize)
     requires { FrameBytes goals frame.old }
-    ensures { FrameChanged goals markOverflow frame.old frame.new }
+    ensures { FrameChanged goals mark_overflow frame.old frame.new }
 {
     fields::mark_bytes(&mut frame[0..offsets::FRAME_USAGES]);
     let goal = input(frame, goals);

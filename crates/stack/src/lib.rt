@@ -1,15 +1,15 @@
 // stack.rs: the frames of the goals that are being evaluated, at their index in the
 // graph. How many there are is no byte of it.
 ghost use Rattle.std.specs.Prelude.{◌≡◌, ◌<◌, ◌≤◌};
-ghost use Rattle.definition.specs.Steps.{countSteps};
-ghost use Rattle.definition.specs.Stack.{stepKinds, cyclePathKind};
-ghost use Rattle.definition.specs.Parent.{handleOverflow};
-ghost use Rattle.definition.specs.Task.{rerunFrame};
-ghost use Rattle.definition.specs.Evaluate.{newFrame};
-ghost use Rattle.definition.specs.Lookup.{anyOnStack};
+ghost use Rattle.definition.specs.Steps.{count_steps};
+ghost use Rattle.definition.specs.Stack.{step_kinds, cycle_path_kind};
+ghost use Rattle.definition.specs.Parent.{handle_overflow};
+ghost use Rattle.definition.specs.Task.{rerun_frame};
+ghost use Rattle.definition.specs.Evaluate.{new_frame};
+ghost use Rattle.definition.specs.Lookup.{any_on_stack};
 ghost use Rattle.layout.specs.Steps.{packed};
 ghost use Rattle.layout.specs.Work.{stack_of};
-ghost use Rattle.stack.specs.Bytes.{GraphBytes, StackBytes, frameBytes};
+ghost use Rattle.stack.specs.Bytes.{GraphBytes, StackBytes, frame_bytes};
 ghost use Rattle.stack.specs.Places.{Placed};
 ghost use Rattle.stack.specs.Results.{Found, NestedDepth};
 ghost use Rattle.stack.specs.Written.{TopWritten, StackChanged, TopChanged};
@@ -32,7 +32,7 @@ pub enum OnStack {
 // The bytes of frame i.
 pub fn frame_at(graph: &[u8], goals: usize, i: usize) -> &[u8]
     requires { GraphBytes goals graph.now × (i < goals) }
-    ensures { result.now ≡ frameBytes goals i graph.now }
+    ensures { result.now ≡ frame_bytes goals i graph.now }
 {
     let start = offsets::frame_start(goals, i);
     let end = start + offsets::frame_size(goals);
@@ -42,7 +42,7 @@ pub fn frame_at(graph: &[u8], goals: usize, i: usize) -> &[u8]
 // The steps of each kind on a stack of some height.
 fn steps_of(graph: &[u8], goals: usize, height: usize) -> u64
     requires { StackBytes goals height graph.now }
-    ensures { result ≡ packed (countSteps (stepKinds (stack_of goals height graph.now))) }
+    ensures { result ≡ packed (count_steps (step_kinds (stack_of goals height graph.now))) }
 {
     if height == 0 {
         return 0;
@@ -61,7 +61,7 @@ pub fn push(
 )
     requires { StackBytes goals height graph.old × ((height < goals) × ((goal < 256) × (available < 256))) }
     ensures { TopWritten goals height
-        (newFrame goals goal step available (stack_of goals height graph.old))
+        (new_frame goals goal step available (stack_of goals height graph.old))
         graph.old graph.new }
 {
     let below = steps_of(graph, goals, height);
@@ -74,7 +74,7 @@ pub fn push(
 // The frame at index `own`, on top again, before its next iteration.
 pub fn reset_for_rerun(graph: &mut [u8], goals: usize, own: usize, answer: Answer)
     requires { GraphBytes goals graph.old × (own < goals) }
-    ensures { TopChanged goals own (λ f. rerunFrame f answer) graph.old graph.new }
+    ensures { TopChanged goals own (λ f. rerun_frame f answer) graph.old graph.new }
 {
     let start = offsets::frame_start(goals, own);
     let end = start + offsets::frame_size(goals);
@@ -84,7 +84,7 @@ pub fn reset_for_rerun(graph: &mut [u8], goals: usize, own: usize, answer: Answe
 // handle_overflow: the top frame met overflow.
 pub fn mark_top_overflow(graph: &mut [u8], goals: usize, height: usize)
     requires { GraphBytes goals graph.old × (height ≤ goals) }
-    ensures { StackChanged goals height handleOverflow graph.old graph.new }
+    ensures { StackChanged goals height handle_overflow graph.old graph.new }
 {
     if height == 0 {
         return;
@@ -122,7 +122,7 @@ pub fn cycle_path_kind(
     head: usize,
 ) -> PathKind
     requires { StackBytes goals height graph.now }
-    ensures { result ≡ cyclePathKind (stack_of goals height graph.now) step head }
+    ensures { result ≡ cycle_path_kind (stack_of goals height graph.now) step head }
 {
     if height <= head {
         return step;
@@ -134,7 +134,7 @@ pub fn cycle_path_kind(
 // Whether one of the nested goals is on the stack.
 pub fn any_on_stack(graph: &[u8], goals: usize, height: usize, nested: &[u8]) -> bool
     requires { GraphBytes goals graph.now × (height ≤ goals) }
-    ensures { result ≡ anyOnStack (stack_of goals height graph.now) nested.now }
+    ensures { result ≡ any_on_stack (stack_of goals height graph.now) nested.now }
 {
     let mut i = height;
     while 0 < i {

@@ -11,17 +11,17 @@ use Rattle.definition.specs.declared.endings.Fixpoint.{Fixpoint}
 use Rattle.definition.specs.declared.endings.Fixpoint.TheVariants.{First, Later}
 use Rattle.definition.specs.declared.endings.Ending.{Ending}
 use Rattle.definition.specs.declared.endings.Ending.TheVariants as ending
-use Rattle.definition.specs.Usages.{is_empty, isSingle}
-use Rattle.definition.specs.Answers.{sameAnswer, isAmbiguous, initialKind}
+use Rattle.definition.specs.Usages.{is_empty, is_single}
+use Rattle.definition.specs.Answers.{same_answer, is_ambiguous, initial_kind}
 use Rattle.definition.specs.Stack.{Frame}
-use Rattle.definition.specs.Parent.{orNoUsages}
-use Rattle.definition.specs.Endings.{reachedFixpoint, runAgain, withoutFixpoint, endingOfHead, endingOf}
+use Rattle.definition.specs.Parent.{or_no_usages}
+use Rattle.definition.specs.Endings.{reached_fixpoint, run_again, without_fixpoint, ending_of_head, ending_of}
 use Rattle.stack.specs.declared.frame.Provisional.{Provisional}
 use Rattle.stack.specs.declared.frame.Provisional.TheVariants.{NoResult, Result}
-use Rattle.stack.specs.Results.{is_some, provisionalOf}
+use Rattle.stack.specs.Results.{is_some, provisional_of}
 use Rattle.task.specs.declared.ending.Searched.{Searched}
 use Rattle.task.specs.declared.ending.Searched.TheVariants.{Reached, Missed}
-use Rattle.task.specs.Turns.{searchedOf}
+use Rattle.task.specs.Turns.{searched_of}
 
 -- ---- `reached_fixpoint`
 abbrev later : Bool → Option Fixpoint
@@ -31,38 +31,38 @@ abbrev first : Bool → PathKind → Option Fixpoint
 first t k = elim t [ true ↦ some (First k) | false ↦ none ]
 
 module _ (p : Provisional) (usages : HeadUsages) (answer : Answer) (b : Bool) where
-  later-is : (before : Answer) → p ≡ Result before → b ≡ sameAnswer before answer
-      → later b ≡ reachedFixpoint (provisionalOf p) usages answer
-  later-is before is e = ap later e ∙ sym (ap (λ (q : Provisional). reachedFixpoint (provisionalOf q) usages answer) is)
+  later_is : (before : Answer) → p ≡ Result before → b ≡ same_answer before answer
+      → later b ≡ reached_fixpoint (provisional_of p) usages answer
+  later_is before is e = ap later e ∙ sym (ap (λ (q : Provisional). reached_fixpoint (provisional_of q) usages answer) is)
 
-  pub later-reached : (before : Answer) → p ≡ Result before → b ≡ sameAnswer before answer → b ≡ true
-      → some Later ≡ reachedFixpoint (provisionalOf p) usages answer
-  later-reached before is e taken = sym (ap later taken) ∙ later-is before is e
+  pub later_reached : (before : Answer) → p ≡ Result before → b ≡ same_answer before answer → b ≡ true
+      → some Later ≡ reached_fixpoint (provisional_of p) usages answer
+  later_reached before is e taken = sym (ap later taken) ∙ later_is before is e
 
-  pub later-missed : (before : Answer) → p ≡ Result before → b ≡ sameAnswer before answer → b ≡ false
-      → none ≡ reachedFixpoint (provisionalOf p) usages answer
-  later-missed before is e left = sym (ap later left) ∙ later-is before is e
+  pub later_missed : (before : Answer) → p ≡ Result before → b ≡ same_answer before answer → b ≡ false
+      → none ≡ reached_fixpoint (provisional_of p) usages answer
+  later_missed before is e left = sym (ap later left) ∙ later_is before is e
 
-  first-is : (kind : PathKind) → p ≡ NoResult → kind ≡ initialKind answer → b ≡ isSingle usages kind
-      → first b kind ≡ reachedFixpoint (provisionalOf p) usages answer
-  first-is kind is k e =
-      ap (λ (t : Bool). first t kind) e ∙ ap (λ (x : PathKind). first (isSingle usages x) x) k
-      ∙ sym (ap (λ (q : Provisional). reachedFixpoint (provisionalOf q) usages answer) is)
+  first_is : (kind : PathKind) → p ≡ NoResult → kind ≡ initial_kind answer → b ≡ is_single usages kind
+      → first b kind ≡ reached_fixpoint (provisional_of p) usages answer
+  first_is kind is k e =
+      ap (λ (t : Bool). first t kind) e ∙ ap (λ (x : PathKind). first (is_single usages x) x) k
+      ∙ sym (ap (λ (q : Provisional). reached_fixpoint (provisional_of q) usages answer) is)
 
-  pub first-reached : (kind : PathKind) → p ≡ NoResult → kind ≡ initialKind answer → b ≡ isSingle usages kind
-      → b ≡ true → some (First kind) ≡ reachedFixpoint (provisionalOf p) usages answer
-  first-reached kind is k e taken = sym (ap (λ (t : Bool). first t kind) taken) ∙ first-is kind is k e
+  pub first_reached : (kind : PathKind) → p ≡ NoResult → kind ≡ initial_kind answer → b ≡ is_single usages kind
+      → b ≡ true → some (First kind) ≡ reached_fixpoint (provisional_of p) usages answer
+  first_reached kind is k e taken = sym (ap (λ (t : Bool). first t kind) taken) ∙ first_is kind is k e
 
-  pub first-missed : (kind : PathKind) → p ≡ NoResult → kind ≡ initialKind answer → b ≡ isSingle usages kind
-      → b ≡ false → none ≡ reachedFixpoint (provisionalOf p) usages answer
-  first-missed kind is k e left = sym (ap (λ (t : Bool). first t kind) left) ∙ first-is kind is k e
+  pub first_missed : (kind : PathKind) → p ≡ NoResult → kind ≡ initial_kind answer → b ≡ is_single usages kind
+      → b ≡ false → none ≡ reached_fixpoint (provisional_of p) usages answer
+  first_missed kind is k e left = sym (ap (λ (t : Bool). first t kind) left) ∙ first_is kind is k e
 
 -- ---- `run_again`
-pub again-none : (left : ℕ) → left ≡ 0 → ending.Overflow ≡ runAgain left
-again-none left is = sym (ap runAgain is)
+pub again_none : (left : ℕ) → left ≡ 0 → ending.Overflow ≡ run_again left
+again_none left is = sym (ap run_again is)
 
-pub again-some : (left : ℕ) → (left ≡ 0 → ⊥) → ending.Rerun ≡ runAgain left
-again-some left pos = let e : suc (left - 1) ≡ left = omega arith in ap runAgain e
+pub again_some : (left : ℕ) → (left ≡ 0 → ⊥) → ending.Rerun ≡ run_again left
+again_some left pos = let e : suc (left - 1) ≡ left = omega arith in ap run_again e
 
 -- ---- `without_fixpoint`
 module _ (left : ℕ) (usages : HeadUsages) (answer : Answer) (b : Bool) (e : b ≡ is_empty usages) where
@@ -70,56 +70,56 @@ module _ (left : ℕ) (usages : HeadUsages) (answer : Answer) (b : Bool) (e : b 
   chosen s t =
       elim s [
         | true ↦ ending.NoUsages
-        | false ↦ elim t [ true ↦ ending.Ambiguity answer | false ↦ runAgain left ]
+        | false ↦ elim t [ true ↦ ending.Ambiguity answer | false ↦ run_again left ]
       ]
 
-  pub without-usages : b ≡ true → ending.NoUsages ≡ withoutFixpoint left usages answer
-  without-usages taken = sym (ap (λ (s : Bool). chosen s (isAmbiguous answer)) (sym e ∙ taken))
+  pub without_usages : b ≡ true → ending.NoUsages ≡ without_fixpoint left usages answer
+  without_usages taken = sym (ap (λ (s : Bool). chosen s (is_ambiguous answer)) (sym e ∙ taken))
 
-  module _ (used : b ≡ false) (a : Bool) (f : a ≡ isAmbiguous answer) where
-    chosen_is : chosen false a ≡ withoutFixpoint left usages answer
-    chosen_is = ap (chosen false) f ∙ sym (ap (λ (s : Bool). chosen s (isAmbiguous answer)) (sym e ∙ used))
+  module _ (used : b ≡ false) (a : Bool) (f : a ≡ is_ambiguous answer) where
+    chosen_is : chosen false a ≡ without_fixpoint left usages answer
+    chosen_is = ap (chosen false) f ∙ sym (ap (λ (s : Bool). chosen s (is_ambiguous answer)) (sym e ∙ used))
 
-    pub without-ambiguous : a ≡ true → ending.Ambiguity answer ≡ withoutFixpoint left usages answer
-    without-ambiguous taken = sym (ap (chosen false) taken) ∙ chosen_is
+    pub without_ambiguous : a ≡ true → ending.Ambiguity answer ≡ without_fixpoint left usages answer
+    without_ambiguous taken = sym (ap (chosen false) taken) ∙ chosen_is
 
-    pub without-rerun : a ≡ false → (r : Ending) → r ≡ runAgain left → r ≡ withoutFixpoint left usages answer
-    without-rerun clear r is = is ∙ sym (ap (chosen false) clear) ∙ chosen_is
+    pub without_rerun : a ≡ false → (r : Ending) → r ≡ run_again left → r ≡ without_fixpoint left usages answer
+    without_rerun clear r is = is ∙ sym (ap (chosen false) clear) ∙ chosen_is
 
 -- ---- `ending_of_head`
 module _ (left : ℕ) (p : Provisional) (usages : HeadUsages) (answer : Answer) (r : Searched)
-    (e : searchedOf r ≡ reachedFixpoint (provisionalOf p) usages answer) where
+    (e : searched_of r ≡ reached_fixpoint (provisional_of p) usages answer) where
   abbrev through : Option Fixpoint → Ending
-  through o = elim o [ some fixpoint ↦ ending.Fixpoint fixpoint | none ↦ withoutFixpoint left usages answer ]
+  through o = elim o [ some fixpoint ↦ ending.Fixpoint fixpoint | none ↦ without_fixpoint left usages answer ]
 
-  pub head-reached : (fixpoint : Fixpoint) → r ≡ Reached fixpoint
-      → ending.Fixpoint fixpoint ≡ endingOfHead left (provisionalOf p) usages answer
-  head-reached fixpoint is = ap through (sym (ap searchedOf is) ∙ e)
+  pub head_reached : (fixpoint : Fixpoint) → r ≡ Reached fixpoint
+      → ending.Fixpoint fixpoint ≡ ending_of_head left (provisional_of p) usages answer
+  head_reached fixpoint is = ap through (sym (ap searched_of is) ∙ e)
 
-  pub head-missed : r ≡ Missed → (x : Ending) → x ≡ withoutFixpoint left usages answer
-      → x ≡ endingOfHead left (provisionalOf p) usages answer
-  head-missed is x h = h ∙ ap through (sym (ap searchedOf is) ∙ e)
+  pub head_missed : r ≡ Missed → (x : Ending) → x ≡ without_fixpoint left usages answer
+      → x ≡ ending_of_head left (provisional_of p) usages answer
+  head_missed is x h = h ∙ ap through (sym (ap searched_of is) ∙ e)
 
 -- ---- `ending_of`
 module _ (left : ℕ) (p : Option Answer) (answer : Answer) where
-  abbrev ofUsages : Option HeadUsages → Ending
-  ofUsages u = elim u [ none ↦ ending.Nothing | some v ↦ endingOfHead left p v answer ]
+  abbrev of_usages : Option HeadUsages → Ending
+  of_usages u = elim u [ none ↦ ending.Nothing | some v ↦ ending_of_head left p v answer ]
 
-  no-usages : (u : Option HeadUsages) → is_some u ≡ false → ending.Nothing ≡ ofUsages u
-  no-usages none e = refl
-  no-usages (some v) e = cc
+  no_usages_lem : (u : Option HeadUsages) → is_some u ≡ false → ending.Nothing ≡ of_usages u
+  no_usages_lem none e = refl
+  no_usages_lem (some v) e = cc
 
-  with-usages : (u : Option HeadUsages) → is_some u ≡ true → endingOfHead left p (orNoUsages u) answer ≡ ofUsages u
-  with-usages none e = cc
-  with-usages (some v) e = refl
+  with_usages_lem : (u : Option HeadUsages) → is_some u ≡ true → ending_of_head left p (or_no_usages u) answer ≡ of_usages u
+  with_usages_lem none e = cc
+  with_usages_lem (some v) e = refl
 
 module _ (left : ℕ) (f : Frame) (answer : Answer) (b : Bool) (e : b ≡ is_some f.usages) where
-  pub ending-nothing : b ≡ false → ending.Nothing ≡ endingOf left f answer
-  ending-nothing off = no-usages left f.provisionalResult answer f.usages (sym e ∙ off)
+  pub ending_nothing : b ≡ false → ending.Nothing ≡ ending_of left f answer
+  ending_nothing off = no_usages_lem left f.provisional_result answer f.usages (sym e ∙ off)
 
-  pub ending-head : b ≡ true → (p : Provisional) → provisionalOf p ≡ f.provisionalResult → (u : HeadUsages)
-      → u ≡ orNoUsages f.usages
-      → endingOfHead left (provisionalOf p) u answer ≡ endingOf left f answer
-  ending-head taken p is-p u is-u =
-      (λ t. endingOfHead left (is-p t) (is-u t) answer)
-      ∙ with-usages left f.provisionalResult answer f.usages (sym e ∙ taken)
+  pub ending_head : b ≡ true → (p : Provisional) → provisional_of p ≡ f.provisional_result → (u : HeadUsages)
+      → u ≡ or_no_usages f.usages
+      → ending_of_head left (provisional_of p) u answer ≡ ending_of left f answer
+  ending_head taken p is-p u is-u =
+      (λ t. ending_of_head left (is-p t) (is-u t) answer)
+      ∙ with_usages_lem left f.provisional_result answer f.usages (sym e ∙ taken)

@@ -5,26 +5,26 @@ use Prim.Native.Nat.{ℕ, ◌+◌, ◌≤◌, ◌<◌}
 use native.Mathlib.Omega.{arith}
 use lib.ListN.{length}
 use Rattle.buffer.specs.Regions.{region}
-use Rattle.buffer.proofs.Regions.{length-region}
-use Rattle.definition.specs.Heads.{headsEmpty}
-use Rattle.definition.specs.Stack.{requiredDepthOf}
-use Rattle.layout.specs.Blocks.{headsSize, headsOf}
-use Rattle.layout.specs.Frame.{frameSize, headsStart, nestedStart, frame_of}
-use Rattle.layout.specs.Work.{frameStart}
-use Rattle.layout.proofs.Graphs.{frame-room}
-use Rattle.stack.specs.Bytes.{GraphBytes, frameBytes, frameAt}
+use Rattle.buffer.proofs.Regions.{length_region}
+use Rattle.definition.specs.Heads.{heads_empty}
+use Rattle.definition.specs.Stack.{required_depth_of}
+use Rattle.layout.specs.Blocks.{heads_size, heads_of}
+use Rattle.layout.specs.Frame.{frame_size, heads_start, nested_start, frame_of}
+use Rattle.layout.specs.Work.{frame_start}
+use Rattle.layout.proofs.Graphs.{frame_room}
+use Rattle.stack.specs.Bytes.{GraphBytes, frame_bytes, frame_at}
 
 -- there are as many as goals
-pub nested-length : (goals : ℕ) (bs : List ℕ) (i : ℕ) → GraphBytes goals bs → i < goals → length (frameAt goals i bs).nestedGoals ≡ goals
+pub nested_length : (goals : ℕ) (bs : List ℕ) (i : ℕ) → GraphBytes goals bs → i < goals → length (frame_at goals i bs).nested_goals ≡ goals
 unfolding frame_of
-nested-length goals bs i g lt =
-    let inner : nestedStart goals + goals ≤ frameSize goals = omega arith in
-    length-region (nestedStart goals) goals (region (frameStart goals i) (frameSize goals) bs) (omega (arith, inner, length-region (frameStart goals i) (frameSize goals) bs (frame-room goals bs g.long i lt)))
+nested_length goals bs i g lt =
+    let inner : nested_start goals + goals ≤ frame_size goals = omega arith in
+    length_region (nested_start goals) goals (region (frame_start goals i) (frame_size goals) bs) (omega (arith, inner, length_region (frame_start goals i) (frame_size goals) bs (frame_room goals bs g.long i lt)))
 
 -- ---- what is read of the frame
-pub headless-is : (goals i : ℕ) (bs r hs : List ℕ) → r ≡ frameBytes goals i bs → hs ≡ region headsStart (headsSize goals) r → headsEmpty (headsOf goals hs) ≡ headsEmpty (frameAt goals i bs).heads
+pub headless_is : (goals i : ℕ) (bs r hs : List ℕ) → r ≡ frame_bytes goals i bs → hs ≡ region heads_start (heads_size goals) r → heads_empty (heads_of goals hs) ≡ heads_empty (frame_at goals i bs).heads
 unfolding frame_of
-headless-is goals i bs r hs is e = ap (λ (l : List ℕ). headsEmpty (headsOf goals l)) (e ∙ ap (region headsStart (headsSize goals)) is)
+headless_is goals i bs r hs is e = ap (λ (l : List ℕ). heads_empty (heads_of goals l)) (e ∙ ap (region heads_start (heads_size goals)) is)
 
-pub required-is : (goals i : ℕ) (bs r : List ℕ) (d : ℕ) → r ≡ frameBytes goals i bs → d ≡ requiredDepthOf (frame_of goals r) → d ≡ requiredDepthOf (frameAt goals i bs)
-required-is goals i bs r d is e = e ∙ ap (λ (l : List ℕ). requiredDepthOf (frame_of goals l)) is
+pub required_is : (goals i : ℕ) (bs r : List ℕ) (d : ℕ) → r ≡ frame_bytes goals i bs → d ≡ required_depth_of (frame_of goals r) → d ≡ required_depth_of (frame_at goals i bs)
+required_is goals i bs r d is e = e ∙ ap (λ (l : List ℕ). required_depth_of (frame_of goals l)) is

@@ -13,26 +13,26 @@ use Rattle.definition.specs.contracts.endings.Ending.{the_type}
 use Rattle.definition.specs.declared.endings.Ending.TheVariants as ending
 use Rattle.definition.specs.declared.replies.Refusal.{Refusal}
 use Rattle.definition.specs.Stack.{Stack, Frame, CountsTrue}
-use Rattle.definition.specs.Graph.{Graph, finalize, withStack}
+use Rattle.definition.specs.Graph.{Graph, finalize, with_stack}
 use Rattle.definition.specs.Graph as graph
-use Rattle.definition.specs.Endings.{endingOf, pop}
+use Rattle.definition.specs.Endings.{ending_of, pop}
 use Rattle.definition.specs.Task as task
-use Rattle.definition.proofs.Reruns.{rerun-left}
+use Rattle.definition.proofs.Reruns.{rerun_left}
 use Rattle.layout.specs.Frame.{frame_of}
 use Rattle.layout.specs.Work.{stack_of, graph_of}
-use Rattle.stack.specs.Bytes.{StackBytes, frameBytes, frameAt}
+use Rattle.stack.specs.Bytes.{StackBytes, frame_bytes, frame_at}
 use Rattle.stack.specs.Written.{TopChanged}
 use Rattle.stack.proofs.Loops.{top}
-use Rattle.stack.proofs.Counts.{rerun-true}
-use Rattle.provisional_cache.proofs.Writes.{frame-kept}
+use Rattle.stack.proofs.Counts.{rerun_true}
+use Rattle.provisional_cache.proofs.Writes.{frame_kept}
 use Rattle.pop.specs.Endings as pops
 use Rattle.evaluation.specs.declared.Outcome.{Outcome}
 use Rattle.evaluation.specs.declared.Outcome.TheVariants.{Done, Stopped}
 use Rattle.evaluation.specs.declared.TaskOutcome.TheVariants.{Evaluated, TaskStopped}
-use Rattle.evaluation.specs.Outcomes.{outcomeOf, taskOutcomeOf}
+use Rattle.evaluation.specs.Outcomes.{outcome_of, task_outcome_of}
 use Rattle.task.specs.declared.Iteration.{Iteration}
 use Rattle.task.specs.declared.Iteration.TheVariants.{End, Again}
-use Rattle.task.specs.Turns.{nextTurn, turned, FewLeft, FewTurned}
+use Rattle.task.specs.Turns.{next_turn, turned, FewLeft, FewTurned}
 use Rattle.task.specs.Iterations.{FramePopped, Followed, TurnTaken}
 
 abbrev Next : Type 0
@@ -41,7 +41,7 @@ Next = Bool → Graph → task.TaskOutcome
 -- ---- `popped`, by the numbers of the endings' variants
 ends_so : (e : Ending) → OneOf (0 ∷ 1 ∷ 2 ∷ 3 ∷ 4 ∷ []) (tag_of the_type e) → (answer : Answer)
     → (e ≡ ending.Overflow → answer ≡ Overflow) → (next : Next) (pass : ℕ) (overflow : Bool) (f : Frame) (g : Graph)
-    → task.afterPop next pass overflow f answer e g ≡ task.Evaluated g (finalize f overflow answer pass)
+    → task.after_pop next pass overflow f answer e g ≡ task.Evaluated g (finalize f overflow answer pass)
 ends_so ending.Nothing k answer h next pass overflow f g = refl
 ends_so (ending.Fixpoint fixpoint) k answer h next pass overflow f g = refl
 ends_so ending.NoUsages k answer h next pass overflow f g = refl
@@ -58,47 +58,47 @@ module _ (goals height n : ℕ) (e : Ending) (overflow : Bool) (answer : Answer)
   own = height - 1
 
   abbrev f : Frame
-  f = frameAt goals own old
+  f = frame_at goals own old
 
-  left-few : kept ≤ 2 * goals
-  left-few = let l = popped.few in omega arith
+  left_few : kept ≤ 2 * goals
+  left_few = let l = popped.few in omega arith
 
   -- the goal's outcome
   pub over : OneOf (0 ∷ 1 ∷ 2 ∷ 3 ∷ 4 ∷ []) (tag_of the_type e) → (e ≡ ending.Overflow → answer ≡ Overflow)
       → FramePopped goals height e n overflow answer old mid (End (Evaluated answer overflow kept))
-  unfolding turned taskOutcomeOf
+  unfolding turned task_outcome_of
   over k limit =
       let h = st.high in
-      let same = sym (frame-kept goals old mid own popped.frames (omega arith)) in
+      let same = sym (frame_kept goals old mid own popped.frames (omega arith)) in
       record {
         is = λ root cache pass next.
             ends_so e k answer limit next pass overflow f (pop e (graph_of goals root height n old cache))
             ∙ ap₂ (λ (x : Frame) (g : Graph). task.Evaluated g (finalize x overflow answer pass)) same
             (sym (popped.is root cache));
-        few = left-few;
+        few = left_few;
         counts = tt;
       }
 
   -- the frame is on top again
-  pub again : e ≡ ending.Rerun → (new : List ℕ) → TopChanged goals own (λ f. task.rerunFrame f answer) mid new
+  pub again : e ≡ ending.Rerun → (new : List ℕ) → TopChanged goals own (λ f. task.rerun_frame f answer) mid new
       → FramePopped goals height e n overflow answer old new (Again overflow kept)
   unfolding turned
   again is new w =
       let whole : own + 1 ≡ height = omega arith in
       let h = st.high in
-      let same = sym (frame-kept goals old mid own popped.frames (omega arith)) in
+      let same = sym (frame_kept goals old mid own popped.frames (omega arith)) in
       let s = sym (ap (λ (k : ℕ). stack_of goals k new) (sym whole) ∙ w.stack) in
       let es = sym (w.entries kept) in
       record {
         is = λ root cache pass next.
-            ap₂ (λ (x : Ending) (g : Graph). task.afterPop next pass overflow f answer x g) is (sym (popped.is root cache))
-            ∙ ap (λ (x : Frame). next overflow (task.pushRerun (graph_of goals root own kept mid cache) x answer)) same
+            ap₂ (λ (x : Ending) (g : Graph). task.after_pop next pass overflow f answer x g) is (sym (popped.is root cache))
+            ∙ ap (λ (x : Frame). next overflow (task.push_rerun (graph_of goals root own kept mid cache) x answer)) same
             ∙ ap (next overflow)
-            (λ t. record { rootDepth = root; stack = s t; provisionalCache = es t; globalCache = cache });
-        few = (left-few, is);
+            (λ t. record { root_depth = root; stack = s t; provisional_cache = es t; global_cache = cache });
+        few = (left_few, is);
         counts =
             subst (λ (k : ℕ). CountsTrue (stack_of goals k new)) whole
-            (rerun-true goals own answer mid new w
+            (rerun_true goals own answer mid new w
             (subst (λ (k : ℕ). CountsTrue (stack_of goals k mid)) (sym whole)
             (subst CountsTrue (sym (popped.frames.stacks height st.high)) st.counts)));
       }
@@ -106,62 +106,62 @@ module _ (goals height n : ℕ) (e : Ending) (overflow : Bool) (answer : Answer)
 -- ---- `followed`
 
 -- any ending but the step limit's
-pub not-limit : (e : Ending) → OneOf (0 ∷ 1 ∷ 2 ∷ 3 ∷ 5 ∷ []) (tag_of the_type e) → e ≡ ending.Overflow → ⊥
-not-limit e k is =
+pub not_limit : (e : Ending) → OneOf (0 ∷ 1 ∷ 2 ∷ 3 ∷ 5 ∷ []) (tag_of the_type e) → e ≡ ending.Overflow → ⊥
+not_limit e k is =
     let z : OneOf (0 ∷ 1 ∷ 2 ∷ 3 ∷ 5 ∷ []) 4 =
     subst (λ (x : Ending). OneOf (0 ∷ 1 ∷ 2 ∷ 3 ∷ 5 ∷ []) (tag_of the_type x)) is k in
     miss (0 ∷ 1 ∷ 2 ∷ 3 ∷ 5 ∷ []) 4 tt z
 
 -- what is read of the frame's bytes
-pub met-is : (goals own : ℕ) (bs r : List ℕ) (overflow b met : Bool) → r ≡ frameBytes goals own bs
-    → b ≡ (frame_of goals r).encounteredOverflow → met ≡ (overflow || b)
-    → met ≡ (overflow || (frameAt goals own bs).encounteredOverflow)
-met-is goals own bs r overflow b met is e m =
+pub met_is : (goals own : ℕ) (bs r : List ℕ) (overflow b met : Bool) → r ≡ frame_bytes goals own bs
+    → b ≡ (frame_of goals r).encountered_overflow → met ≡ (overflow || b)
+    → met ≡ (overflow || (frame_at goals own bs).encountered_overflow)
+met_is goals own bs r overflow b met is e m =
     m
-    ∙ ap (λ (x : Bool). overflow || x) (e ∙ ap (λ (l : List ℕ). (frame_of goals l).encounteredOverflow) is)
+    ∙ ap (λ (x : Bool). overflow || x) (e ∙ ap (λ (l : List ℕ). (frame_of goals l).encountered_overflow) is)
 
-pub ending-is : (goals own left : ℕ) (bs r : List ℕ) (answer : Answer) (x : Ending) → r ≡ frameBytes goals own bs
-    → x ≡ endingOf left (frame_of goals r) answer
-    → x ≡ endingOf left (frameAt goals own bs) answer
-ending-is goals own left bs r answer x is e = e ∙ ap (λ (l : List ℕ). endingOf left (frame_of goals l) answer) is
+pub ending_is : (goals own left : ℕ) (bs r : List ℕ) (answer : Answer) (x : Ending) → r ≡ frame_bytes goals own bs
+    → x ≡ ending_of left (frame_of goals r) answer
+    → x ≡ ending_of left (frame_at goals own bs) answer
+ending_is goals own left bs r answer x is e = e ∙ ap (λ (l : List ℕ). ending_of left (frame_of goals l) answer) is
 
 module _ (goals height n left : ℕ) (overflow : Bool) (answer : Answer) (old : List ℕ) (some : 1 ≤ height) (met : Bool)
-    (is-met : met ≡ (overflow || (frameAt goals (height - 1) old).encounteredOverflow))
-    (e : Ending) (is-e : e ≡ endingOf left (frameAt goals (height - 1) old) answer) (new : List ℕ) (r : Iteration) where
+    (is-met : met ≡ (overflow || (frame_at goals (height - 1) old).encountered_overflow))
+    (e : Ending) (is-e : e ≡ ending_of left (frame_at goals (height - 1) old) answer) (new : List ℕ) (r : Iteration) where
   abbrev frame : Frame
-  frame = frameAt goals (height - 1) old
+  frame = frame_at goals (height - 1) old
 
   opened : (root : ℕ) (cache : List ℕ) (pass : ℕ) (next : Next)
-      → task.endIteration left pass next overflow (graph_of goals root height n old cache) answer (stack_of goals height old)
-      ≡ task.afterPop next pass met frame answer e (pop e (graph_of goals root height n old cache))
+      → task.end_iteration left pass next overflow (graph_of goals root height n old cache) answer (stack_of goals height old)
+      ≡ task.after_pop next pass met frame answer e (pop e (graph_of goals root height n old cache))
   opened root cache pass next =
       let g : Graph = graph_of goals root height n old cache in
       let s = top goals old height some in
-      ap (task.endIteration left pass next overflow g answer) s
-      ∙ ap (λ (x : Stack). task.afterPop next pass (overflow || frame.encounteredOverflow) frame answer
-      (endingOf left frame answer) (pop (endingOf left frame answer) (withStack g x))) (sym s)
-      ∙ ap₂ (λ (m : Bool) (x : Ending). task.afterPop next pass m frame answer x (pop x g)) (sym is-met) (sym is-e)
+      ap (task.end_iteration left pass next overflow g answer) s
+      ∙ ap (λ (x : Stack). task.after_pop next pass (overflow || frame.encountered_overflow) frame answer
+      (ending_of left frame answer) (pop (ending_of left frame answer) (with_stack g x))) (sym s)
+      ∙ ap₂ (λ (m : Bool) (x : Ending). task.after_pop next pass m frame answer x (pop x g)) (sym is-met) (sym is-e)
 
-  few-turned : (i : Iteration) → FewLeft goals e i → FewTurned goals left i
-  few-turned (End t) w = w
-  few-turned (Again m k) w = (w.0, rerun-left left frame answer (sym is-e ∙ w.1))
+  few_turned : (i : Iteration) → FewLeft goals e i → FewTurned goals left i
+  few_turned (End t) w = w
+  few_turned (Again m k) w = (w.0, rerun_left left frame answer (sym is-e ∙ w.1))
 
   pub follows : FramePopped goals height e n met answer old new r
       → Followed goals height n left overflow answer old new r
   follows made =
       record {
         is = λ root cache pass next. opened root cache pass next ∙ made.is root cache pass next;
-        few = few-turned r made.few;
+        few = few_turned r made.few;
         counts = made.counts;
       }
 
   -- past the step limit
-  pub follows-limit : e ≡ ending.Overflow → FramePopped goals height ending.Overflow n met Overflow old new r
+  pub follows_limit : e ≡ ending.Overflow → FramePopped goals height ending.Overflow n met Overflow old new r
       → Followed goals height n left overflow answer old new r
-  follows-limit is made =
+  follows_limit is made =
       follows (record {
         is = λ root cache pass next.
-            ap (λ (x : Ending). task.afterPop next pass met frame answer x
+            ap (λ (x : Ending). task.after_pop next pass met frame answer x
             (pop x (graph_of goals root height n old cache))) is ∙ made.is root cache pass next;
         few = subst (λ (x : Ending). FewLeft goals x r) (sym is) made.few;
         counts = made.counts;
@@ -170,22 +170,22 @@ module _ (goals height n left : ℕ) (overflow : Bool) (answer : Answer) (old : 
 -- ---- `end_iteration`
 module _ (goals height left : ℕ) (overflow : Bool) (bs : List ℕ) (o : Outcome) where
   pub turn_stopped : (r : Refusal) → o ≡ Stopped r → TurnTaken goals height left overflow o bs bs (End (TaskStopped r))
-  unfolding outcomeOf taskOutcomeOf turned
+  unfolding outcome_of task_outcome_of turned
   turn_stopped r is =
       record {
         is = λ root cache pass next. ap (λ (x : Outcome). task.iteration left pass next overflow
-            (outcomeOf goals root height bs cache x)) is;
+            (outcome_of goals root height bs cache x)) is;
         few = tt;
         counts = tt;
       }
 
-  pub turn-done : (answer : Answer) (n : ℕ) → o ≡ Done answer n → (new : List ℕ) (r : Iteration)
+  pub turn_done : (answer : Answer) (n : ℕ) → o ≡ Done answer n → (new : List ℕ) (r : Iteration)
       → Followed goals height n left overflow answer bs new r → TurnTaken goals height left overflow o bs new r
-  unfolding outcomeOf
-  turn-done answer n is new r w =
+  unfolding outcome_of
+  turn_done answer n is new r w =
       record {
         is = λ root cache pass next.
-            ap (λ (x : Outcome). task.iteration left pass next overflow (outcomeOf goals root height bs cache x)) is
+            ap (λ (x : Outcome). task.iteration left pass next overflow (outcome_of goals root height bs cache x)) is
             ∙ w.is root cache pass next;
         few = w.few;
         counts = w.counts;
@@ -193,11 +193,11 @@ module _ (goals height left : ℕ) (overflow : Bool) (bs : List ℕ) (o : Outcom
 
 -- a turn is one of the definition's, with those after it
 pub turn_is : (compute : Graph → graph.Outcome) (left pass : ℕ) (overflow : Bool) (g : Graph)
-    → task.evaluateGoalInTask compute left pass overflow g
-    ≡ task.iteration left pass (nextTurn compute left pass) overflow (compute g)
+    → task.evaluate_goal_in_task compute left pass overflow g
+    ≡ task.iteration left pass (next_turn compute left pass) overflow (compute g)
 turn_is compute zero pass overflow g = refl
 turn_is compute (suc left) pass overflow g = refl
 
-pub next-is : (compute : Graph → graph.Outcome) (left pass : ℕ) → 0 < left
-    → nextTurn compute left pass ≡ task.evaluateGoalInTask compute (left - 1) (suc pass)
-next-is compute left pass some = let e : left ≡ suc (left - 1) = omega arith in ap (λ (n : ℕ). nextTurn compute n pass) e
+pub next_is : (compute : Graph → graph.Outcome) (left pass : ℕ) → 0 < left
+    → next_turn compute left pass ≡ task.evaluate_goal_in_task compute (left - 1) (suc pass)
+next_is compute left pass some = let e : left ≡ suc (left - 1) = omega arith in ap (λ (n : ℕ). next_turn compute n pass) e

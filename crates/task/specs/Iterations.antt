@@ -8,9 +8,9 @@ use Rattle.definition.specs.Graph.{Graph}
 use Rattle.definition.specs.Endings.{pop}
 use Rattle.definition.specs.Task as task
 use Rattle.layout.specs.Work.{stack_of, graph_of}
-use Rattle.stack.specs.Bytes.{frameAt}
+use Rattle.stack.specs.Bytes.{frame_at}
 use Rattle.evaluation.specs.declared.Outcome.{Outcome}
-use Rattle.evaluation.specs.Outcomes.{outcomeOf}
+use Rattle.evaluation.specs.Outcomes.{outcome_of}
 use Rattle.task.specs.declared.Iteration.{Iteration}
 use Rattle.task.specs.Turns.{turned, CountsTurned, FewTurned, FewLeft}
 
@@ -18,7 +18,7 @@ use Rattle.task.specs.Turns.{turned, CountsTurned, FewTurned, FewLeft}
 pub record FramePopped (goals height : ℕ) (ending : Ending) (n : ℕ) (overflow : Bool) (answer : Answer)
     (old new : List ℕ) (r : Iteration) : Type 0 where
   pub is : (root : ℕ) (cache : List ℕ) (pass : ℕ) (next : Bool → Graph → task.TaskOutcome)
-      → task.afterPop next pass overflow (frameAt goals (height - 1) old) answer ending
+      → task.after_pop next pass overflow (frame_at goals (height - 1) old) answer ending
       (pop ending (graph_of goals root height n old cache))
       ≡ turned goals root height pass next new cache r
   pub few : FewLeft goals ending r
@@ -28,7 +28,7 @@ pub record FramePopped (goals height : ℕ) (ending : Ending) (n : ℕ) (overflo
 pub record Followed (goals height n left : ℕ) (overflow : Bool) (answer : Answer) (old new : List ℕ)
     (r : Iteration) : Type 0 where
   pub is : (root : ℕ) (cache : List ℕ) (pass : ℕ) (next : Bool → Graph → task.TaskOutcome)
-      → task.endIteration left pass next overflow (graph_of goals root height n old cache) answer
+      → task.end_iteration left pass next overflow (graph_of goals root height n old cache) answer
       (stack_of goals height old)
       ≡ turned goals root height pass next new cache r
   pub few : FewTurned goals left r
@@ -37,7 +37,7 @@ pub record Followed (goals height n left : ℕ) (overflow : Bool) (answer : Answ
 pub record TurnTaken (goals height left : ℕ) (overflow : Bool) (o : Outcome) (old new : List ℕ)
     (r : Iteration) : Type 0 where
   pub is : (root : ℕ) (cache : List ℕ) (pass : ℕ) (next : Bool → Graph → task.TaskOutcome)
-      → task.iteration left pass next overflow (outcomeOf goals root height old cache o)
+      → task.iteration left pass next overflow (outcome_of goals root height old cache o)
       ≡ turned goals root height pass next new cache r
   pub few : FewTurned goals left r
   pub counts : CountsTurned (stack_of goals height new) r

@@ -20,7 +20,7 @@ pub record IterationEnded (goals height : ℕ) (graph : List ℕ) (o : Outcome) 
 pub record TaskEnded (h : Header) (height goal : ℕ) (graph cache : List ℕ) (ran : Ran) : Type 0 where
   pub bytes : GraphBytes h.goals graph
   pub counts : TaskCountsIn (stack_of h.goals height graph) ran.outcome
-  pub cache-bytes : CacheBytes h.goals h.top cache
+  pub cache_bytes : CacheBytes h.goals h.top cache
   pub under : height < h.goals
   pub known : goal < h.goals
   pub few : FewTaskEntries h.goals ran.outcome
@@ -36,4 +36,4 @@ pub record Room (h : Header) (height entries goal : ℕ) (graph : List ℕ) : Ty
 -- to one of the caches
 pub record Popped (h : Header) (height entries goal : ℕ) (graph cache : List ℕ) : Type 0 where
   pub room : Room h height entries goal graph
-  pub cache-bytes : CacheBytes h.goals h.top cache
+  pub cache_bytes : CacheBytes h.goals h.top cache

@@ -8,25 +8,25 @@ use Rattle.definition.specs.Stack.{Stack, CountsTrue}
 use Rattle.definition.specs.Graph.{Graph, Outcome}
 use Rattle.definition.specs.Task as task
 use Rattle.layout.specs.Work.{graph_of}
-use Rattle.evaluation.specs.Outcomes.{taskOutcomeOf, FewTaskEntries}
+use Rattle.evaluation.specs.Outcomes.{task_outcome_of, FewTaskEntries}
 use Rattle.task.specs.declared.Iteration.{Iteration}
 use Rattle.task.specs.declared.Iteration.TheVariants.{End, Again}
 use Rattle.task.specs.declared.ending.Searched.{Searched}
 use Rattle.task.specs.declared.ending.Searched.TheVariants.{Reached, Missed}
 
-abbrev pub searchedOf : Searched → Option Fixpoint
-searchedOf (Reached fixpoint) = some fixpoint
-searchedOf Missed = none
+abbrev pub searched_of : Searched → Option Fixpoint
+searched_of (Reached fixpoint) = some fixpoint
+searched_of Missed = none
 
 -- the turn of `evaluateGoalInTask` after the one with the number `pass`, with which `left` more are allowed
-abbrev pub nextTurn : (Graph → Outcome) → ℕ → ℕ → Bool → Graph → task.TaskOutcome
-nextTurn compute zero pass = task.noTurn
-nextTurn compute (suc left) pass = task.evaluateGoalInTask compute left (suc pass)
+abbrev pub next_turn : (Graph → Outcome) → ℕ → ℕ → Bool → Graph → task.TaskOutcome
+next_turn compute zero pass = task.no_turn
+next_turn compute (suc left) pass = task.evaluate_goal_in_task compute left (suc pass)
 
 -- `height` frames were on the stack, and are again in the next turn; `pass` turns were taken
 unfoldable pub turned : ℕ → ℕ → ℕ → ℕ → (Bool → Graph → task.TaskOutcome) → List ℕ → List ℕ → Iteration
     → task.TaskOutcome
-turned goals root height pass next bs cache (End t) = taskOutcomeOf goals root (height - 1) pass bs cache t
+turned goals root height pass next bs cache (End t) = task_outcome_of goals root (height - 1) pass bs cache t
 turned goals root height pass next bs cache (Again met n) = next met (graph_of goals root height n bs cache)
 
 -- where there is a next turn, the counts of steps on the stack s are true

@@ -1,10 +1,10 @@
 // Which ending applies to a frame after an iteration: decided here, and nowhere else.
 ghost use Rattle.std.specs.Prelude.{◌≡◌};
-ghost use Rattle.definition.specs.Endings.{reachedFixpoint, runAgain, withoutFixpoint, endingOfHead, endingOf};
+ghost use Rattle.definition.specs.Endings.{reached_fixpoint, run_again, without_fixpoint, ending_of_head, ending_of};
 ghost use Rattle.layout.specs.Frame.{frame_of};
 ghost use Rattle.stack.specs.Bytes.{FrameBytes};
-ghost use Rattle.stack.specs.Results.{provisionalOf};
-ghost use Rattle.task.specs.Turns.{searchedOf};
+ghost use Rattle.stack.specs.Results.{provisional_of};
+ghost use Rattle.task.specs.Turns.{searched_of};
 
 use definition::answers::Answer;
 use definition::endings::{Ending, Fixpoint};
@@ -22,7 +22,7 @@ pub enum Searched {
 // The answer is what the cycles were given: the provisional result or, in the first iteration,
 // the initial result of a kind, where they were all of that kind.
 fn reached_fixpoint(provisional: Provisional, usages: HeadUsages, answer: Answer) -> Searched
-    ensures { searchedOf result ≡ reachedFixpoint (provisionalOf provisional) usages answer }
+    ensures { searched_of result ≡ reached_fixpoint (provisional_of provisional) usages answer }
 {
     match provisional {
         Provisional::Result(before) => {
@@ -43,7 +43,7 @@ fn reached_fixpoint(provisional: Provisional, usages: HeadUsages, answer: Answer
 
 // A rerun, unless none is left.
 fn run_again(left: usize) -> Ending
-    ensures { result ≡ runAgain left }
+    ensures { result ≡ run_again left }
 {
     if left == 0 {
         return Ending::Overflow;
@@ -54,7 +54,7 @@ fn run_again(left: usize) -> Ending
 // Where no cycle used the frame, the answer leans on no provisional result. An ambiguous answer
 // hardly becomes another in a rerun, which may cost much, and is never wrong.
 fn without_fixpoint(left: usize, usages: HeadUsages, answer: Answer) -> Ending
-    ensures { result ≡ withoutFixpoint left usages answer }
+    ensures { result ≡ without_fixpoint left usages answer }
 {
     if usages.is_empty() {
         return Ending::NoUsages;
@@ -71,7 +71,7 @@ fn ending_of_head(
     usages: HeadUsages,
     answer: Answer,
 ) -> Ending
-    ensures { result ≡ endingOfHead left (provisionalOf provisional) usages answer }
+    ensures { result ≡ ending_of_head left (provisional_of provisional) usages answer }
 {
     let searched = reached_fixpoint(provisional, usages, answer);
     match searched {
@@ -83,7 +83,7 @@ fn ending_of_head(
 // `left` reruns are allowed.
 pub fn ending_of(f: &[u8], goals: usize, left: usize, answer: Answer) -> Ending
     requires { FrameBytes goals f.now }
-    ensures { result ≡ endingOf left (frame_of goals f.now) answer }
+    ensures { result ≡ ending_of left (frame_of goals f.now) answer }
 {
     if !frame::is_head(f, goals) {
         return Ending::Nothing;

@@ -1,7 +1,7 @@
 // The result of a goal goes to one of the caches. Its frame stood at index `height`.
 ghost use Rattle.std.specs.Prelude.{◌≡◌, ◌<◌};
-ghost use Rattle.definition.specs.Heads.{headsEmpty};
-ghost use Rattle.stack.specs.Bytes.{GraphBytes, frameAt};
+ghost use Rattle.definition.specs.Heads.{heads_empty};
+ghost use Rattle.stack.specs.Bytes.{GraphBytes, frame_at};
 ghost use Rattle.task.specs.Places.{Popped, Room};
 ghost use Rattle.task.specs.Results.{InGlobalCache, InProvisionalCache, InCache};
 
@@ -16,7 +16,7 @@ use stack::frame;
 // The nested goals of the frame.
 fn nested_at(graph: &[u8], goals: usize, height: usize) -> &[u8]
     requires { GraphBytes goals graph.now × (height < goals) }
-    ensures { result.now ≡ (frameAt goals height graph.now).nestedGoals }
+    ensures { result.now ≡ (frame_at goals height graph.now).nested_goals }
 {
     frame::nested(stack::frame_at(graph, goals, height), goals)
 }
@@ -24,7 +24,7 @@ fn nested_at(graph: &[u8], goals: usize, height: usize) -> &[u8]
 // Whether the frame has no heads.
 fn is_headless(graph: &[u8], goals: usize, height: usize) -> bool
     requires { GraphBytes goals graph.now × (height < goals) }
-    ensures { result ≡ headsEmpty (frameAt goals height graph.now).heads }
+    ensures { result ≡ heads_empty (frame_at goals height graph.now).heads }
 {
     heads::is_empty(
         frame::heads(stack::frame_at(graph, goals, height), goals),

@@ -4,7 +4,7 @@ mod line;
 mod part;
 
 ghost use Rattle.std.specs.Prelude.{◌≡◌, ◌≤◌, ◌<◌, length};
-ghost use Rattle.tidy.specs.Reply.{lengthUsed, refusalOf, replied, responseCode, tidy};
+ghost use Rattle.tidy.specs.Reply.{length_used, refusal_of, replied, response_code, tidy};
 ghost use Rattle.tidy.specs.Promises.{Promises};
 ghost use Rattle.tidy.specs.Engine.{StartsGoal, WroteGoal, IsRead, WroteBook};
 
@@ -25,7 +25,7 @@ pub enum Response {
 impl Response {
     // The length used, 0 for a refusal.
     fn length(self) -> u16
-        ensures { result ≡ lengthUsed self }
+        ensures { result ≡ length_used self }
     {
         match self {
             Response::Written(n) => n,
@@ -36,7 +36,7 @@ impl Response {
 
     // The refusal's number, 0 for none.
     pub fn refusal(self) -> u16
-        ensures { result ≡ refusalOf self }
+        ensures { result ≡ refusal_of self }
     {
         match self {
             Response::Written(_) => 0,
@@ -47,7 +47,7 @@ impl Response {
 
     // Length used + 65536 * refusal.
     pub fn code(self) -> u32
-        ensures { result ≡ responseCode self }
+        ensures { result ≡ response_code self }
     {
         (self.length() as u32) + 65536 * (self.refusal() as u32)
     }

@@ -1,7 +1,7 @@
 // A line, written.
 ghost use Rattle.std.specs.Prelude.{◌≡◌, ◌++◌, ◌+◌, ◌≤◌, length, drop};
-ghost use Rattle.tidy.specs.Write.{lineWith, writeLine};
-ghost use Rattle.tidy.specs.Engine.{putColumns};
+ghost use Rattle.tidy.specs.Write.{line_with, write_line};
+ghost use Rattle.tidy.specs.Engine.{put_columns};
 
 use book::columns;
 use definition::format::Line;
@@ -9,7 +9,7 @@ use definition::format::Line;
 // A number in the three columns from place i on.
 fn put(s: &mut [u8], i: usize, n: u16)
     requires { i + 3 ≤ length s.old }
-    ensures { s.new ≡ putColumns s.old i n }
+    ensures { s.new ≡ put_columns s.old i n }
 {
     s[i] = columns::leading(n / 100);
     s[i + 1] = columns::leading(n / 10);
@@ -18,7 +18,7 @@ fn put(s: &mut [u8], i: usize, n: u16)
 
 fn fill(s: &mut [u8], l: Line)
     requires { length s.old ≡ 16 }
-    ensures { s.new ≡ writeLine l }
+    ensures { s.new ≡ write_line l }
 {
     put(s, 0, l.code);
     put(s, 3, l.first);
@@ -31,7 +31,7 @@ fn fill(s: &mut [u8], l: Line)
 // Writes a line to the first 16 bytes.
 pub fn write(out: &mut [u8], l: Line)
     requires { 16 ≤ length out.old }
-    ensures { out.new ≡ writeLine l ++ drop 16 out.old }
+    ensures { out.new ≡ write_line l ++ drop 16 out.old }
 {
     fill(&mut out[..16], l);
 }
@@ -39,7 +39,7 @@ pub fn write(out: &mut [u8], l: Line)
 // The same of a line that uses its code and one number.
 pub fn write_with(out: &mut [u8], code: u16, n: u16)
     requires { 16 ≤ length out.old }
-    ensures { out.new ≡ writeLine (lineWith code n) ++ drop 16 out.old }
+    ensures { out.new ≡ write_line (line_with code n) ++ drop 16 out.old }
 {
     write(
         out,

@@ -2,7 +2,7 @@
 // as soon as it stands there; the node's own line is written when its parts are known.
 ghost use Rattle.std.specs.Prelude.{◌≡◌, ◌≤◌, ◌<◌, length};
 ghost use Rattle.book.specs.Codes.{code_of};
-ghost use Rattle.tidy.specs.Engine.{is_group, isNode, lineDropped, isSpliced, joinedIf, droppedIf, isOnly, headedLength, headed, StartsWithin, WrotePart};
+ghost use Rattle.tidy.specs.Engine.{is_group, is_node, line_dropped, is_spliced, joined_if, dropped_if, is_only, headed_length, headed, StartsWithin, WrotePart};
 
 use crate::line;
 use book::code::Code;
@@ -37,7 +37,7 @@ fn is_group(code: u16) -> bool
 
 // Whether a line's code says all, any or pick.
 fn is_node(code: u16) -> bool
-    ensures { result ≡ isNode (code_of code) }
+    ensures { result ≡ is_node (code_of code) }
 {
     match Code::of_number(code) {
         Code::Goal => false,
@@ -52,7 +52,7 @@ fn is_node(code: u16) -> bool
 // Takes the first line of n bytes away: the others move up.
 fn drop_line(out: &mut [u8], n: usize)
     requires { (16 ≤ n) × (n ≤ length out.old) }
-    ensures { out.new ≡ lineDropped n out.old }
+    ensures { out.new ≡ line_dropped n out.old }
 {
     buffer::copy_within(out, 16, 0, n - 16);
 }
@@ -61,8 +61,8 @@ fn drop_line(out: &mut [u8], n: usize)
 // an all inside an all is spliced in, so that its line goes, likewise any inside any.
 fn join(out: &mut [u8], n: usize, code: u16) -> Joined
     requires { (16 ≤ n) × (n ≤ length out.old) }
-    ensures { (result ≡ joinedIf (isSpliced code out.old) n out.old)
-        × (out.new ≡ droppedIf (isSpliced code out.old) n out.old) }
+    ensures { (result ≡ joined_if (is_spliced code out.old) n out.old)
+        × (out.new ≡ dropped_if (is_spliced code out.old) n out.old) }
 {
     if !is_group(code) {
         return Joined { count: 1, bytes: n };
@@ -78,7 +78,7 @@ fn join(out: &mut [u8], n: usize, code: u16) -> Joined
 
 // Whether a node with this code and so many parts becomes its part.
 fn is_only(code: u16, count: u16) -> bool
-    ensures { result ≡ isOnly code count }
+    ensures { result ≡ is_only code count }
 {
     if !is_group(code) {
         return false;
@@ -90,8 +90,8 @@ fn is_only(code: u16, count: u16) -> bool
 // one part has no line. Says how many bytes there are then.
 fn head(out: &mut [u8], n: usize, code: u16, count: u16) -> usize
     requires { (16 ≤ n) × (n ≤ length out.old) }
-    ensures { (result ≡ headedLength (isOnly code count) n)
-        × (out.new ≡ headed (isOnly code count) code count n out.old) }
+    ensures { (result ≡ headed_length (is_only code count) n)
+        × (out.new ≡ headed (is_only code count) code count n out.old) }
 {
     if is_only(code, count) {
         drop_line(out, n);

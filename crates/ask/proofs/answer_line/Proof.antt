@@ -1,5 +1,5 @@
-use Rattle.question.specs.Lines.{readQuestion}
-use Rattle.ask.proofs.Turns.{by-ending, by-reply}
+use Rattle.question.specs.Lines.{read_question}
+use Rattle.ask.proofs.Turns.{by_ending, by_reply}
 use borrow.Author.Rules.{rules}
 use Rattle.ask.proofs.answer_line.Statement.{statement}
 use Rattle.ask.proofs.answer_line.Tie as tie
@@ -18,7 +18,7 @@ ending-line-requires c κs = search rules
 
 returns : tie.Need-returns
 returns c = let a = c.before.before.before.before.before.before.before.before.args in
-    (by-ending a.book.now a.cache.now a.work.now (readQuestion a.line.now) c.ending-line.result c.before.before.before.read-question.result c.before.before.before.read-question.ensures c.before.enum_told.given.1 c.ending-line.ensures, λ k. k)
+    (by_ending a.book.now a.cache.now a.work.now (read_question a.line.now) c.ending-line.result c.before.before.before.read-question.result c.before.before.before.read-question.ensures c.before.enum_told.given.1 c.ending-line.ensures, λ k. k)
 
 reply-requires : tie.Need-reply-requires
 reply-requires c κs = search rules
@@ -31,7 +31,7 @@ same-length-2 c = search rules
 
 returns-2 : tie.Need-returns-2
 returns-2 c = let a = c.before.before.before.before.before.before.before.before.before.before.before.before.before.before.before.args in
-    (by-reply a.book.now a.cache.now a.work.now (readQuestion a.line.now) _ _ _ c.before.before.before.before.before.before.before.before.before.before.read-question.result c.before.before.before.before.before.before.before.before.before.before.read-question.ensures c.before.before.before.before.before.before.before.before.read.given.1 c.before.before.before.before.reply.ensures.0, c.before.before.before.before.reply.ensures.1)
+    (by_reply a.book.now a.cache.now a.work.now (read_question a.line.now) _ _ _ c.before.before.before.before.before.before.before.before.before.before.read-question.result c.before.before.before.before.before.before.before.before.before.before.read-question.ensures c.before.before.before.before.before.before.before.before.read.given.1 c.before.before.before.before.reply.ensures.0, c.before.before.before.before.reply.ensures.1)
 
 pub answer-line-spec : {M : Type 1} → statement M
 answer-line-spec =

@@ -3,7 +3,7 @@ use native.Mathlib.Omega.{arith}
 use mathlib.Core.Path.{◌≡◌, refl, ◌∙◌}
 use lib.ListN.{length}
 use Rattle.ask.specs.Program.{Ready}
-use Rattle.ask.proofs.Turns.{new-cache, same-lent}
+use Rattle.ask.proofs.Turns.{new_cache, same_lent}
 use Rattle.ask.proofs.ask.Statement.{statement}
 use Rattle.ask.proofs.ask.Tie as tie
 
@@ -18,7 +18,7 @@ fill-zero-requires c κs = search rules
 
 loop-holds : tie.Need-loop-init invariant-loop decreases-loop
 loop-holds c = let a = c.before.before.before.before.before.before.before.args in
-    (record { lent = same-lent a.book.now a.cache.now a.work.now c.before.before.fill-zero.new.0 a.work.now c.before.before.before.before.before.before.before.requires c.before.before.fill-zero.auto.0 refl; carried = new-cache a.book.now (length a.cache.now) c.before.before.fill-zero.new.0 c.before.before.fill-zero.ensures }, refl, refl)
+    (record { lent = same_lent a.book.now a.cache.now a.work.now c.before.before.fill-zero.new.0 a.work.now c.before.before.before.before.before.before.before.requires c.before.before.fill-zero.auto.0 refl; carried = new_cache a.book.now (length a.cache.now) c.before.before.fill-zero.new.0 c.before.before.fill-zero.ensures }, refl, refl)
 
 ask-once-requires : tie.Need-ask-once-requires invariant-loop decreases-loop
 ask-once-requires c κs = c.before.before.before.loop.invariant.0

@@ -1,4 +1,4 @@
-use Rattle.ask.proofs.Turns.{ready-again}
+use Rattle.ask.proofs.Turns.{ready_again}
 use borrow.Author.Rules.{rules}
 use Rattle.ask.proofs.ask_once.Statement.{statement}
 use Rattle.ask.proofs.ask_once.Tie as tie
@@ -41,7 +41,7 @@ returns-2 c =
     let y = c.before.before.before.before.before.before.before.before in
     let s = y.before.before.before.before.before.before.before.before.before.before.before in
     let a = s.args in
-    ready-again a.book.now a.cache.now a.work.now y.answer-line.new.1.0 y.answer-line.new.1.1.0
+    ready_again a.book.now a.cache.now a.work.now y.answer-line.new.1.0 y.answer-line.new.1.1.0
     s.requires y.answer-line.auto.1.0 y.answer-line.auto.1.1.0 y.answer-line.ensures.1
 
 pub ask-once-spec : {M : Type 1} → statement M

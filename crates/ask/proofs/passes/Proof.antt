@@ -1,5 +1,5 @@
-use Rattle.question.specs.Lines.{readQuestion}
-use Rattle.ask.proofs.Turns.{no-question, by-question}
+use Rattle.question.specs.Lines.{read_question}
+use Rattle.ask.proofs.Turns.{no_question, by_question}
 use borrow.Author.Rules.{rules}
 use Rattle.ask.proofs.passes.Statement.{statement}
 use Rattle.ask.proofs.passes.Tie as tie
@@ -17,7 +17,7 @@ returns : tie.Need-returns
 returns c =
     let r = c.before.before in
     let a = r.before.before.before.before.args in
-    no-question a.book.now a.cache.now (readQuestion a.line.now) r.read-question.result
+    no_question a.book.now a.cache.now (read_question a.line.now) r.read-question.result
     r.read-question.ensures c.enum_told.given.1
 
 cast-of-answer : tie.Need-overflow-cast-of-answer
@@ -33,7 +33,7 @@ returns-2 : tie.Need-returns-2
 returns-2 c =
     let r = c.before.before.before.before in
     let a = r.before.before.before.before.args in
-    by-question a.book.now a.cache.now (readQuestion a.line.now) _ _ r.read-question.result
+    by_question a.book.now a.cache.now (read_question a.line.now) _ _ r.read-question.result
     r.read-question.ensures c.before.before.read.given.1 _ c.of-answer.ensures
 
 pub passes-spec : {M : Type 1} → statement M

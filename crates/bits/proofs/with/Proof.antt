@@ -1,5 +1,5 @@
 use mathlib.Core.Bool.{true}
-use Rattle.bits.proofs.Flags.{flags-with, set_past}
+use Rattle.bits.proofs.Flags.{flags_with, set_past}
 use borrow.Author.Rules.{rules}
 use Rattle.bits.proofs.with.Statement.{statement}
 use Rattle.bits.proofs.with.Tie as tie
@@ -11,7 +11,7 @@ shl-result : tie.Need-overflow-shl-result
 shl-result c = search rules
 
 returns-2 : tie.Need-returns-2
-returns-2 c = flags-with 64 c.before.args.i c.before.args.m c.if1.false
+returns-2 c = flags_with 64 c.before.args.i c.before.args.m c.if1.false
 
 pub with-spec : {M : Type 1} → statement M
 with-spec = tie.close (tie.spec returns shl-result returns-2)

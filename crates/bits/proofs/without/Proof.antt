@@ -1,5 +1,5 @@
 use mathlib.Core.Bool.{false}
-use Rattle.bits.proofs.Flags.{flags-without, set_past}
+use Rattle.bits.proofs.Flags.{flags_without, set_past}
 use borrow.Author.Rules.{rules}
 use Rattle.bits.proofs.without.Statement.{statement}
 use Rattle.bits.proofs.without.Tie as tie
@@ -11,7 +11,7 @@ shl-result : tie.Need-overflow-shl-result
 shl-result c = search rules
 
 returns-2 : tie.Need-returns-2
-returns-2 c = flags-without 64 c.before.args.i c.before.args.m c.if1.false
+returns-2 c = flags_without 64 c.before.args.i c.before.args.m c.if1.false
 
 pub without-spec : {M : Type 1} → statement M
 without-spec = tie.close (tie.spec returns shl-result returns-2)

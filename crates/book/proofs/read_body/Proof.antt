@@ -4,7 +4,7 @@ use Prim.Native.Nat.{◌+◌, ◌-◌, ◌≤◌, ◌<◌}
 use native.Mathlib.Omega.{arith}
 use lib.ListN.{length, length-set}
 use Rattle.book.proofs.Sizes.{further}
-use Rattle.book.proofs.Bodies.{Body, body-starts, body-bad, line-room, body-good, body-ends}
+use Rattle.book.proofs.Bodies.{Body, body_starts, body_bad, line_room, body_good, body_ends}
 use Rattle.book.proofs.read_body.Statement.{statement}
 use Rattle.book.proofs.read_body.Tie as tie
 
@@ -19,7 +19,7 @@ room : (c : tie.Else1 invariant-loop decreases-loop) → c.before.before.before.
 room c =
     let a = c.before.before.before.before.before.before.before.args in
     let l = c.before.before.before.before.loop in
-    line-room a.goals a.book.now l.starts l.at l.g l.invariant.0 c.before.before.before.loop-test.true c.before.goal-size.result c.before.goal-size.ensures.0 c.if1.false c.before.goal-size.ensures.1
+    line_room a.goals a.book.now l.starts l.at l.g l.invariant.0 c.before.before.before.loop-test.true c.before.goal-size.result c.before.goal-size.ensures.0 c.if1.false c.before.goal-size.ensures.1
 
 beyond : (c : tie.Else1 invariant-loop decreases-loop) → c.before.before.before.before.loop.at + c.before.goal-size.result ≤ length c.before.before.before.before.before.before.before.args.book.now
 beyond c = further c.before.before.before.before.loop.at c.before.before.before.before.before.before.before.args.book.now c.before.goal-size.result c.before.before.before.before.loop.invariant.0.within c.before.goal-size.ensures.1
@@ -28,7 +28,7 @@ slot : (c : tie.Else1 invariant-loop decreases-loop) → c.before.before.before.
 slot c = omega (arith, c.before.before.before.before.loop.invariant.1, c.before.before.before.before.before.before.before.requires.1.1, c.before.before.before.loop-test.true)
 
 loop-holds : tie.Need-loop-init invariant-loop decreases-loop
-loop-holds c = let a = c.before.before.args in (body-starts a.goals a.book.now a.starts.now c.before.before.requires.0, refl)
+loop-holds c = let a = c.before.before.args in (body_starts a.goals a.book.now a.starts.now c.before.before.requires.0, refl)
 
 sub-goal-size : tie.Need-overflow-sub-goal-size invariant-loop decreases-loop
 sub-goal-size c = c.before.loop.invariant.0.within
@@ -48,7 +48,7 @@ same_length c = c.before.before.before.before.loop.invariant.1
 returns : tie.Need-returns invariant-loop decreases-loop
 returns c = let a = c.before.before.before.before.before.before.before.args in
     let l = c.before.before.before.before.loop in
-    body-bad a.goals a.book.now l.starts l.at l.g l.invariant.0 c.before.before.before.loop-test.true c.before.goal-size.result c.before.goal-size.ensures.0 l.starts c.if1.true
+    body_bad a.goals a.book.now l.starts l.at l.g l.invariant.0 c.before.before.before.loop-test.true c.before.goal-size.result c.before.goal-size.ensures.0 l.starts c.if1.true
 
 add-starts : tie.Need-overflow-add-starts invariant-loop decreases-loop
 add-starts c = omega (arith, room c, c.before.before.before.before.before.before.before.requires.1.0)
@@ -74,7 +74,7 @@ loop-less c = omega arith
 loop-again : tie.Need-loop-preserved invariant-loop decreases-loop
 loop-again c = let a = c.before.before.before.before.before.before.before.args in
     let l = c.before.before.before.before.loop in
-    (body-good a.goals a.book.now l.starts l.at l.g l.invariant.0 c.before.before.before.loop-test.true c.before.goal-size.result c.before.goal-size.ensures.0 c.if1.false c.before.goal-size.ensures.1 (slot c), length-set l.starts l.g _ ∙ l.invariant.1)
+    (body_good a.goals a.book.now l.starts l.at l.g l.invariant.0 c.before.before.before.loop-test.true c.before.goal-size.result c.before.goal-size.ensures.0 c.if1.false c.before.goal-size.ensures.1 (slot c), length-set l.starts l.g _ ∙ l.invariant.1)
 
 sub-result : tie.Need-overflow-sub-result invariant-loop decreases-loop
 sub-result c = c.before.loop.invariant.0.within
@@ -85,7 +85,7 @@ same-length-2 c = c.before.loop.invariant.1
 returns-2 : tie.Need-returns-2 invariant-loop decreases-loop
 returns-2 c = let a = c.before.before.before.before.args in
     let l = c.before.loop in
-    body-ends a.goals a.book.now l.starts l.at l.g l.invariant.0 c.loop-test.false
+    body_ends a.goals a.book.now l.starts l.at l.g l.invariant.0 c.loop-test.false
 
 pub read-body-spec : {M : Type 1} → statement M
 read-body-spec =

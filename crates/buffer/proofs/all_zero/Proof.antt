@@ -1,6 +1,6 @@
 use Prim.Native.Nat.{◌-◌, ◌≤◌}
 use native.Mathlib.Omega.{arith}
-use Rattle.buffer.proofs.Zeros.{Joined, join_last, join_more, joined-all}
+use Rattle.buffer.proofs.Zeros.{Joined, join_last, join_more, joined_all}
 use borrow.Author.Rules.{rules}
 use Rattle.buffer.proofs.all_zero.Statement.{statement}
 use Rattle.buffer.proofs.all_zero.Tie as tie
@@ -47,7 +47,7 @@ returns-2 : tie.Need-returns-2 invariant-loop decreases-loop
 returns-2 c =
     let l = c.before in
     let s = l.before.before.before.before.args.s.now in
-    joined-all s l.loop.all l.loop.i l.loop.invariant.1 (omega arith)
+    joined_all s l.loop.all l.loop.i l.loop.invariant.1 (omega arith)
 
 pub all-zero-spec : {M : Type 1} → statement M
 all-zero-spec =

@@ -3,7 +3,7 @@ use Prim.Native.Nat.{◌-◌, ◌≤◌}
 use native.Mathlib.Omega.{arith}
 use lib.ListN.{length, replicate, length-set}
 use Rattle.buffer.specs.Regions.{overwrite}
-use Rattle.buffer.proofs.Loops.{fill_more, fill-all}
+use Rattle.buffer.proofs.Loops.{fill_more, fill_all}
 use Rattle.buffer.proofs.fill_zero.Statement.{statement}
 use Rattle.buffer.proofs.fill_zero.Tie as tie
 
@@ -34,7 +34,7 @@ same_length : tie.Need-same-length invariant-loop decreases-loop
 same_length c = c.before.loop.invariant.1
 
 returns : tie.Need-returns invariant-loop decreases-loop
-returns c = let l = c.before.loop in fill-all c.before.before.args.s.now l.s l.i l.invariant.2 (omega arith)
+returns c = let l = c.before.loop in fill_all c.before.before.args.s.now l.s l.i l.invariant.2 (omega arith)
 
 pub fill-zero-spec : {M : Type 1} → statement M
 fill-zero-spec =

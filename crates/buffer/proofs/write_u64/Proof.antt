@@ -4,7 +4,7 @@ use Prim.Native.Nat.{ℕ, ◌+◌, ◌-◌}
 use native.Mathlib.Omega.{arith}
 use lib.ListN.{take, drop}
 use Rattle.buffer.specs.Numbers.{bytes_of}
-use Rattle.buffer.proofs.Regions.{overwrite-part}
+use Rattle.buffer.proofs.Regions.{overwrite_part}
 use borrow.Author.Rules.{rules}
 use Rattle.buffer.proofs.write_u64.Statement.{statement}
 use Rattle.buffer.proofs.write_u64.Tie as tie
@@ -33,7 +33,7 @@ returns c =
     let end : ℕ = a.at + 8 in
     let e : 8 ≡ end - a.at = omega arith in
     ap (λ (l : List ℕ). take a.at a.s.now ++ (l ++ drop (end - a.at) (drop a.at a.s.now))) c.before.before.store.ensures
-    ∙ overwrite-part a.s.now a.at end (bytes_of 8 a.n) e
+    ∙ overwrite_part a.s.now a.at end (bytes_of 8 a.n) e
 
 pub write-u64-spec : {M : Type 1} → statement M
 write-u64-spec =

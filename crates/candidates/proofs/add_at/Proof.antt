@@ -1,4 +1,4 @@
-use Rattle.layout.specs.AtIndex.{addAt}
+use Rattle.layout.specs.AtIndex.{add_at}
 use Rattle.candidates.proofs.Parts as parts
 use borrow.Author.Rules.{rules}
 use Rattle.candidates.proofs.add_at.Statement.{statement}
@@ -29,7 +29,7 @@ same_length : tie.Need-same-length
 same_length c = search rules
 
 returns : tie.Need-returns
-returns c = let s = c.before.before.before.before.before.before.before in parts.merged-written s.args.goals s.args.work.now s.requires.0 s.args.own s.requires.1.0 c.before.before.before.before.before.merged-start.result c.before.before.before.before.block_size.result c.before.before.before.before.before.merged-start.ensures.0 c.before.before.before.before.block_size.ensures (addAt s.args.i s.args.u) c.before.before.add.new.0 c.before.before.add.auto.0 c.before.before.add.ensures
+returns c = let s = c.before.before.before.before.before.before.before in parts.merged_written s.args.goals s.args.work.now s.requires.0 s.args.own s.requires.1.0 c.before.before.before.before.before.merged-start.result c.before.before.before.before.block_size.result c.before.before.before.before.before.merged-start.ensures.0 c.before.before.before.before.block_size.ensures (add_at s.args.i s.args.u) c.before.before.add.new.0 c.before.before.add.auto.0 c.before.before.add.ensures
 
 pub add-at-spec : {M : Type 1} → statement M
 add-at-spec =

@@ -1,5 +1,5 @@
 use mathlib.Core.Option.{some}
-use Rattle.definition.specs.Candidates.{noCandidateUsages}
+use Rattle.definition.specs.Candidates.{no_candidate_usages}
 use Rattle.stack.proofs.Graph.{part_room}
 use Rattle.candidates.proofs.Parts as parts
 use borrow.Author.Rules.{rules}
@@ -31,7 +31,7 @@ same_length : tie.Need-same-length
 same_length c = search rules
 
 returns : tie.Need-returns
-returns c = let s = c.before.before.before.before.before.before.before in parts.tracked-written s.args.goals s.args.graph.now s.args.own c.before.before.before.before.before.frame-start.result c.before.before.before.before.frame-size.result (some (noCandidateUsages s.args.goals)) s.requires.0 s.requires.1 c.before.before.before.before.before.frame-start.ensures.0 c.before.before.before.before.frame-size.ensures c.before.before.enter.new.0 c.before.before.enter.auto.0 c.before.before.enter.ensures
+returns c = let s = c.before.before.before.before.before.before.before in parts.tracked_written s.args.goals s.args.graph.now s.args.own c.before.before.before.before.before.frame-start.result c.before.before.before.before.frame-size.result (some (no_candidate_usages s.args.goals)) s.requires.0 s.requires.1 c.before.before.before.before.before.frame-start.ensures.0 c.before.before.before.before.frame-size.ensures c.before.before.enter.new.0 c.before.before.enter.auto.0 c.before.before.enter.ensures
 
 pub enter-single-candidate-spec : {M : Type 1} → statement M
 enter-single-candidate-spec =

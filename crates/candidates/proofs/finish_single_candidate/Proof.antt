@@ -30,7 +30,7 @@ same_length : tie.Need-same-length
 same_length c = search rules
 
 returns : tie.Need-returns
-returns c = let s = c.before.before.before.before.before.before.before in parts.tracked-written s.args.goals s.args.graph.now s.args.own c.before.before.before.before.before.frame-start.result c.before.before.before.before.frame-size.result none s.requires.0 s.requires.1 c.before.before.before.before.before.frame-start.ensures.0 c.before.before.before.before.frame-size.ensures c.before.before.finish.new.0 c.before.before.finish.auto.0 c.before.before.finish.ensures
+returns c = let s = c.before.before.before.before.before.before.before in parts.tracked_written s.args.goals s.args.graph.now s.args.own c.before.before.before.before.before.frame-start.result c.before.before.before.before.frame-size.result none s.requires.0 s.requires.1 c.before.before.before.before.before.frame-start.ensures.0 c.before.before.before.before.frame-size.ensures c.before.before.finish.new.0 c.before.before.finish.auto.0 c.before.before.finish.ensures
 
 pub finish-single-candidate-spec : {M : Type 1} → statement M
 finish-single-candidate-spec =

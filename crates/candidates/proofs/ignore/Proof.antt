@@ -12,7 +12,7 @@ merged-requires : tie.Need-merged-requires
 merged-requires c κs = let s = c.before.before.before.before.before.before in let y = c.before.before.before.ignore-at-heads in (same_bytes s.args.goals s.args.work.now s.requires.0 y.new.0 y.auto.0, s.requires.1)
 
 usages-requires : tie.Need-usages-requires
-usages-requires c κs = let s = c.before.before.before.before.before.before.before in let y = c.before.before.before.before.ignore-at-heads in (parts.merged-bytes s.args.goals y.new.0 (same_bytes s.args.goals s.args.work.now s.requires.0 y.new.0 y.auto.0) s.args.own s.requires.1 c.merged.result.now c.merged.ensures, s.requires.1)
+usages-requires c κs = let s = c.before.before.before.before.before.before.before in let y = c.before.before.before.before.ignore-at-heads in (parts.merged_bytes_lem s.args.goals y.new.0 (same_bytes s.args.goals s.args.work.now s.requires.0 y.new.0 y.auto.0) s.args.own s.requires.1 c.merged.result.now c.merged.ensures, s.requires.1)
 
 ignore-own-requires : tie.Need-ignore-own-requires
 ignore-own-requires c κs = let s = c.before.before.before.before.before.before.before.before.before in let y = c.before.before.before.before.before.before.ignore-at-heads in (same_bytes s.args.goals s.args.work.now s.requires.0 y.new.0 y.auto.0, s.requires.1)

@@ -1,4 +1,4 @@
-use Rattle.stack.specs.Tracked.{ignoreHeadAt}
+use Rattle.stack.specs.Tracked.{ignore_head_at}
 use Rattle.candidates.proofs.Parts as parts
 use borrow.Author.Rules.{rules}
 use Rattle.candidates.proofs.ignore_head.Statement.{statement}
@@ -20,7 +20,7 @@ part-ignore-head-start : tie.Need-slice-bounds-ignore-head-start
 part-ignore-head-start c = search rules
 
 part-ignore-head-end : tie.Need-slice-bounds-ignore-head-end
-part-ignore-head-end c = let s = c.before.before.before in parts.top-room s.args.goals s.args.work.now s.requires.0 s.args.own s.requires.1.0 c.before.frame-start.result c.frame-size.result c.before.frame-start.ensures.0 c.frame-size.ensures
+part-ignore-head-end c = let s = c.before.before.before in parts.top_room s.args.goals s.args.work.now s.requires.0 s.args.own s.requires.1.0 c.before.frame-start.result c.frame-size.result c.before.frame-start.ensures.0 c.frame-size.ensures
 
 ignore-head-requires : tie.Need-ignore-head-requires
 ignore-head-requires c κs = search rules
@@ -29,7 +29,7 @@ same_length : tie.Need-same-length
 same_length c = search rules
 
 returns : tie.Need-returns
-returns c = let s = c.before.before.before.before.before.before.before in parts.frame-written s.args.goals s.args.work.now s.requires.0 s.args.own s.requires.1.0 c.before.before.before.before.before.frame-start.result c.before.before.before.before.frame-size.result c.before.before.before.before.before.frame-start.ensures.0 c.before.before.before.before.frame-size.ensures (ignoreHeadAt s.args.i s.args.u) c.before.before.ignore-head.new.0 c.before.before.ignore-head.auto.0 c.before.before.ignore-head.ensures
+returns c = let s = c.before.before.before.before.before.before.before in parts.frame_written s.args.goals s.args.work.now s.requires.0 s.args.own s.requires.1.0 c.before.before.before.before.before.frame-start.result c.before.before.before.before.frame-size.result c.before.before.before.before.before.frame-start.ensures.0 c.before.before.before.before.frame-size.ensures (ignore_head_at s.args.i s.args.u) c.before.before.ignore-head.new.0 c.before.before.ignore-head.auto.0 c.before.before.ignore-head.ensures
 
 pub ignore-head-spec : {M : Type 1} → statement M
 ignore-head-spec =

@@ -1,4 +1,4 @@
-use Rattle.stack.specs.Tracked.{ignoreOwn}
+use Rattle.stack.specs.Tracked.{ignore_own}
 use Rattle.candidates.proofs.Parts as parts
 use borrow.Author.Rules.{rules}
 use Rattle.candidates.proofs.ignore_own.Statement.{statement}
@@ -20,7 +20,7 @@ part-ignore-own-start : tie.Need-slice-bounds-ignore-own-start
 part-ignore-own-start c = search rules
 
 part-ignore-own-end : tie.Need-slice-bounds-ignore-own-end
-part-ignore-own-end c = let s = c.before.before.before in parts.top-room s.args.goals s.args.work.now s.requires.0 s.args.own s.requires.1 c.before.frame-start.result c.frame-size.result c.before.frame-start.ensures.0 c.frame-size.ensures
+part-ignore-own-end c = let s = c.before.before.before in parts.top_room s.args.goals s.args.work.now s.requires.0 s.args.own s.requires.1 c.before.frame-start.result c.frame-size.result c.before.frame-start.ensures.0 c.frame-size.ensures
 
 ignore-own-requires : tie.Need-ignore-own-requires
 ignore-own-requires c κs = search rules
@@ -29,7 +29,7 @@ same_length : tie.Need-same-length
 same_length c = search rules
 
 returns : tie.Need-returns
-returns c = let s = c.before.before.before.before.before.before.before in parts.frame-written s.args.goals s.args.work.now s.requires.0 s.args.own s.requires.1 c.before.before.before.before.before.frame-start.result c.before.before.before.before.frame-size.result c.before.before.before.before.before.frame-start.ensures.0 c.before.before.before.before.frame-size.ensures (ignoreOwn s.args.u) c.before.before.ignore-own.new.0 c.before.before.ignore-own.auto.0 c.before.before.ignore-own.ensures
+returns c = let s = c.before.before.before.before.before.before.before in parts.frame_written s.args.goals s.args.work.now s.requires.0 s.args.own s.requires.1 c.before.before.before.before.before.frame-start.result c.before.before.before.before.frame-size.result c.before.before.before.before.before.frame-start.ensures.0 c.before.before.before.before.frame-size.ensures (ignore_own s.args.u) c.before.before.ignore-own.new.0 c.before.before.ignore-own.auto.0 c.before.before.ignore-own.ensures
 
 pub ignore-own-spec : {M : Type 1} → statement M
 ignore-own-spec =

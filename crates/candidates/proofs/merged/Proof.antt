@@ -22,7 +22,7 @@ part-result-end : tie.Need-slice-bounds-result-end
 part-result-end c = let s = c.before.before.before in parts.block_room s.args.goals s.args.work.now s.requires.0 s.args.own s.requires.1 c.before.merged-start.result c.block_size.result c.before.merged-start.ensures.0 c.block_size.ensures
 
 returns : tie.Need-returns
-returns c = let s = c.before.before.before.before in parts.merged-part s.args.goals s.args.work.now s.requires.0 s.args.own s.requires.1 c.before.before.merged-start.result c.before.block_size.result c.before.before.merged-start.ensures.0 c.before.block_size.ensures
+returns c = let s = c.before.before.before.before in parts.merged_part s.args.goals s.args.work.now s.requires.0 s.args.own s.requires.1 c.before.before.merged-start.result c.before.block_size.result c.before.before.merged-start.ensures.0 c.before.block_size.ensures
 
 pub merged-spec : {M : Type 1} → statement M
 merged-spec =

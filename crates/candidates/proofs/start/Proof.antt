@@ -1,6 +1,6 @@
 use mathlib.Core.List.{List}
 use Rattle.definition.specs.declared.usages.HeadUsages.{HeadUsages}
-use Rattle.definition.specs.Candidates.{noCandidateUsages}
+use Rattle.definition.specs.Candidates.{no_candidate_usages}
 use Rattle.candidates.proofs.Parts as parts
 use borrow.Author.Rules.{rules}
 use Rattle.candidates.proofs.start.Statement.{statement}
@@ -31,7 +31,7 @@ same_length : tie.Need-same-length
 same_length c = search rules
 
 returns : tie.Need-returns
-returns c = let s = c.before.before.before.before.before.before.before in parts.merged-written s.args.goals s.args.work.now s.requires.0 s.args.own s.requires.1 c.before.before.before.before.before.merged-start.result c.before.before.before.before.block_size.result c.before.before.before.before.before.merged-start.ensures.0 c.before.before.before.before.block_size.ensures (λ (us : List HeadUsages). noCandidateUsages s.args.goals) c.before.before.clear.new.0 c.before.before.clear.auto.0 c.before.before.clear.ensures
+returns c = let s = c.before.before.before.before.before.before.before in parts.merged_written s.args.goals s.args.work.now s.requires.0 s.args.own s.requires.1 c.before.before.before.before.before.merged-start.result c.before.before.before.before.block_size.result c.before.before.before.before.before.merged-start.ensures.0 c.before.before.before.before.block_size.ensures (λ (us : List HeadUsages). no_candidate_usages s.args.goals) c.before.before.clear.new.0 c.before.before.clear.auto.0 c.before.before.clear.ensures
 
 pub start_spec : {M : Type 1} → statement M
 start_spec =

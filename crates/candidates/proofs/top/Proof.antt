@@ -19,7 +19,7 @@ part-result-start : tie.Need-slice-bounds-result-start
 part-result-start c = search rules
 
 part-result-end : tie.Need-slice-bounds-result-end
-part-result-end c = let s = c.before.before.before in parts.top-room s.args.goals s.args.work.now s.requires.0 s.args.own s.requires.1 c.before.frame-start.result c.frame-size.result c.before.frame-start.ensures.0 c.frame-size.ensures
+part-result-end c = let s = c.before.before.before in parts.top_room s.args.goals s.args.work.now s.requires.0 s.args.own s.requires.1 c.before.frame-start.result c.frame-size.result c.before.frame-start.ensures.0 c.frame-size.ensures
 
 returns : tie.Need-returns
 returns c = let s = c.before.before.before.before in parts.top_part s.args.goals s.args.work.now s.requires.0 s.args.own s.requires.1 c.before.before.frame-start.result c.before.frame-size.result c.before.before.frame-start.ensures.0 c.before.frame-size.ensures

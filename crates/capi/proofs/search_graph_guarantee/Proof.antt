@@ -1,4 +1,4 @@
-use Rattle.guarantee.specs.Guarantee.{guaranteeOf}
+use Rattle.guarantee.specs.Guarantee.{guarantee_of}
 use Rattle.capi.proofs.Judging.{judged}
 use borrow.Author.Rules.{rules}
 use Rattle.capi.proofs.search_graph_guarantee.Statement.{statement}
@@ -42,7 +42,7 @@ returns c =
     let n = first.before.before in
     let g = n.before in
     let a = g.before.before.before.args in
-    judged g.guarantee.result (guaranteeOf a.book.now) c.code.result n.numbers.result a.out.now
+    judged g.guarantee.result (guarantee_of a.book.now) c.code.result n.numbers.result a.out.now
     first.put.new.0 second.put2.new.0 third.put3.new.0
     g.guarantee.ensures c.code.ensures n.numbers.ensures first.put.ensures second.put2.ensures
     third.put3.ensures

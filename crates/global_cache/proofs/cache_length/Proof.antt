@@ -1,5 +1,5 @@
 use native.Mathlib.Omega.{arith}
-use Rattle.global_cache.proofs.Sizes.{slots-few, length-few}
+use Rattle.global_cache.proofs.Sizes.{slots_few, length_few}
 use borrow.Author.Rules.{rules}
 use Rattle.global_cache.proofs.cache_length.Statement.{statement}
 use Rattle.global_cache.proofs.cache_length.Tie as tie
@@ -8,13 +8,13 @@ add-result : tie.Need-overflow-add-result
 add-result c = search rules
 
 mul-result : tie.Need-overflow-mul-result
-mul-result c = record { fits = omega (arith, slots-few c.args.goals c.args.top c.requires.few c.requires.low) }
+mul-result c = record { fits = omega (arith, slots_few c.args.goals c.args.top c.requires.few c.requires.low) }
 
 add-result-2 : tie.Need-overflow-add-result-2
 add-result-2 c = search rules
 
 mul-result-2 : tie.Need-overflow-mul-result-2
-mul-result-2 c = record { fits = omega (arith, length-few c.args.goals c.args.top c.requires.few c.requires.low) }
+mul-result-2 c = record { fits = omega (arith, length_few c.args.goals c.args.top c.requires.few c.requires.low) }
 
 returns : tie.Need-returns
 returns c = search rules

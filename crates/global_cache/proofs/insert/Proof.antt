@@ -1,7 +1,7 @@
 use mathlib.Core.Path.{refl}
 use native.Mathlib.Omega.{arith}
-use Rattle.global_cache.proofs.Sizes.{slots-few, goal-in}
-use Rattle.global_cache.proofs.Slots.{insert-conflict, insert-kept, kept-differs}
+use Rattle.global_cache.proofs.Sizes.{slots_few, goal_in}
+use Rattle.global_cache.proofs.Slots.{insert_conflict, insert_kept, kept_differs}
 use borrow.Author.Rules.{rules}
 use Rattle.global_cache.proofs.insert.Statement.{statement}
 use Rattle.global_cache.proofs.insert.Tie as tie
@@ -13,15 +13,15 @@ add-place : tie.Need-overflow-add-place
 add-place c = search rules
 
 mul-place : tie.Need-overflow-mul-place
-mul-place c = let s = c.before.before.before in record { fits = omega (arith, slots-few s.args.goal s.args.top (omega arith) s.requires.0.low) }
+mul-place c = let s = c.before.before.before in record { fits = omega (arith, slots_few s.args.goal s.args.top (omega arith) s.requires.0.low) }
 
 add-place-2 : tie.Need-overflow-add-place-2
-add-place-2 c = let s = c.before.before.before in record { fits = omega (arith, slots-few s.args.goal s.args.top (omega arith) s.requires.0.low) }
+add-place-2 c = let s = c.before.before.before in record { fits = omega (arith, slots_few s.args.goal s.args.top (omega arith) s.requires.0.low) }
 
 start-of-requires : tie.Need-start-of-requires
 start-of-requires c κs =
     let s = c.before.before.before in
-    (record { few = s.requires.0.few; low = s.requires.0.low }, omega (arith, goal-in s.args.goals s.args.top s.args.goal s.requires.1))
+    (record { few = s.requires.0.few; low = s.requires.0.low }, omega (arith, goal_in s.args.goals s.args.top s.args.goal s.requires.1))
 
 add-e : tie.Need-overflow-add-e
 add-e c = search rules
@@ -51,7 +51,7 @@ returns : tie.Need-returns
 returns c =
     let f = c.before.before.before.before.before.before in
     let a = f.before.before.before.args in (
-      insert-conflict a.goals a.top a.goal a.cache.now a.overflow a.required a.nested.now a.result a.passes
+      insert_conflict a.goals a.top a.goal a.cache.now a.overflow a.required a.nested.now a.result a.passes
           f.slot-for.result c.before.before.before.before.before.start_of_lem.result c.before.before.before.before.number.result (f.slot-for.ensures.1 a.nested.now a.result a.passes) c.before.before.before.before.before.start_of_lem.ensures.0
           c.before.before.before.before.number.ensures c.before.conflicts.result c.before.conflicts.ensures c.if1.true,
       λ e. refl,
@@ -83,10 +83,10 @@ returns-2 c =
     let f = c.before.before.before.before.before.before.before.before.before.before in
     let a = f.before.before.before.args in
     let t = c.before.before.before.before.before in (
-      insert-kept a.goals a.top a.goal a.cache.now a.overflow a.required a.nested.now a.result a.passes
+      insert_kept a.goals a.top a.goal a.cache.now a.overflow a.required a.nested.now a.result a.passes
           f.slot-for.result c.before.before.before.before.before.before.before.before.before.start_of_lem.result c.before.before.before.before.before.before.before.before.number.result (f.slot-for.ensures.1 a.nested.now a.result a.passes) c.before.before.before.before.before.before.before.before.before.start_of_lem.ensures.0
           c.before.before.before.before.before.before.before.before.number.ensures t.conflicts.result t.conflicts.ensures c.before.before.before.before.if1.false _ c.before.before.write.ensures,
-      λ e. absurd (kept-differs e),
+      λ e. absurd (kept_differs e),
     )
 
 pub insert-spec : {M : Type 1} → statement M

@@ -1,7 +1,7 @@
 use Prim.Native.Nat.{◌+◌, ◌*◌}
 use native.Mathlib.Omega.{arith}
-use Rattle.global_cache.proofs.Sizes.{slots-few, goal-in, row_in}
-use Rattle.global_cache.proofs.Slots.{part-slot}
+use Rattle.global_cache.proofs.Sizes.{slots_few, goal_in, row_in}
+use Rattle.global_cache.proofs.Slots.{part_slot}
 use borrow.Author.Rules.{rules}
 use Rattle.global_cache.proofs.overflow_slots.Statement.{statement}
 use Rattle.global_cache.proofs.overflow_slots.Tie as tie
@@ -10,16 +10,16 @@ add-start-of : tie.Need-overflow-add-start-of
 add-start-of c = search rules
 
 mul-start-of : tie.Need-overflow-mul-start-of
-mul-start-of c = let a = c.before.args in record { fits = omega (arith, slots-few a.goal a.top (omega arith) c.before.requires.0.low) }
+mul-start-of c = let a = c.before.args in record { fits = omega (arith, slots_few a.goal a.top (omega arith) c.before.requires.0.low) }
 
 add-start-of-2 : tie.Need-overflow-add-start-of-2
-add-start-of-2 c = let a = c.before.args in record { fits = omega (arith, slots-few a.goal a.top (omega arith) c.before.requires.0.low) }
+add-start-of-2 c = let a = c.before.args in record { fits = omega (arith, slots_few a.goal a.top (omega arith) c.before.requires.0.low) }
 
 start-of-requires : tie.Need-start-of-requires
 start-of-requires c κs =
     let a = c.before.args in
     let g = c.before.requires.0 in
-    (record { few = g.few; low = g.low }, omega (arith, goal-in a.goals a.top a.goal c.before.requires.1))
+    (record { few = g.few; low = g.low }, omega (arith, goal_in a.goals a.top a.goal c.before.requires.1))
 
 add-end : tie.Need-overflow-add-end
 add-end c = search rules
@@ -47,7 +47,7 @@ part-result-end c =
 returns : tie.Need-returns
 returns c =
     let a = c.before.before.before.args in
-    part-slot a.cache.now c.before.start_of_lem.result ((a.goal * (a.top + 2) + 1) * (a.goals + 4)) ((a.top + 1) * (a.goals + 4)) c.before.start_of_lem.ensures.0
+    part_slot a.cache.now c.before.start_of_lem.result ((a.goal * (a.top + 2) + 1) * (a.goals + 4)) ((a.top + 1) * (a.goals + 4)) c.before.start_of_lem.ensures.0
 
 pub overflow-slots-spec : {M : Type 1} → statement M
 overflow-slots-spec =

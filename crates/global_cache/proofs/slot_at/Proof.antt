@@ -1,7 +1,7 @@
 use Prim.Native.Nat.{◌+◌, ◌*◌}
 use native.Mathlib.Omega.{arith}
-use Rattle.global_cache.proofs.Sizes.{slots-few, goal-in}
-use Rattle.global_cache.proofs.Slots.{slot-beyond, part-slot}
+use Rattle.global_cache.proofs.Sizes.{slots_few, goal_in}
+use Rattle.global_cache.proofs.Slots.{slot_beyond, part_slot}
 use borrow.Author.Rules.{rules}
 use Rattle.global_cache.proofs.slot_at.Statement.{statement}
 use Rattle.global_cache.proofs.slot_at.Tie as tie
@@ -10,7 +10,7 @@ add-first : tie.Need-overflow-add-first
 add-first c = search rules
 
 mul-first : tie.Need-overflow-mul-first
-mul-first c = let a = c.before.args in record { fits = omega (arith, slots-few a.goal a.top (omega arith) c.before.requires.0.low) }
+mul-first c = let a = c.before.args in record { fits = omega (arith, slots_few a.goal a.top (omega arith) c.before.requires.0.low) }
 
 add-all : tie.Need-overflow-add-all
 add-all c = search rules
@@ -19,7 +19,7 @@ mul-all : tie.Need-overflow-mul-all
 mul-all c = search rules
 
 sub-if1 : tie.Need-overflow-sub-if1
-sub-if1 c = let a = c.before.args in omega (arith, goal-in a.goals a.top a.goal c.before.requires.1)
+sub-if1 c = let a = c.before.args in omega (arith, goal_in a.goals a.top a.goal c.before.requires.1)
 
 sub-result : tie.Need-overflow-sub-result
 sub-result c = search rules
@@ -34,7 +34,7 @@ returns : tie.Need-returns
 returns c =
     let s = c.before.before.before in
     let a = s.args in
-    slot-beyond a.cache.now (a.goals + 4) (a.goals * (a.top + 2)) (a.goal * (a.top + 2) + a.slot) s.requires.0.whole (omega arith)
+    slot_beyond a.cache.now (a.goals + 4) (a.goals * (a.top + 2)) (a.goal * (a.top + 2) + a.slot) s.requires.0.whole (omega arith)
 
 add-start-of : tie.Need-overflow-add-start-of
 add-start-of c = search rules
@@ -60,7 +60,7 @@ part-result-end-2 c = search rules
 returns-2 : tie.Need-returns-2
 returns-2 c =
     let a = c.before.before.before.before.args in
-    part-slot a.cache.now c.before.start_of_lem.result ((a.goal * (a.top + 2) + a.slot) * (a.goals + 4)) (a.goals + 4) c.before.start_of_lem.ensures.0
+    part_slot a.cache.now c.before.start_of_lem.result ((a.goal * (a.top + 2) + a.slot) * (a.goals + 4)) (a.goals + 4) c.before.start_of_lem.ensures.0
 
 pub slot-at-spec : {M : Type 1} → statement M
 slot-at-spec =

@@ -1,5 +1,5 @@
-use Rattle.book.specs.Read.{bookIn}
-use Rattle.guarantee.proofs.Accepted.{accepted-long}
+use Rattle.book.specs.Read.{book_in}
+use Rattle.guarantee.proofs.Accepted.{accepted_long}
 use Rattle.guarantee.proofs.Conflicts.{not_within, none_found, one_found}
 use borrow.Author.Rules.{rules}
 use Rattle.guarantee.proofs.conflict_with.Statement.{statement}
@@ -17,13 +17,13 @@ returns c near =
     let st = g.before.before.before in
     not_within st.args.book.now st.requires.accepted st.args.line st.args.s g.group.result
     g.group.type-inv
-    (g.group.ensures (bookIn st.args.book.now) st.requires.reached) near
+    (g.group.ensures (book_in st.args.book.now) st.requires.reached) near
     c.before.is_Within.result c.before.is_Within.ensures c.if1.true
 
 first-within-requires : tie.Need-first-within-requires
 first-within-requires c κs =
     let st = c.before.before.before.before.before in
-    accepted-long (bookIn st.args.book.now) st.args.book.now st.requires.accepted
+    accepted_long (book_in st.args.book.now) st.args.book.now st.requires.accepted
 
 enum-known-found : tie.Need-enum-known-found
 enum-known-found c = search rules
@@ -37,7 +37,7 @@ returns-2 c near =
     let g = w.before in
     let st = g.before.before.before in
     one_found st.args.book.now st.requires.accepted st.args.line st.args.s g.group.result g.group.type-inv
-    (g.group.ensures (bookIn st.args.book.now) st.requires.reached) near
+    (g.group.ensures (book_in st.args.book.now) st.requires.reached) near
     w.is_Within.result w.is_Within.ensures c.before.before.before.before.if1.false
     c.before.before.before.first-within.result c.before.before.before.first-within.ensures _
     c.before.found.given.1
@@ -49,7 +49,7 @@ returns-3 c near =
     let st = g.before.before.before in
     none_found st.args.book.now st.requires.accepted st.args.line st.args.s g.group.result
     g.group.type-inv
-    (g.group.ensures (bookIn st.args.book.now) st.requires.reached) near
+    (g.group.ensures (book_in st.args.book.now) st.requires.reached) near
     w.is_Within.result w.is_Within.ensures c.before.before.before.if1.false
     c.before.before.first-within.result c.before.before.first-within.ensures c.enum_told.given.1
 

@@ -1,7 +1,7 @@
 use mathlib.Core.Path.{sym, ap, ◌∙◌}
 use Rattle.definition.specs.declared.format.Header.{Header}
-use Rattle.book.proofs.Books.{is-book}
-use Rattle.guarantee.proofs.Books.{of-rejected}
+use Rattle.book.proofs.Books.{is_book}
+use Rattle.guarantee.proofs.Books.{of_rejected}
 use borrow.Author.Rules.{rules}
 use Rattle.guarantee.proofs.guarantee.Statement.{statement}
 use Rattle.guarantee.proofs.guarantee.Tie as tie
@@ -22,7 +22,7 @@ of-book-requires : tie.Need-of-book-requires
 of-book-requires c κs =
     let x = c.before.read3 in
     let r = c.before.before.before.before in
-    let is = is-book r.before.before.before.args.book.now r.read.new.1.0 x.given.0.0
+    let is = is_book r.before.before.before.args.book.now r.read.new.1.0 x.given.0.0
     (sym x.given.1 ∙ r.read.ensures.0) r.read.ensures.1 in
     (is.accepted, ap (λ (h : Header). h.goals) is.header)
 
@@ -30,7 +30,7 @@ returns : tie.Need-returns
 returns c =
     let x = c.before.read2 in
     let r = c.before.before.before.before in
-    of-rejected r.before.before.before.args.book.now r.read.result x.given.0.0 x.given.1
+    of_rejected r.before.before.before.args.book.now r.read.result x.given.0.0 x.given.1
     r.read.ensures.0
 
 returns-2 : tie.Need-returns-2

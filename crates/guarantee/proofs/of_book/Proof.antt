@@ -1,6 +1,6 @@
 use mathlib.Core.Path.{sym, ◌∙◌}
-use Rattle.book.specs.Read.{bookIn}
-use Rattle.guarantee.proofs.Books.{of-accepted}
+use Rattle.book.specs.Read.{book_in}
+use Rattle.guarantee.proofs.Books.{of_accepted}
 use borrow.Author.Rules.{rules}
 use Rattle.guarantee.proofs.of_book.Statement.{statement}
 use Rattle.guarantee.proofs.of_book.Tie as tie
@@ -25,13 +25,13 @@ first-conflict-requires c κs =
     record {
       accepted = st.requires.0;
       places = search rules;
-      reached = m.masks.ensures (bookIn st.args.book.now) k.calls.ensures st.requires.1;
+      reached = m.masks.ensures (book_in st.args.book.now) k.calls.ensures st.requires.1;
     }
 
 returns : tie.Need-returns
 returns c =
     let st = c.before.before.before.before.before.before in
-    c.first-conflict.ensures ∙ sym (of-accepted st.args.book.now st.requires.0)
+    c.first-conflict.ensures ∙ sym (of_accepted st.args.book.now st.requires.0)
 
 pub of-book-spec : {M : Type 1} → statement M
 of-book-spec =

@@ -1,7 +1,7 @@
-use Rattle.definition.specs.Nested.{nestedEmpty}
-use Rattle.definition.specs.Lookup.{anyOnStack, anyEntryApplies}
-use Rattle.layout.specs.Work.{stack_of, entriesOf}
-use Rattle.lookup.proofs.Tests.{apply-on-stack, apply-unless}
+use Rattle.definition.specs.Nested.{nested_empty}
+use Rattle.definition.specs.Lookup.{any_on_stack, any_entry_applies}
+use Rattle.layout.specs.Work.{stack_of, entries_of}
+use Rattle.lookup.proofs.Tests.{apply_on_stack, apply_unless}
 use borrow.Author.Rules.{rules}
 use Rattle.lookup.proofs.candidate_is_applicable.Statement.{statement}
 use Rattle.lookup.proofs.candidate_is_applicable.Tie as tie
@@ -20,9 +20,9 @@ returns-2 c =
     let a = c.before.before.before.before.before.before.args in
     let is-empty = c.before.before.before.is-empty in
     let any-on-stack = c.before.any-on-stack in
-    apply-on-stack (nestedEmpty a.nested.now) (anyOnStack (stack_of a.goals a.height a.graph.now) a.nested.now)
-    (anyEntryApplies (stack_of a.goals a.height a.graph.now) a.step a.nested.now
-    (entriesOf a.goals a.entries a.graph.now)) is-empty.result any-on-stack.result is-empty.ensures
+    apply_on_stack (nested_empty a.nested.now) (any_on_stack (stack_of a.goals a.height a.graph.now) a.nested.now)
+    (any_entry_applies (stack_of a.goals a.height a.graph.now) a.step a.nested.now
+    (entries_of a.goals a.entries a.graph.now)) is-empty.result any-on-stack.result is-empty.ensures
     any-on-stack.ensures c.before.before.if1.false c.if2.true
 
 any-applies-requires : tie.Need-any-applies-requires
@@ -35,9 +35,9 @@ returns-3 c =
     let if1 = c.before.before.before.if1 in
     let any-on-stack = c.before.before.any-on-stack in
     let any-applies = c.any-applies in
-    apply-unless (nestedEmpty a.nested.now) (anyOnStack (stack_of a.goals a.height a.graph.now) a.nested.now)
-    (anyEntryApplies (stack_of a.goals a.height a.graph.now) a.step a.nested.now
-    (entriesOf a.goals a.entries a.graph.now)) is-empty.result any-on-stack.result is-empty.ensures
+    apply_unless (nested_empty a.nested.now) (any_on_stack (stack_of a.goals a.height a.graph.now) a.nested.now)
+    (any_entry_applies (stack_of a.goals a.height a.graph.now) a.step a.nested.now
+    (entries_of a.goals a.entries a.graph.now)) is-empty.result any-on-stack.result is-empty.ensures
     any-on-stack.ensures if1.false c.before.if2.false any-applies.result any-applies.ensures
 
 pub candidate-is-applicable-spec : {M : Type 1} → statement M

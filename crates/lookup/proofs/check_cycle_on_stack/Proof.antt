@@ -1,7 +1,7 @@
 use mathlib.Core.Path.{refl}
 use Rattle.definition.specs.Graph.{Done}
 use Rattle.layout.specs.Work.{graph_of}
-use Rattle.lookup.proofs.Hits.{hit-something, cycle-hit, cycle-missed}
+use Rattle.lookup.proofs.Hits.{hit_something, cycle_hit, cycle_missed}
 use borrow.Author.Rules.{rules}
 use Rattle.lookup.proofs.check_cycle_on_stack.Statement.{statement}
 use Rattle.lookup.proofs.check_cycle_on_stack.Tie as tie
@@ -32,10 +32,10 @@ returns c =
     let find = c7.find in
     record {
       is =
-          λ root n cache. cycle-hit a.h a.height a.goal a.step a.available a.graph.now find.result
+          λ root n cache. cycle_hit a.h a.height a.goal a.step a.available a.graph.now find.result
           find.ensures.is root n cache p.given.0.0 p.given.0.1.0 p.given.1
           (Done (graph_of a.h.goals root a.height n y.new.0 cache) y.result) (y.ensures root n cache);
-      missed = λ e. hit-something y.result e;
+      missed = λ e. hit_something y.result e;
     }
 
 enum_told : tie.Need-enum-told
@@ -50,7 +50,7 @@ returns-2 c =
     let find = c.before.before.find in
     record {
       is =
-          λ root n cache. cycle-missed a.h a.height a.goal a.step a.available a.graph.now find.result
+          λ root n cache. cycle_missed a.h a.height a.goal a.step a.available a.graph.now find.result
           find.ensures.is root n cache c.enum_told.given.1;
       missed = λ e. refl;
     }

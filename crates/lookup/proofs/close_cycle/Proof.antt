@@ -1,4 +1,4 @@
-use Rattle.lookup.proofs.Uses.{cycle-closed}
+use Rattle.lookup.proofs.Uses.{cycle_closed}
 use borrow.Author.Rules.{rules}
 use Rattle.lookup.proofs.close_cycle.Statement.{statement}
 use Rattle.lookup.proofs.close_cycle.Tie as tie
@@ -21,7 +21,7 @@ returns c =
     let y = c.before.before.before.update-from-cycle in
     let cycle-path-kind = c.before.before.before.before.before.cycle-path-kind in
     let cycle-result = c.cycle-result in
-    cycle-closed a.h a.height a.graph.now y.new.0 a.step a.available y.ensures.entries a.goal a.head
+    cycle_closed a.h a.height a.graph.now y.new.0 a.step a.available y.ensures.entries a.goal a.head
     a.provisional cycle-path-kind.result cycle-result.result cycle-path-kind.ensures cycle-result.ensures y.ensures.stack
 
 pub close-cycle-spec : {M : Type 1} → statement M

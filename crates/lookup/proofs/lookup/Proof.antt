@@ -1,6 +1,6 @@
 use mathlib.Core.Path.{refl, ◌∙◌}
 use Rattle.definition.specs.declared.answers.Answer.TheVariants as answer
-use Rattle.lookup.proofs.Hits.{known-pushes, depth-allowed, depth-overflow}
+use Rattle.lookup.proofs.Hits.{known_pushes, depth_allowed, depth_overflow}
 use borrow.Author.Rules.{rules}
 use Rattle.lookup.proofs.lookup.Statement.{statement}
 use Rattle.lookup.proofs.lookup.Tie as tie
@@ -38,7 +38,7 @@ returns c =
     let allowed-depth-for-nested = c7.allowed-depth-for-nested in
     record {
       is =
-          λ compute. depth-allowed a.h a.root a.height a.entries a.goal a.step a.lower a.graph.now
+          λ compute. depth_allowed a.h a.root a.height a.entries a.goal a.step a.lower a.graph.now
           a.cache.now allowed-depth-for-nested.result (allowed-depth-for-nested.ensures.is a.h refl) compute p.given.0.0
           p.given.1
           ∙ y.ensures.is a.root compute;
@@ -66,12 +66,12 @@ returns-2 c =
     let enum_told = c4.enum_told in
     record {
       is =
-          λ compute. depth-overflow a.h a.root a.height a.entries a.goal a.step a.lower a.graph.now
+          λ compute. depth_overflow a.h a.root a.height a.entries a.goal a.step a.lower a.graph.now
           a.cache.now allowed-depth-for-nested.result (allowed-depth-for-nested.ensures.is a.h refl) compute
           enum_told.given.1 y.new.0 y.ensures.stack y.ensures.entries;
-      low = λ d e. known-pushes answer.Overflow d e;
-      missed = λ d e. known-pushes answer.Overflow d e;
-      off = λ d e. known-pushes answer.Overflow d e;
+      low = λ d e. known_pushes answer.Overflow d e;
+      missed = λ d e. known_pushes answer.Overflow d e;
+      off = λ d e. known_pushes answer.Overflow d e;
     }
 
 pub lookup-spec : {M : Type 1} → statement M

@@ -1,12 +1,12 @@
 use mathlib.Core.Path.{◌∙◌, sym, ap, subst}
 use mathlib.Core.List.{List}
 use Prim.Native.Nat.{ℕ}
-use Rattle.definition.specs.Stack.{stackFind}
+use Rattle.definition.specs.Stack.{stack_find}
 use Rattle.layout.specs.Work.{stack_of, graph_of}
 use Rattle.stack.specs.Bytes.{StackBytes}
 use Rattle.stack.specs.Places.{Placed}
 use Rattle.lookup.specs.Lookups.{Counted}
-use Rattle.lookup.proofs.Hits.{known-pushes, push-small, at_entry, at_slot, at-cycle, at_push, cycle-off}
+use Rattle.lookup.proofs.Hits.{known_pushes, push_small, at_entry, at_slot, at_cycle, at_push, cycle_off}
 use borrow.Author.Rules.{rules}
 use Rattle.lookup.proofs.lookup_at_depth.Statement.{statement}
 use Rattle.lookup.proofs.lookup_at_depth.Tie as tie
@@ -31,9 +31,9 @@ returns c =
           λ root compute. at_entry a.h a.height a.entries a.goal a.step a.available a.cache.now root compute
           a.graph.now lookup-provisional-cache.new.0 lookup-provisional-cache.result
           (lookup-provisional-cache.ensures.is root a.cache.now) p.given.0.0 p.given.1;
-      low = λ d e. known-pushes p.given.0.0 d e;
-      missed = λ d e. known-pushes p.given.0.0 d e;
-      off = λ d e. known-pushes p.given.0.0 d e;
+      low = λ d e. known_pushes p.given.0.0 d e;
+      missed = λ d e. known_pushes p.given.0.0 d e;
+      off = λ d e. known_pushes p.given.0.0 d e;
     }
 
 enum_told : tie.Need-enum-told
@@ -72,9 +72,9 @@ returns-2 c =
           (lookup-provisional-cache.ensures.is root a.cache.now) enum_told.given.1
           (lookup-provisional-cache.ensures.missed enum_told.given.1) lookup-global-cache.new.1.0
           lookup-global-cache.result (lookup-global-cache.ensures.is root) p.given.0.0 p.given.1;
-      low = λ d e. known-pushes p.given.0.0 d e;
-      missed = λ d e. known-pushes p.given.0.0 d e;
-      off = λ d e. known-pushes p.given.0.0 d e;
+      low = λ d e. known_pushes p.given.0.0 d e;
+      missed = λ d e. known_pushes p.given.0.0 d e;
+      off = λ d e. known_pushes p.given.0.0 d e;
     }
 
 enum-told-2 : tie.Need-enum-told-2
@@ -111,16 +111,16 @@ returns-3 c =
     let check-cycle-on-stack = c5.check-cycle-on-stack in
     record {
       is =
-          λ root compute. at-cycle a.h a.height a.entries a.goal a.step a.available a.cache.now root compute
+          λ root compute. at_cycle a.h a.height a.entries a.goal a.step a.available a.cache.now root compute
           a.graph.now lookup-provisional-cache.new.0 lookup-provisional-cache.result
           (lookup-provisional-cache.ensures.is root a.cache.now) enum_told.given.1
           (lookup-provisional-cache.ensures.missed enum_told.given.1) lookup-global-cache.new.1.0
           lookup-global-cache.result (lookup-global-cache.ensures.is root) enum-told2.given.1
           (lookup-global-cache.ensures.missed enum-told2.given.1) check-cycle-on-stack.new.0 check-cycle-on-stack.result
           (check-cycle-on-stack.ensures.is root a.entries a.cache.now) p.given.0.0 p.given.1;
-      low = λ d e. known-pushes p.given.0.0 d e;
-      missed = λ d e. known-pushes p.given.0.0 d e;
-      off = λ d e. known-pushes p.given.0.0 d e;
+      low = λ d e. known_pushes p.given.0.0 d e;
+      missed = λ d e. known_pushes p.given.0.0 d e;
+      off = λ d e. known_pushes p.given.0.0 d e;
     }
 
 enum-told-3 : tie.Need-enum-told-3
@@ -152,12 +152,12 @@ returns-4 c =
           (lookup-global-cache.ensures.missed enum-told2.given.1) check-cycle-on-stack.new.0 check-cycle-on-stack.result
           (check-cycle-on-stack.ensures.is root a.entries a.cache.now) enum-told3.given.1
           (check-cycle-on-stack.ensures.missed enum-told3.given.1);
-      low = λ d e. push-small a.available d s.requires.0.available e;
+      low = λ d e. push_small a.available d s.requires.0.available e;
       missed =
           λ d e. check-cycle-on-stack.ensures.missed enum-told3.given.1 ∙ same;
       off =
-          λ d e. ap (λ (bs : List ℕ). stackFind (stack_of a.h.goals a.height bs) a.goal) (sym same)
-          ∙ cycle-off a.h (graph_of a.h.goals 0 a.height a.entries lookup-global-cache.new.1.0 a.cache.now)
+          λ d e. ap (λ (bs : List ℕ). stack_find (stack_of a.h.goals a.height bs) a.goal) (sym same)
+          ∙ cycle_off a.h (graph_of a.h.goals 0 a.height a.entries lookup-global-cache.new.1.0 a.cache.now)
           a.goal a.step a.available check-cycle-on-stack.result
           (graph_of a.h.goals 0 a.height a.entries check-cycle-on-stack.new.0 a.cache.now)
           (check-cycle-on-stack.ensures.is 0 a.entries a.cache.now) enum-told3.given.1;

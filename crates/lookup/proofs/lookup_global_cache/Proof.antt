@@ -2,7 +2,7 @@ use mathlib.Core.Path.{refl}
 use mathlib.Core.Option.{some}
 use Rattle.definition.specs.Graph.{Done}
 use Rattle.layout.specs.Work.{graph_of}
-use Rattle.lookup.proofs.Hits.{hit-something, success-hit, overflow-hit, slots-missed}
+use Rattle.lookup.proofs.Hits.{hit_something, success_hit, overflow_hit, slots_missed}
 use borrow.Author.Rules.{rules}
 use Rattle.lookup.proofs.lookup_global_cache.Statement.{statement}
 use Rattle.lookup.proofs.lookup_global_cache.Tie as tie
@@ -30,11 +30,11 @@ returns c =
     let if1 = c4.if1 in
     record {
       is =
-          λ root. success-hit a.h a.height a.entries a.goal a.step a.available a.graph.now a.cache.now root
+          λ root. success_hit a.h a.height a.entries a.goal a.step a.available a.graph.now a.cache.now root
           slot_at.result.now slot_at.ensures success-applies.result success-applies.ensures if1.true
           (some (Done (graph_of a.h.goals root a.height a.entries y.new.1.0 a.cache.now) y.result))
           (y.ensures root a.entries a.cache.now);
-      missed = λ e. hit-something y.result e;
+      missed = λ e. hit_something y.result e;
     }
 
 add-slot-at : tie.Need-overflow-add-slot-at
@@ -66,12 +66,12 @@ returns-2 c =
     let if2 = c4.if2 in
     record {
       is =
-          λ root. overflow-hit a.h a.height a.entries a.goal a.step a.available a.graph.now a.cache.now root
+          λ root. overflow_hit a.h a.height a.entries a.goal a.step a.available a.graph.now a.cache.now root
           slot_at.result.now slot_at.ensures success-applies.result success-applies.ensures if1.false
           slot-at2.result.now slot-at2.ensures overflow-applies.result overflow-applies.ensures if2.true
           (some (Done (graph_of a.h.goals root a.height a.entries y.new.1.0 a.cache.now) y.result))
           (y.ensures root a.entries a.cache.now);
-      missed = λ e. hit-something y.result e;
+      missed = λ e. hit_something y.result e;
     }
 
 same-length-3 : tie.Need-same-length-3
@@ -89,7 +89,7 @@ returns-3 c =
     let overflow-applies = c1.overflow-applies in
     record {
       is =
-          λ root. slots-missed a.h a.height a.entries a.goal a.step a.available a.graph.now a.cache.now root
+          λ root. slots_missed a.h a.height a.entries a.goal a.step a.available a.graph.now a.cache.now root
           slot_at.result.now slot_at.ensures success-applies.result success-applies.ensures if1.false
           slot-at2.result.now slot-at2.ensures overflow-applies.result overflow-applies.ensures c.if2.false;
       missed = λ e. refl;

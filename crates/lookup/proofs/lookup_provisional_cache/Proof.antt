@@ -3,7 +3,7 @@ use mathlib.Core.Option.{some}
 use Rattle.definition.specs.Graph.{Done}
 use Rattle.layout.specs.Work.{graph_of}
 use native.Mathlib.Omega.{arith}
-use Rattle.lookup.proofs.Hits.{hit-something, switched-off, entry-missed, entry-hit}
+use Rattle.lookup.proofs.Hits.{hit_something, switched_off, entry_missed, entry_hit}
 use borrow.Author.Rules.{rules}
 use Rattle.lookup.proofs.lookup_provisional_cache.Statement.{statement}
 use Rattle.lookup.proofs.lookup_provisional_cache.Tie as tie
@@ -13,7 +13,7 @@ returns c =
     let a = c.before.before.before.args in
     record {
       is =
-          λ root cache. switched-off a.h a.height a.entries a.goal a.step a.available a.graph.now root cache
+          λ root cache. switched_off a.h a.height a.entries a.goal a.step a.available a.graph.now root cache
           c.if1.true;
       missed = λ e. refl;
     }
@@ -28,11 +28,11 @@ returns-2 : tie.Need-returns-2
 returns-2 c =
     let a = c.before.before.before.before.before.before.args in
     let if1 = c.before.before.before.if1 in
-    let first-match = c.before.first-match in
+    let first_match_lem = c.before.first_match_lem in
     record {
       is =
-          λ root cache. entry-missed a.h a.height a.entries a.goal a.step a.available a.graph.now root cache
-          if1.false first-match.result first-match.ensures.is c.if2.true;
+          λ root cache. entry_missed a.h a.height a.entries a.goal a.step a.available a.graph.now root cache
+          if1.false first_match_lem.result first_match_lem.ensures.is c.if2.true;
       missed = λ e. refl;
     }
 
@@ -49,14 +49,14 @@ returns-3 c =
     let a = c10.args in
     let y = c2.use-entry in
     let if1 = c7.if1 in
-    let first-match = c5.first-match in
+    let first_match_lem = c5.first_match_lem in
     record {
       is =
-          λ root cache. entry-hit a.h a.height a.entries a.goal a.step a.available a.graph.now root cache
-          if1.false first-match.result first-match.ensures.is (omega arith)
+          λ root cache. entry_hit a.h a.height a.entries a.goal a.step a.available a.graph.now root cache
+          if1.false first_match_lem.result first_match_lem.ensures.is (omega arith)
           (some (Done (graph_of a.h.goals root a.height a.entries y.new.0 cache) y.result))
           (y.ensures root a.entries cache);
-      missed = λ e. hit-something y.result e;
+      missed = λ e. hit_something y.result e;
     }
 
 pub lookup-provisional-cache-spec : {M : Type 1} → statement M

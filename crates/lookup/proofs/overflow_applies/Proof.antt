@@ -1,6 +1,6 @@
-use Rattle.definition.specs.GlobalCache.{slotHeld, slotNested}
+use Rattle.definition.specs.GlobalCache.{slot_held, slot_nested}
 use Rattle.lookup.specs.Lookups.{applicable}
-use Rattle.lookup.proofs.Tests.{slot-empty, slot_held}
+use Rattle.lookup.proofs.Tests.{slot_empty, slot_held_lem}
 use borrow.Author.Rules.{rules}
 use Rattle.lookup.proofs.overflow_applies.Statement.{statement}
 use Rattle.lookup.proofs.overflow_applies.Tie as tie
@@ -12,7 +12,7 @@ returns : tie.Need-returns
 returns c =
     let a = c.before.before.before.before.args in
     let is_held = c.before.is_held in
-    slot-empty (slotHeld a.s.now) (applicable a.goals a.height a.entries a.graph.now a.step) (slotNested a.s.now)
+    slot_empty (slot_held a.s.now) (applicable a.goals a.height a.entries a.graph.now a.step) (slot_nested a.s.now)
     is_held.result is_held.ensures c.if1.true
 
 nested-of-requires : tie.Need-nested-of-requires
@@ -27,7 +27,7 @@ returns-2 c =
     let is_held = c.before.before.before.is_held in
     let nested-of = c.before.nested-of in
     let candidate-is-applicable = c.candidate-is-applicable in
-    slot_held (slotHeld a.s.now) (applicable a.goals a.height a.entries a.graph.now a.step) (slotNested a.s.now)
+    slot_held_lem (slot_held a.s.now) (applicable a.goals a.height a.entries a.graph.now a.step) (slot_nested a.s.now)
     is_held.result is_held.ensures c.before.before.if1.false nested-of.result.now nested-of.ensures
     candidate-is-applicable.result candidate-is-applicable.ensures
 

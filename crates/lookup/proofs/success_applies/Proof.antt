@@ -1,8 +1,8 @@
 use native.Mathlib.Omega.{arith}
 use mathlib.Core.Path.{refl}
-use Rattle.definition.specs.GlobalCache.{slotHeld, slotDepth, slotNested}
+use Rattle.definition.specs.GlobalCache.{slot_held, slot_depth, slot_nested}
 use Rattle.lookup.specs.Lookups.{applicable}
-use Rattle.lookup.proofs.Tests.{success-empty, success-deep, success-held}
+use Rattle.lookup.proofs.Tests.{success_empty, success_deep, success_held}
 use borrow.Author.Rules.{rules}
 use Rattle.lookup.proofs.success_applies.Statement.{statement}
 use Rattle.lookup.proofs.success_applies.Tie as tie
@@ -14,8 +14,8 @@ returns : tie.Need-returns
 returns c =
     let a = c.before.before.before.before.args in
     let is_held = c.before.is_held in
-    success-empty (slotHeld a.s.now) (applicable a.goals a.height a.entries a.graph.now a.step)
-    (slotNested a.s.now) is_held.result is_held.ensures a.available (slotDepth a.s.now) (slotDepth a.s.now) refl
+    success_empty (slot_held a.s.now) (applicable a.goals a.height a.entries a.graph.now a.step)
+    (slot_nested a.s.now) is_held.result is_held.ensures a.available (slot_depth a.s.now) (slot_depth a.s.now) refl
     c.if1.true
 
 depth-of-requires : tie.Need-depth-of-requires
@@ -26,8 +26,8 @@ returns-2 c =
     let a = c.before.before.before.before.before.before.args in
     let is_held = c.before.before.before.is_held in
     let depth-of = c.before.depth-of in
-    success-deep (slotHeld a.s.now) (applicable a.goals a.height a.entries a.graph.now a.step)
-    (slotNested a.s.now) is_held.result is_held.ensures a.available (slotDepth a.s.now) depth-of.result
+    success_deep (slot_held a.s.now) (applicable a.goals a.height a.entries a.graph.now a.step)
+    (slot_nested a.s.now) is_held.result is_held.ensures a.available (slot_depth a.s.now) depth-of.result
     depth-of.ensures c.before.before.if1.false c.if2.true
 
 nested-of-requires : tie.Need-nested-of-requires
@@ -44,8 +44,8 @@ returns-3 c =
     let depth-of = c.before.before.before.depth-of in
     let nested-of = c.before.nested-of in
     let candidate-is-applicable = c.candidate-is-applicable in
-    success-held (slotHeld a.s.now) (applicable a.goals a.height a.entries a.graph.now a.step)
-    (slotNested a.s.now) is_held.result is_held.ensures a.available (slotDepth a.s.now) depth-of.result
+    success_held (slot_held a.s.now) (applicable a.goals a.height a.entries a.graph.now a.step)
+    (slot_nested a.s.now) is_held.result is_held.ensures a.available (slot_depth a.s.now) depth-of.result
     depth-of.ensures if1.false (omega arith) nested-of.result.now nested-of.ensures candidate-is-applicable.result
     candidate-is-applicable.ensures
 

@@ -1,5 +1,5 @@
-use Rattle.provisional_cache.proofs.Entries.{entry-at-bytes}
-use Rattle.lookup.proofs.Uses.{entry-used}
+use Rattle.provisional_cache.proofs.Entries.{entry_at_bytes}
+use Rattle.lookup.proofs.Uses.{entry_used}
 use borrow.Author.Rules.{rules}
 use Rattle.lookup.proofs.use_entry.Statement.{statement}
 use Rattle.lookup.proofs.use_entry.Tie as tie
@@ -11,13 +11,13 @@ encountered-overflow-requires : tie.Need-encountered-overflow-requires
 encountered-overflow-requires c κs =
     let s = c.before.before.before in
     let entry_at = c.entry_at in
-    entry-at-bytes s.args.goals s.args.graph.now entry_at.result.now s.args.i s.requires.0 s.requires.1.1 entry_at.ensures
+    entry_at_bytes s.args.goals s.args.graph.now entry_at.result.now s.args.i s.requires.0 s.requires.1.1 entry_at.ensures
 
 result-requires : tie.Need-result-requires
 result-requires c κs =
     let s = c.before.before.before.before in
     let entry_at = c.before.entry_at in
-    entry-at-bytes s.args.goals s.args.graph.now entry_at.result.now s.args.i s.requires.0 s.requires.1.1 entry_at.ensures
+    entry_at_bytes s.args.goals s.args.graph.now entry_at.result.now s.args.i s.requires.0 s.requires.1.1 entry_at.ensures
 
 update-from-entry-requires : tie.Need-update-from-entry-requires
 update-from-entry-requires c κs = search rules
@@ -34,7 +34,7 @@ returns c =
     let entry_at = c6.entry_at in
     let encountered-overflow = c5.encountered-overflow in
     let result = c4.result in
-    entry-used a.goals a.height a.graph.now y.new.0 a.step a.available y.ensures.entries a.i entry_at.result.now
+    entry_used a.goals a.height a.graph.now y.new.0 a.step a.available y.ensures.entries a.i entry_at.result.now
     entry_at.ensures encountered-overflow.result encountered-overflow.ensures result.result result.ensures y.ensures.stack
 
 pub use-entry-spec : {M : Type 1} → statement M

@@ -1,4 +1,4 @@
-use Rattle.lookup.proofs.Uses.{slot-used}
+use Rattle.lookup.proofs.Uses.{slot_used}
 use borrow.Author.Rules.{rules}
 use Rattle.lookup.proofs.use_slot.Statement.{statement}
 use Rattle.lookup.proofs.use_slot.Tie as tie
@@ -31,7 +31,7 @@ returns c =
     let minus = c6.minus in
     let nested-of = c5.nested-of in
     let result-of = c.result-of in
-    slot-used a.h a.height a.graph.now y.new.0 a.step a.available y.ensures.entries a.s.now
+    slot_used a.h a.height a.graph.now y.new.0 a.step a.available y.ensures.entries a.s.now
     nested-of.result.now a.overflow depth-of.result minus.result result-of.result depth-of.ensures minus.ensures
     nested-of.ensures result-of.ensures y.ensures.stack
 

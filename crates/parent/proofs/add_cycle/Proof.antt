@@ -1,6 +1,6 @@
 use Rattle.definition.specs.Stack.{Frame}
-use Rattle.stack.proofs.Graph.{part_room, top-written}
-use Rattle.definition.specs.Parent.{addRest, CycleOnStack}
+use Rattle.stack.proofs.Graph.{part_room, top_written}
+use Rattle.definition.specs.Parent.{add_rest, CycleOnStack}
 use mathlib.Core.Bool.{false}
 use borrow.Author.Rules.{rules}
 use Rattle.parent.proofs.add_cycle.Statement.{statement}
@@ -31,7 +31,7 @@ same_length : tie.Need-same-length
 same_length c = search rules
 
 returns : tie.Need-returns
-returns c = let s = c.before.before.before.before.before.before.before in let y = c.before.before.add-cycle in top-written s.args.goals s.args.graph.now s.args.own c.before.before.before.before.before.frame-start.result c.before.before.before.before.frame-size.result s.requires.0 s.requires.1 c.before.before.before.before.before.frame-start.ensures.0 c.before.before.before.before.frame-size.ensures y.new.0 y.auto.0 (λ (f : Frame). addRest s.args.step false (CycleOnStack s.args.goal) s.args.reached f) y.ensures
+returns c = let s = c.before.before.before.before.before.before.before in let y = c.before.before.add-cycle in top_written s.args.goals s.args.graph.now s.args.own c.before.before.before.before.before.frame-start.result c.before.before.before.before.frame-size.result s.requires.0 s.requires.1 c.before.before.before.before.before.frame-start.ensures.0 c.before.before.before.before.frame-size.ensures y.new.0 y.auto.0 (λ (f : Frame). add_rest s.args.step false (CycleOnStack s.args.goal) s.args.reached f) y.ensures
 
 pub add-cycle-spec : {M : Type 1} → statement M
 add-cycle-spec =

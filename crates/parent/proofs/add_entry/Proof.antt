@@ -1,6 +1,6 @@
 use Rattle.definition.specs.Stack.{Frame}
-use Rattle.stack.proofs.Graph.{part_room, top-written}
-use Rattle.definition.specs.Parent.{addRest, ProvisionalCacheHit}
+use Rattle.stack.proofs.Graph.{part_room, top_written}
+use Rattle.definition.specs.Parent.{add_rest, ProvisionalCacheHit}
 use borrow.Author.Rules.{rules}
 use Rattle.parent.proofs.add_entry.Statement.{statement}
 use Rattle.parent.proofs.add_entry.Tie as tie
@@ -30,7 +30,7 @@ same_length : tie.Need-same-length
 same_length c = search rules
 
 returns : tie.Need-returns
-returns c = let s = c.before.before.before.before.before.before.before in let y = c.before.before.add-entry in top-written s.args.goals s.args.graph.now s.args.own c.before.before.before.before.before.frame-start.result c.before.before.before.before.frame-size.result s.requires.0 s.requires.1 c.before.before.before.before.before.frame-start.ensures.0 c.before.before.before.before.frame-size.ensures y.new.0 y.auto.0 (λ (f : Frame). addRest s.args.step s.args.overflow ProvisionalCacheHit s.args.reached f) y.ensures
+returns c = let s = c.before.before.before.before.before.before.before in let y = c.before.before.add-entry in top_written s.args.goals s.args.graph.now s.args.own c.before.before.before.before.before.frame-start.result c.before.before.before.before.frame-size.result s.requires.0 s.requires.1 c.before.before.before.before.before.frame-start.ensures.0 c.before.before.before.before.frame-size.ensures y.new.0 y.auto.0 (λ (f : Frame). add_rest s.args.step s.args.overflow ProvisionalCacheHit s.args.reached f) y.ensures
 
 pub add-entry-spec : {M : Type 1} → statement M
 add-entry-spec =

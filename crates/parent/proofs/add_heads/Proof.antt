@@ -4,24 +4,24 @@ use native.Mathlib.Omega.{arith}
 use mathlib.Core.Bool.{false}
 use mathlib.Core.List.{List, ◌++◌}
 use lib.ListN.{length, replicate}
-use Rattle.definition.specs.Parent.{addHeads}
+use Rattle.definition.specs.Parent.{add_heads}
 use Rattle.bits.specs.Masks.{flags}
 use Rattle.buffer.specs.Regions.{region}
-use Rattle.buffer.proofs.Regions.{length-region}
-use Rattle.layout.specs.Blocks.{headsSize, headsOf, present}
-use Rattle.layout.proofs.Marks.{keep, Within, start-within}
-use Rattle.stack.specs.Bytes.{frameAt}
+use Rattle.buffer.proofs.Regions.{length_region}
+use Rattle.layout.specs.Blocks.{heads_size, heads_of, present}
+use Rattle.layout.proofs.Marks.{keep, Within, start_within}
+use Rattle.stack.specs.Bytes.{frame_at}
 use Rattle.stack.proofs.Parts.{part}
-use Rattle.stack.specs.Child.{addHeadAt}
+use Rattle.stack.specs.Child.{add_head_at}
 use Rattle.stack.specs.Written.{TopWritten}
-use Rattle.parent.proofs.Top.{top_frame, top_again, top-same, top_kept}
+use Rattle.parent.proofs.Top.{top_frame, top_again, top_same, top_kept}
 use Rattle.parent.proofs.Update as update
 use borrow.Author.Rules.{rules}
 use Rattle.parent.proofs.add_heads.Statement.{statement}
 use Rattle.parent.proofs.add_heads.Tie as tie
 
 abbrev invariant-loop : tie.invariant-loop
-invariant-loop graph₀ goals own step start end left₀ graph left = (length graph ≡ length graph₀) × (left < 2 ^ 64) × (Within left (headsOf goals (region start (headsSize goals) graph₀))) × (TopWritten goals own (frameAt goals own graph) graph₀ graph) × (addHeads step own (keep (flags 64 left) (headsOf goals (region start (headsSize goals) graph₀))) (frameAt goals own graph) ≡ addHeads step own (headsOf goals (region start (headsSize goals) graph₀)) (frameAt goals own graph₀))
+invariant-loop graph₀ goals own step start end left₀ graph left = (length graph ≡ length graph₀) × (left < 2 ^ 64) × (Within left (heads_of goals (region start (heads_size goals) graph₀))) × (TopWritten goals own (frame_at goals own graph) graph₀ graph) × (add_heads step own (keep (flags 64 left) (heads_of goals (region start (heads_size goals) graph₀))) (frame_at goals own graph) ≡ add_heads step own (heads_of goals (region start (heads_size goals) graph₀)) (frame_at goals own graph₀))
 
 abbrev decreases-loop : tie.decreases-loop
 decreases-loop graph₀ goals own step start end left₀ graph left = left
@@ -48,13 +48,13 @@ part-mask-start : tie.Need-slice-bounds-mask-start invariant-loop decreases-loop
 part-mask-start c = search rules
 
 part-mask-end : tie.Need-slice-bounds-mask-end invariant-loop decreases-loop
-part-mask-end c = let s = c.before.before.before in fits-part s.args.start c.before.heads-size.result (headsSize s.args.goals) (length s.args.graph.now) c.before.heads-size.ensures s.requires.1.1.1
+part-mask-end c = let s = c.before.before.before in fits-part s.args.start c.before.heads-size.result (heads_size s.args.goals) (length s.args.graph.now) c.before.heads-size.ensures s.requires.1.1.1
 
 mask-requires : tie.Need-mask-requires invariant-loop decreases-loop
-mask-requires c κs = let s = c.before.before.before.before in let a = s.args in record { few = s.requires.0.few; long = ap length (update.block-is a.goals a.start c.before.before.heads-size.result a.graph.now c.before.before.heads-size.ensures) ∙ length-region a.start (headsSize a.goals) a.graph.now s.requires.1.1.1 }
+mask-requires c κs = let s = c.before.before.before.before in let a = s.args in record { few = s.requires.0.few; long = ap length (update.block_is a.goals a.start c.before.before.heads-size.result a.graph.now c.before.before.heads-size.ensures) ∙ length_region a.start (heads_size a.goals) a.graph.now s.requires.1.1.1 }
 
 loop-holds : tie.Need-loop-init invariant-loop decreases-loop
-loop-holds c = let s = c.before.before.before.before.before in let a = s.args in let is = c.mask.ensures ∙ ap (λ (l : List ℕ). present (headsOf a.goals l) ++ replicate (64 - a.goals) false) (update.block-is a.goals a.start c.before.before.before.heads-size.result a.graph.now c.before.before.before.heads-size.ensures) in (refl, small c, start-within (headsOf a.goals (region a.start (headsSize a.goals) a.graph.now)) c.mask.result (64 - a.goals) is, top_kept a.goals a.own a.graph.now, update.loop-first (headsOf a.goals (region a.start (headsSize a.goals) a.graph.now)) c.mask.result (64 - a.goals) is a.step a.own (frameAt a.goals a.own a.graph.now))
+loop-holds c = let s = c.before.before.before.before.before in let a = s.args in let is = c.mask.ensures ∙ ap (λ (l : List ℕ). present (heads_of a.goals l) ++ replicate (64 - a.goals) false) (update.block_is a.goals a.start c.before.before.before.heads-size.result a.graph.now c.before.before.before.heads-size.ensures) in (refl, small c, start_within (heads_of a.goals (region a.start (heads_size a.goals) a.graph.now)) c.mask.result (64 - a.goals) is, top_kept a.goals a.own a.graph.now, update.loop_first (heads_of a.goals (region a.start (heads_size a.goals) a.graph.now)) c.mask.result (64 - a.goals) is a.step a.own (frame_at a.goals a.own a.graph.now))
 
 lowest-requires : tie.Need-lowest-requires invariant-loop decreases-loop
 lowest-requires c κs = search rules
@@ -66,13 +66,13 @@ part-record-start : tie.Need-slice-bounds-record-start invariant-loop decreases-
 part-record-start c = search rules
 
 part-record-end : tie.Need-slice-bounds-record-end invariant-loop decreases-loop
-part-record-end c = let s = c.before.before.before.before.before.before.before.before.before in let l = c.before.before.before.loop in fits-mid s.args.start c.before.before.before.before.before.before.before.heads-size.result (headsSize s.args.goals) (length s.args.graph.now) (length l.graph) c.before.before.before.before.before.before.before.heads-size.ensures s.requires.1.1.1 l.invariant.0
+part-record-end c = let s = c.before.before.before.before.before.before.before.before.before in let l = c.before.before.before.loop in fits-mid s.args.start c.before.before.before.before.before.before.before.heads-size.result (heads_size s.args.goals) (length s.args.graph.now) (length l.graph) c.before.before.before.before.before.before.before.heads-size.ensures s.requires.1.1.1 l.invariant.0
 
 record-requires : tie.Need-record-requires invariant-loop decreases-loop
-record-requires c κs = let s = c.before.before.before.before.before.before.before.before.before.before in let a = s.args in let l = c.before.before.before.before.loop in (record { few = s.requires.0.few; long = ap length (update.block-is a.goals a.start c.before.before.before.before.before.before.before.before.heads-size.result l.graph c.before.before.before.before.before.before.before.before.heads-size.ensures ∙ l.invariant.3.above a.start (headsSize a.goals) s.requires.1.1.0) ∙ length-region a.start (headsSize a.goals) a.graph.now s.requires.1.1.1 }, update.turn_small l.left c.before.before.lowest.result c.before.before.before.loop-test.true l.invariant.1 c.before.before.lowest.ensures a.goals (region a.start (headsSize a.goals) a.graph.now) l.invariant.2)
+record-requires c κs = let s = c.before.before.before.before.before.before.before.before.before.before in let a = s.args in let l = c.before.before.before.before.loop in (record { few = s.requires.0.few; long = ap length (update.block_is a.goals a.start c.before.before.before.before.before.before.before.before.heads-size.result l.graph c.before.before.before.before.before.before.before.before.heads-size.ensures ∙ l.invariant.3.above a.start (heads_size a.goals) s.requires.1.1.0) ∙ length_region a.start (heads_size a.goals) a.graph.now s.requires.1.1.1 }, update.turn_small l.left c.before.before.lowest.result c.before.before.before.loop-test.true l.invariant.1 c.before.before.lowest.ensures a.goals (region a.start (heads_size a.goals) a.graph.now) l.invariant.2)
 
 add-head-requires : tie.Need-add-head-requires invariant-loop decreases-loop
-add-head-requires c κs = let s = c.before.before.before.before.before.before.before.before.before.before.before.before in let a = s.args in let l = c.before.before.before.before.before.before.loop in (record { some = s.requires.0.some; few = s.requires.0.few; long = l.invariant.0 ∙ s.requires.0.long }, (s.requires.1.0, update.turn_small l.left c.before.before.before.before.lowest.result c.before.before.before.before.before.loop-test.true l.invariant.1 c.before.before.before.before.lowest.ensures a.goals (region a.start (headsSize a.goals) a.graph.now) l.invariant.2))
+add-head-requires c κs = let s = c.before.before.before.before.before.before.before.before.before.before.before.before in let a = s.args in let l = c.before.before.before.before.before.before.loop in (record { some = s.requires.0.some; few = s.requires.0.few; long = l.invariant.0 ∙ s.requires.0.long }, (s.requires.1.0, update.turn_small l.left c.before.before.before.before.lowest.result c.before.before.before.before.before.loop-test.true l.invariant.1 c.before.before.before.before.lowest.ensures a.goals (region a.start (heads_size a.goals) a.graph.now) l.invariant.2))
 
 without-lowest-requires : tie.Need-without-lowest-requires invariant-loop decreases-loop
 without-lowest-requires c κs = c.before.before.before.before.before.before.before.before.loop-test.true
@@ -81,13 +81,13 @@ loop-less : tie.Need-loop-smaller invariant-loop decreases-loop
 loop-less c = c.without-lowest.ensures.1
 
 loop-again : tie.Need-loop-preserved invariant-loop decreases-loop
-loop-again c = let s = c.before.before.before.before.before.before.before.before.before.before.before.before.before.before.before.before in let a = s.args in let l = c.before.before.before.before.before.before.before.before.before.before.loop in let y = c.before.before.before.add-head in let new = addHeadAt a.step a.own c.before.before.before.before.before.before.before.before.lowest.result c.before.before.before.before.before.«record».result (frameAt a.goals a.own l.graph) in let is-new = top_frame a.goals a.own new l.graph y.new.0 y.ensures in (y.auto.0 ∙ l.invariant.0, omega (arith, c.without-lowest.ensures.1, l.invariant.1), update.turn-within l.left c.before.before.before.before.before.before.before.before.lowest.result c.before.before.before.before.before.before.before.before.before.loop-test.true l.invariant.1 c.before.before.before.before.before.before.before.before.lowest.ensures a.goals (region a.start (headsSize a.goals) a.graph.now) l.invariant.2 c.without-lowest.result c.without-lowest.ensures.0, top-same a.goals a.own new a.graph.now y.new.0 (top_again a.goals a.own (frameAt a.goals a.own l.graph) a.graph.now l.graph l.invariant.3 new y.new.0 y.ensures) (frameAt a.goals a.own y.new.0) (sym is-new), update.turn-rest l.left c.before.before.before.before.before.before.before.before.lowest.result c.before.before.before.before.before.before.before.before.before.loop-test.true l.invariant.1 c.before.before.before.before.before.before.before.before.lowest.ensures a.goals (region a.start (headsSize a.goals) a.graph.now) l.invariant.2 a.step a.own c.without-lowest.result c.before.before.before.before.before.«record».result (frameAt a.goals a.own l.graph) (frameAt a.goals a.own y.new.0) (addHeads a.step a.own (headsOf a.goals (region a.start (headsSize a.goals) a.graph.now)) (frameAt a.goals a.own a.graph.now)) (part l.graph a.start (a.start + c.before.before.before.before.before.before.before.before.before.before.before.before.before.before.heads-size.result)) (update.block-is a.goals a.start c.before.before.before.before.before.before.before.before.before.before.before.before.before.before.heads-size.result l.graph c.before.before.before.before.before.before.before.before.before.before.before.before.before.before.heads-size.ensures ∙ l.invariant.3.above a.start (headsSize a.goals) s.requires.1.1.0) c.before.before.before.before.before.«record».ensures l.invariant.4 is-new c.without-lowest.ensures.0)
+loop-again c = let s = c.before.before.before.before.before.before.before.before.before.before.before.before.before.before.before.before in let a = s.args in let l = c.before.before.before.before.before.before.before.before.before.before.loop in let y = c.before.before.before.add-head in let new = add_head_at a.step a.own c.before.before.before.before.before.before.before.before.lowest.result c.before.before.before.before.before.«record».result (frame_at a.goals a.own l.graph) in let is-new = top_frame a.goals a.own new l.graph y.new.0 y.ensures in (y.auto.0 ∙ l.invariant.0, omega (arith, c.without-lowest.ensures.1, l.invariant.1), update.turn_within l.left c.before.before.before.before.before.before.before.before.lowest.result c.before.before.before.before.before.before.before.before.before.loop-test.true l.invariant.1 c.before.before.before.before.before.before.before.before.lowest.ensures a.goals (region a.start (heads_size a.goals) a.graph.now) l.invariant.2 c.without-lowest.result c.without-lowest.ensures.0, top_same a.goals a.own new a.graph.now y.new.0 (top_again a.goals a.own (frame_at a.goals a.own l.graph) a.graph.now l.graph l.invariant.3 new y.new.0 y.ensures) (frame_at a.goals a.own y.new.0) (sym is-new), update.turn_rest l.left c.before.before.before.before.before.before.before.before.lowest.result c.before.before.before.before.before.before.before.before.before.loop-test.true l.invariant.1 c.before.before.before.before.before.before.before.before.lowest.ensures a.goals (region a.start (heads_size a.goals) a.graph.now) l.invariant.2 a.step a.own c.without-lowest.result c.before.before.before.before.before.«record».result (frame_at a.goals a.own l.graph) (frame_at a.goals a.own y.new.0) (add_heads a.step a.own (heads_of a.goals (region a.start (heads_size a.goals) a.graph.now)) (frame_at a.goals a.own a.graph.now)) (part l.graph a.start (a.start + c.before.before.before.before.before.before.before.before.before.before.before.before.before.before.heads-size.result)) (update.block_is a.goals a.start c.before.before.before.before.before.before.before.before.before.before.before.before.before.before.heads-size.result l.graph c.before.before.before.before.before.before.before.before.before.before.before.before.before.before.heads-size.ensures ∙ l.invariant.3.above a.start (heads_size a.goals) s.requires.1.1.0) c.before.before.before.before.before.«record».ensures l.invariant.4 is-new c.without-lowest.ensures.0)
 
 same_length : tie.Need-same-length invariant-loop decreases-loop
 same_length c = c.before.loop.invariant.0
 
 returns : tie.Need-returns invariant-loop decreases-loop
-returns c = let a = c.before.before.before.before.before.before.before.args in let l = c.before.loop in let whole = addHeads a.step a.own (headsOf a.goals (region a.start (headsSize a.goals) a.graph.now)) (frameAt a.goals a.own a.graph.now) in top-same a.goals a.own (frameAt a.goals a.own l.graph) a.graph.now l.graph l.invariant.3 whole (update.loop-last a.step a.own l.left (headsOf a.goals (region a.start (headsSize a.goals) a.graph.now)) (frameAt a.goals a.own l.graph) whole c.loop-test.false l.invariant.4)
+returns c = let a = c.before.before.before.before.before.before.before.args in let l = c.before.loop in let whole = add_heads a.step a.own (heads_of a.goals (region a.start (heads_size a.goals) a.graph.now)) (frame_at a.goals a.own a.graph.now) in top_same a.goals a.own (frame_at a.goals a.own l.graph) a.graph.now l.graph l.invariant.3 whole (update.loop_last a.step a.own l.left (heads_of a.goals (region a.start (heads_size a.goals) a.graph.now)) (frame_at a.goals a.own l.graph) whole c.loop-test.false l.invariant.4)
 
 pub add-heads-spec : {M : Type 1} → statement M
 add-heads-spec =

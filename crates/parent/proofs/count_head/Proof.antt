@@ -1,6 +1,6 @@
 use Rattle.definition.specs.Stack.{Frame}
-use Rattle.stack.proofs.Graph.{part_room, top-written}
-use Rattle.stack.specs.Child.{addHeadAt, cycleHead}
+use Rattle.stack.proofs.Graph.{part_room, top_written}
+use Rattle.stack.specs.Child.{add_head_at, cycle_head}
 use borrow.Author.Rules.{rules}
 use Rattle.parent.proofs.count_head.Statement.{statement}
 use Rattle.parent.proofs.count_head.Tie as tie
@@ -30,7 +30,7 @@ same_length : tie.Need-same-length
 same_length c = search rules
 
 returns : tie.Need-returns
-returns c = let s = c.before.before.before.before.before.before.before in let y = c.before.before.count_Head in top-written s.args.goals s.args.graph.now s.args.own c.before.before.before.before.before.frame-start.result c.before.before.before.before.frame-size.result s.requires.0 s.requires.1.0 c.before.before.before.before.before.frame-start.ensures.0 c.before.before.before.before.frame-size.ensures y.new.0 y.auto.0 (λ (f : Frame). addHeadAt s.args.step s.args.own s.args.i (cycleHead s.args.step s.args.kind) f) y.ensures
+returns c = let s = c.before.before.before.before.before.before.before in let y = c.before.before.count_Head in top_written s.args.goals s.args.graph.now s.args.own c.before.before.before.before.before.frame-start.result c.before.before.before.before.frame-size.result s.requires.0 s.requires.1.0 c.before.before.before.before.before.frame-start.ensures.0 c.before.before.before.before.frame-size.ensures y.new.0 y.auto.0 (λ (f : Frame). add_head_at s.args.step s.args.own s.args.i (cycle_head s.args.step s.args.kind) f) y.ensures
 
 pub count-head-spec : {M : Type 1} → statement M
 count-head-spec =

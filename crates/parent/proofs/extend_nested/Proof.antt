@@ -1,7 +1,7 @@
 use mathlib.Core.Path.{ap₂}
 use Prim.Native.Nat.{◌+◌}
 use native.Mathlib.Omega.{arith}
-use Rattle.parent.proofs.Nested.{nested-fits, nested-next, nested-joined}
+use Rattle.parent.proofs.Nested.{nested_fits, nested_next, nested_joined}
 use borrow.Author.Rules.{rules}
 use Rattle.parent.proofs.extend_nested.Statement.{statement}
 use Rattle.parent.proofs.extend_nested.Tie as tie
@@ -28,7 +28,7 @@ extend-within-requires c κs =
     let start = c.before.before.before.frame-start.ensures.0 in
     let nested = c.before.before.nested-start.ensures in
     let size = c.before.frame-size.ensures in
-    (omega arith, nested-fits a.goals a.graph.now a.own c.before.before.before.frame-start.result c.before.before.nested-start.result c.before.frame-size.result s.requires.0 s.requires.1 start nested size)
+    (omega arith, nested_fits a.goals a.graph.now a.own c.before.before.before.frame-start.result c.before.before.nested-start.result c.before.frame-size.result s.requires.0 s.requires.1 start nested size)
 
 same_length : tie.Need-same-length
 same_length c = search rules
@@ -40,9 +40,9 @@ returns c =
     let start = c.before.before.before.before.before.before.frame-start.ensures.0 in
     let nested = c.before.before.before.before.before.nested-start.ensures in
     let size = c.before.before.before.before.frame-size.ensures in
-    nested-joined a.goals a.own a.step a.graph.now c.before.before.extend-within.new.0 c.before.before.extend-within.result s.requires.0 (omega (arith, s.requires.1))
+    nested_joined a.goals a.own a.step a.graph.now c.before.before.extend-within.new.0 c.before.before.extend-within.result s.requires.0 (omega (arith, s.requires.1))
     (c.before.before.before.before.before.before.frame-start.result + c.before.before.before.before.before.nested-start.result) (c.before.before.before.before.before.before.frame-start.result + c.before.before.before.before.before.nested-start.result + c.before.before.before.before.frame-size.result)
-    (ap₂ ◌+◌ start nested) (nested-next a.goals a.graph.now a.own c.before.before.before.before.before.before.frame-start.result c.before.before.before.before.before.nested-start.result c.before.before.before.before.frame-size.result s.requires.0 s.requires.1 start nested size)
+    (ap₂ ◌+◌ start nested) (nested_next a.goals a.graph.now a.own c.before.before.before.before.before.before.frame-start.result c.before.before.before.before.before.nested-start.result c.before.before.before.before.frame-size.result s.requires.0 s.requires.1 start nested size)
     c.before.before.extend-within.ensures
 
 pub extend-nested-spec : {M : Type 1} → statement M

@@ -1,7 +1,7 @@
 use mathlib.Core.Bool.{false}
-use Rattle.definition.specs.Paths.{flagOf}
-use Rattle.definition.specs.Usages.{oneUsage}
-use Rattle.definition.specs.Heads.{noHeads, insertHead}
+use Rattle.definition.specs.Paths.{flag_of}
+use Rattle.definition.specs.Usages.{one_usage}
+use Rattle.definition.specs.Heads.{no_heads, insert_head}
 use Rattle.definition.specs.Parent.{CycleOnStack}
 use Rattle.parent.proofs.Update as update
 use borrow.Author.Rules.{rules}
@@ -9,7 +9,7 @@ use Rattle.parent.proofs.update_from_cycle.Statement.{statement}
 use Rattle.parent.proofs.update_from_cycle.Tie as tie
 
 returns : tie.Need-returns
-returns c = let a = c.before.before.args in update.update-none a.goals a.height a.graph.now a.step (insertHead (noHeads a.goals) a.head (flagOf a.step) (oneUsage a.kind)) false (CycleOnStack a.goal) a.reached c.if1.true
+returns c = let a = c.before.before.args in update.update_none a.goals a.height a.graph.now a.step (insert_head (no_heads a.goals) a.head (flag_of a.step) (one_usage a.kind)) false (CycleOnStack a.goal) a.reached c.if1.true
 
 sub-count-head : tie.Need-overflow-sub-count-head
 sub-count-head c = search rules
@@ -27,7 +27,7 @@ same_length : tie.Need-same-length
 same_length c = search rules
 
 returns-2 : tie.Need-returns-2
-returns-2 c = let s = c.before.before.before.before.before.before.before.before.before.before in let a = s.args in let y = c.before.before.before.before.before.before.count_Head in let z = c.before.before.add-cycle in update.update-cycle a.goals a.height a.head a.goal a.graph.now y.new.0 z.new.0 a.step (oneUsage a.kind) a.reached s.requires.1.1 s.requires.1.0 y.ensures z.ensures
+returns-2 c = let s = c.before.before.before.before.before.before.before.before.before.before in let a = s.args in let y = c.before.before.before.before.before.before.count_Head in let z = c.before.before.add-cycle in update.update_cycle a.goals a.height a.head a.goal a.graph.now y.new.0 z.new.0 a.step (one_usage a.kind) a.reached s.requires.1.1 s.requires.1.0 y.ensures z.ensures
 
 pub update-from-cycle-spec : {M : Type 1} → statement M
 update-from-cycle-spec =

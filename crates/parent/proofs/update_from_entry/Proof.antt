@@ -2,16 +2,16 @@ use mathlib.Core.Path.{ap, ◌∙◌}
 use Prim.Native.Nat.{ℕ, ◌+◌, ◌-◌, ◌<◌}
 use native.Mathlib.Omega.{arith}
 use Rattle.definition.specs.Parent.{ProvisionalCacheHit}
-use Rattle.layout.specs.Work.{entryStart}
+use Rattle.layout.specs.Work.{entry_start}
 use Rattle.buffer.specs.Regions.{region}
-use Rattle.layout.specs.Entry.{entryHeadsStart, entrySize, entry_of}
+use Rattle.layout.specs.Entry.{entry_heads_start, entry_size, entry_of}
 use Rattle.parent.proofs.Update as update
 use borrow.Author.Rules.{rules}
 use Rattle.parent.proofs.update_from_entry.Statement.{statement}
 use Rattle.parent.proofs.update_from_entry.Tie as tie
 
 returns : tie.Need-returns
-returns c = let a = c.before.before.args in update.update-none a.goals a.height a.graph.now a.step (entry_of a.goals (region (entryStart a.goals a.i) (entrySize a.goals) a.graph.now)).heads a.overflow ProvisionalCacheHit a.reached c.if1.true
+returns c = let a = c.before.before.args in update.update_none a.goals a.height a.graph.now a.step (entry_of a.goals (region (entry_start a.goals a.i) (entry_size a.goals) a.graph.now)).heads a.overflow ProvisionalCacheHit a.reached c.if1.true
 
 entry-start-requires : tie.Need-entry-start-requires
 entry-start-requires c κs = let s = c.before.before in (s.requires.0.few, omega (arith, s.requires.0.few))
@@ -23,7 +23,7 @@ sub-add-heads : tie.Need-overflow-sub-add-heads
 sub-add-heads c = omega arith
 
 add-heads-requires : tie.Need-add-heads-requires
-add-heads-requires c κs = let s = c.before.before.before.before in let a = s.args in let e = ap (λ (x : ℕ). x + entryHeadsStart) c.before.entry-start.ensures.0 in let lt : a.height - 1 < a.goals = omega arith in (s.requires.0, (lt, (update.entry-behind a.goals (a.height - 1) a.i (c.before.entry-start.result + entryHeadsStart) lt e, update.entry-fits a.goals a.graph.now a.i (c.before.entry-start.result + entryHeadsStart) s.requires.0.long s.requires.1.1 e)))
+add-heads-requires c κs = let s = c.before.before.before.before in let a = s.args in let e = ap (λ (x : ℕ). x + entry_heads_start) c.before.entry-start.ensures.0 in let lt : a.height - 1 < a.goals = omega arith in (s.requires.0, (lt, (update.entry_behind a.goals (a.height - 1) a.i (c.before.entry-start.result + entry_heads_start) lt e, update.entry_fits a.goals a.graph.now a.i (c.before.entry-start.result + entry_heads_start) s.requires.0.long s.requires.1.1 e)))
 
 sub-add-entry : tie.Need-overflow-sub-add-entry
 sub-add-entry c = omega arith
@@ -35,7 +35,7 @@ same_length : tie.Need-same-length
 same_length c = search rules
 
 returns-2 : tie.Need-returns-2
-returns-2 c = let a = c.before.before.before.before.before.before.before.before.before.before.before.args in let y = c.before.before.before.before.before.before.add-heads in let z = c.before.before.add-entry in update.update-entry a.goals a.height a.i (c.before.before.before.before.before.before.before.before.entry-start.result + entryHeadsStart) a.graph.now y.new.0 z.new.0 a.step a.overflow a.reached (omega arith) (ap (λ (x : ℕ). x + entryHeadsStart) c.before.before.before.before.before.before.before.before.entry-start.ensures.0) y.ensures z.ensures
+returns-2 c = let a = c.before.before.before.before.before.before.before.before.before.before.before.args in let y = c.before.before.before.before.before.before.add-heads in let z = c.before.before.add-entry in update.update_entry a.goals a.height a.i (c.before.before.before.before.before.before.before.before.entry-start.result + entry_heads_start) a.graph.now y.new.0 z.new.0 a.step a.overflow a.reached (omega arith) (ap (λ (x : ℕ). x + entry_heads_start) c.before.before.before.before.before.before.before.before.entry-start.ensures.0) y.ensures z.ensures
 
 pub update-from-entry-spec : {M : Type 1} → statement M
 update-from-entry-spec =

@@ -3,18 +3,18 @@ use mathlib.Core.List.{List}
 use Prim.Native.Nat.{ℕ, ◌+◌, ◌-◌, ◌<◌}
 use native.Mathlib.Omega.{arith}
 use Rattle.definition.specs.Nested.{NestedGoals}
-use Rattle.definition.specs.Parent.{Ordinary, addHeads, addRest}
-use Rattle.stack.specs.Bytes.{frameAt}
+use Rattle.definition.specs.Parent.{Ordinary, add_heads, add_rest}
+use Rattle.stack.specs.Bytes.{frame_at}
 use Rattle.stack.specs.Written.{TopWritten}
-use Rattle.parent.specs.Updated.{headsIn, nestedAt}
-use Rattle.parent.proofs.Nested.{child-kept, joined-rest}
+use Rattle.parent.specs.Updated.{heads_in, nested_at}
+use Rattle.parent.proofs.Nested.{child_kept, joined_rest}
 use Rattle.parent.proofs.Update as update
 use borrow.Author.Rules.{rules}
 use Rattle.parent.proofs.update_from_frame.Statement.{statement}
 use Rattle.parent.proofs.update_from_frame.Tie as tie
 
 returns : tie.Need-returns
-returns c = let a = c.before.before.args in update.update-none a.goals a.height a.graph.now a.step (frameAt a.goals a.height a.graph.now).heads a.overflow (Ordinary (nestedAt a.goals a.height a.graph.now)) a.reached c.if1.true
+returns c = let a = c.before.before.args in update.update_none a.goals a.height a.graph.now a.step (frame_at a.goals a.height a.graph.now).heads a.overflow (Ordinary (nested_at a.goals a.height a.graph.now)) a.reached c.if1.true
 
 frame-start-requires : tie.Need-frame-start-requires
 frame-start-requires c κs = let s = c.before.before in (s.requires.0.few, omega (arith, s.requires.0.few))
@@ -26,7 +26,7 @@ sub-add-heads : tie.Need-overflow-sub-add-heads
 sub-add-heads c = omega arith
 
 add-heads-requires : tie.Need-add-heads-requires
-add-heads-requires c κs = let s = c.before.before.before.before in let a = s.args in let e = ap (λ (x : ℕ). x + 40) c.before.frame-start.ensures.0 in (s.requires.0, (omega arith, (update.frame-behind a.goals a.height (c.before.frame-start.result + 40) (omega arith) e, update.frame-fits a.goals a.graph.now a.height (c.before.frame-start.result + 40) s.requires.0.long s.requires.1 e)))
+add-heads-requires c κs = let s = c.before.before.before.before in let a = s.args in let e = ap (λ (x : ℕ). x + 40) c.before.frame-start.ensures.0 in (s.requires.0, (omega arith, (update.frame_behind a.goals a.height (c.before.frame-start.result + 40) (omega arith) e, update.frame_fits a.goals a.graph.now a.height (c.before.frame-start.result + 40) s.requires.0.long s.requires.1 e)))
 
 sub-extend-nested : tie.Need-overflow-sub-extend-nested
 sub-extend-nested c = omega arith
@@ -52,11 +52,11 @@ returns-2 c =
     let own : ℕ = a.height - 1 in
     let pos : 0 < a.height = omega arith in
     let mid : List ℕ = y.new.0 in
-    let e = child-kept a.goals a.height a.graph.now mid (addHeads a.step own (headsIn a.goals (c.before.before.before.before.before.before.before.before.before.before.before.before.frame-start.result + 40) a.graph.now) (frameAt a.goals own a.graph.now)) pos y.ensures in
-    update.update-frame a.goals a.height (c.before.before.before.before.before.before.before.before.before.before.before.before.frame-start.result + 40) a.graph.now mid z.new.0 a.step a.overflow (Ordinary (nestedAt a.goals a.height a.graph.now)) a.reached pos
+    let e = child_kept a.goals a.height a.graph.now mid (add_heads a.step own (heads_in a.goals (c.before.before.before.before.before.before.before.before.before.before.before.before.frame-start.result + 40) a.graph.now) (frame_at a.goals own a.graph.now)) pos y.ensures in
+    update.update_frame a.goals a.height (c.before.before.before.before.before.before.before.before.before.before.before.before.frame-start.result + 40) a.graph.now mid z.new.0 a.step a.overflow (Ordinary (nested_at a.goals a.height a.graph.now)) a.reached pos
     (ap (λ (n : ℕ). n + 40) c.before.before.before.before.before.before.before.before.before.before.before.before.frame-start.ensures.0) y.ensures
-    (subst (λ (l : NestedGoals). TopWritten a.goals own (addRest a.step a.overflow (Ordinary l) a.reached (frameAt a.goals own mid)) mid z.new.0) e
-    (joined-rest a.goals own a.step a.overflow x.result a.reached mid x.new.0 z.new.0 (nestedAt a.goals (own + 1) mid) x.ensures.frame x.ensures.empty z.ensures))
+    (subst (λ (l : NestedGoals). TopWritten a.goals own (add_rest a.step a.overflow (Ordinary l) a.reached (frame_at a.goals own mid)) mid z.new.0) e
+    (joined_rest a.goals own a.step a.overflow x.result a.reached mid x.new.0 z.new.0 (nested_at a.goals (own + 1) mid) x.ensures.frame x.ensures.empty z.ensures))
 
 pub update-from-frame-spec : {M : Type 1} → statement M
 update-from-frame-spec =

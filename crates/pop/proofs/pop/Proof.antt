@@ -1,4 +1,4 @@
-use Rattle.pop.proofs.Endings.{popped-under, popped-stack, pop-nothing, pop-rebased, pop-cleared}
+use Rattle.pop.proofs.Endings.{popped_under, popped_stack, pop_nothing, pop_rebased, pop_cleared}
 use borrow.Author.Rules.{rules}
 use Rattle.pop.proofs.pop.Statement.{statement}
 use Rattle.pop.proofs.pop.Tie as tie
@@ -13,7 +13,7 @@ returns : tie.Need-returns
 returns c =
     let s = c.before.before.before in
     let a = s.args in
-    pop-nothing a.goals a.height a.graph.now s.requires.0 s.requires.1.0 a.ending c.enum_told.given.1
+    pop_nothing a.goals a.height a.graph.now s.requires.0 s.requires.1.0 a.ending c.enum_told.given.1
     a.entries
 
 enum-told-2 : tie.Need-enum-told-2
@@ -30,15 +30,15 @@ returns-2 c =
     let s = c.before.before.before.before.before.before.before in
     let a = s.args in
     let y = c.before.before.clear-for-rerun in
-    pop-cleared a.goals a.height a.graph.now s.requires.0 s.requires.1.0 a.ending
+    pop_cleared a.goals a.height a.graph.now s.requires.0 s.requires.1.0 a.ending
     c.before.before.before.before.enum-told2.given.1 a.entries y.result y.new.0 y.ensures
 
 rebase-provisional-cache-entries-requires : tie.Need-rebase-provisional-cache-entries-requires
 rebase-provisional-cache-entries-requires c κs =
     let s = c.before.before.before in
     let a = s.args in (
-      popped-stack a.goals a.height a.graph.now s.requires.0 s.requires.1.0,
-      (popped-under a.goals a.height a.graph.now s.requires.0 s.requires.1.0, s.requires.1.1),
+      popped_stack a.goals a.height a.graph.now s.requires.0 s.requires.1.0,
+      (popped_under a.goals a.height a.graph.now s.requires.0 s.requires.1.0, s.requires.1.1),
     )
 
 same-length-2 : tie.Need-same-length-2
@@ -50,7 +50,7 @@ returns-3 c =
     let s = c4.before.before in
     let a = s.args in
     let y = c.before.before.rebase-provisional-cache-entries in
-    pop-rebased a.goals a.height a.graph.now s.requires.0 s.requires.1.0 a.ending c4.match.keys3
+    pop_rebased a.goals a.height a.graph.now s.requires.0 s.requires.1.0 a.ending c4.match.keys3
     a.entries y.result y.new.0 y.ensures
 
 pub pop_spec : {M : Type 1} → statement M

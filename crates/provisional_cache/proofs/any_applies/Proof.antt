@@ -3,9 +3,9 @@ use Prim.Native.Nat.{◌-◌, ◌≤◌, ◌<◌, ◌*◌}
 use native.Mathlib.Omega.{arith}
 use mathlib.Core.Bool.{Bool}
 use lib.ListN.{drop}
-use Rattle.definition.specs.Lookup.{entryApplies, anyEntryApplies}
-use Rattle.layout.specs.Work.{stack_of, entriesOf}
-use Rattle.provisional_cache.proofs.Entries.{entry-at-bytes}
+use Rattle.definition.specs.Lookup.{entry_applies, any_entry_applies}
+use Rattle.layout.specs.Work.{stack_of, entries_of}
+use Rattle.provisional_cache.proofs.Entries.{entry_at_bytes}
 use Rattle.provisional_cache.proofs.Loops.{read_at, any_here, any_next, any_none}
 use Rattle.provisional_cache.proofs.any_applies.Statement.{statement}
 use Rattle.provisional_cache.proofs.any_applies.Tie as tie
@@ -13,8 +13,8 @@ use Rattle.provisional_cache.proofs.any_applies.Tie as tie
 abbrev invariant-loop : tie.invariant-loop
 invariant-loop graph goals height entries step nested i₀ i =
     (i ≤ entries)
-    × (anyEntryApplies (stack_of goals height graph) step nested (drop i (entriesOf goals entries graph))
-    ≡ anyEntryApplies (stack_of goals height graph) step nested (entriesOf goals entries graph))
+    × (any_entry_applies (stack_of goals height graph) step nested (drop i (entries_of goals entries graph))
+    ≡ any_entry_applies (stack_of goals height graph) step nested (entries_of goals entries graph))
 
 abbrev decreases-loop : tie.decreases-loop
 decreases-loop graph goals height entries step nested i₀ i = entries - i
@@ -30,7 +30,7 @@ applies-requires c κs =
     let s = c.before.before.before.before.before in
     let lt : c.before.before.loop.i < 2 * s.args.goals = omega arith in
     let entry_at = c.entry_at in (
-      entry-at-bytes s.args.goals s.args.graph.now entry_at.result.now c.before.before.loop.i s.requires.0.bytes lt
+      entry_at_bytes s.args.goals s.args.graph.now entry_at.result.now c.before.before.loop.i s.requires.0.bytes lt
           entry_at.ensures,
       s.requires.0,
     )
@@ -43,12 +43,12 @@ returns c =
     let entry_at = c.before.before.entry_at in
     any_here s.args.goals s.args.graph.now s.args.entries l.i
     (stack_of s.args.goals s.args.height s.args.graph.now) s.args.step s.args.nested.now
-    (anyEntryApplies (stack_of s.args.goals s.args.height s.args.graph.now) s.args.step s.args.nested.now
-    (entriesOf s.args.goals s.args.entries s.args.graph.now)) l.invariant.1 loop-test.true
+    (any_entry_applies (stack_of s.args.goals s.args.height s.args.graph.now) s.args.step s.args.nested.now
+    (entries_of s.args.goals s.args.entries s.args.graph.now)) l.invariant.1 loop-test.true
     (sym
     (c.before.applies.ensures
     ∙ read_at {A = Bool}
-    (entryApplies (stack_of s.args.goals s.args.height s.args.graph.now) s.args.step s.args.nested.now)
+    (entry_applies (stack_of s.args.goals s.args.height s.args.graph.now) s.args.step s.args.nested.now)
     s.args.goals s.args.graph.now l.i entry_at.result.now entry_at.ensures)
     ∙ c.if1.true)
 
@@ -67,12 +67,12 @@ loop-again c =
       omega arith,
       any_next s.args.goals s.args.graph.now s.args.entries l.i
           (stack_of s.args.goals s.args.height s.args.graph.now) s.args.step s.args.nested.now
-          (anyEntryApplies (stack_of s.args.goals s.args.height s.args.graph.now) s.args.step s.args.nested.now
-          (entriesOf s.args.goals s.args.entries s.args.graph.now)) l.invariant.1 loop-test.true
+          (any_entry_applies (stack_of s.args.goals s.args.height s.args.graph.now) s.args.step s.args.nested.now
+          (entries_of s.args.goals s.args.entries s.args.graph.now)) l.invariant.1 loop-test.true
           (sym
           (c.before.applies.ensures
           ∙ read_at {A = Bool}
-          (entryApplies (stack_of s.args.goals s.args.height s.args.graph.now) s.args.step s.args.nested.now)
+          (entry_applies (stack_of s.args.goals s.args.height s.args.graph.now) s.args.step s.args.nested.now)
           s.args.goals s.args.graph.now l.i entry_at.result.now entry_at.ensures)
           ∙ c.if1.false),
     )
@@ -83,8 +83,8 @@ returns-2 c =
     let l = c.before.loop in
     any_none s.args.goals s.args.graph.now s.args.entries l.i
     (stack_of s.args.goals s.args.height s.args.graph.now) s.args.step s.args.nested.now
-    (anyEntryApplies (stack_of s.args.goals s.args.height s.args.graph.now) s.args.step s.args.nested.now
-    (entriesOf s.args.goals s.args.entries s.args.graph.now)) l.invariant.1 c.loop-test.false
+    (any_entry_applies (stack_of s.args.goals s.args.height s.args.graph.now) s.args.step s.args.nested.now
+    (entries_of s.args.goals s.args.entries s.args.graph.now)) l.invariant.1 c.loop-test.false
 
 pub any-applies-spec : {M : Type 1} → statement M
 any-applies-spec =

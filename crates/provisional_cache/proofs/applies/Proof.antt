@@ -1,6 +1,6 @@
 use Rattle.layout.specs.Entry.{entry_of}
 use Rattle.layout.specs.Work.{stack_of}
-use Rattle.provisional_cache.proofs.Tests.{applies-absent, applies-overflow, applies-path}
+use Rattle.provisional_cache.proofs.Tests.{applies_absent, applies_overflow, applies_path}
 use borrow.Author.Rules.{rules}
 use Rattle.provisional_cache.proofs.applies.Statement.{statement}
 use Rattle.provisional_cache.proofs.applies.Tie as tie
@@ -16,7 +16,7 @@ returns c =
     let s = c.before.before.before.before.before.before in
     let input = c.before.before.input in
     let get = c.before.get in
-    applies-absent (stack_of s.args.goals s.args.height s.args.graph.now) s.args.step s.args.nested.now
+    applies_absent (stack_of s.args.goals s.args.height s.args.graph.now) s.args.step s.args.nested.now
     (entry_of s.args.goals s.args.entry.now) input.result get.result input.ensures.0 get.ensures c.if1.true
 
 encountered-overflow-requires : tie.Need-encountered-overflow-requires
@@ -28,7 +28,7 @@ returns-2 c =
     let input = c.before.before.before.before.input in
     let get = c.before.before.before.get in
     let encountered-overflow = c.before.encountered-overflow in
-    applies-overflow (stack_of s.args.goals s.args.height s.args.graph.now) s.args.step s.args.nested.now
+    applies_overflow (stack_of s.args.goals s.args.height s.args.graph.now) s.args.step s.args.nested.now
     (entry_of s.args.goals s.args.entry.now) input.result get.result input.ensures.0 get.ensures
     c.before.before.if1.false encountered-overflow.result encountered-overflow.ensures c.if2.true
 
@@ -62,7 +62,7 @@ returns-3 c =
     let extend-with = c2.extend-with in
     let path-from-head = c1.path-from-head in
     let contains = c.contains in
-    applies-path (stack_of s.args.goals s.args.height s.args.graph.now) s.args.step s.args.nested.now
+    applies_path (stack_of s.args.goals s.args.height s.args.graph.now) s.args.step s.args.nested.now
     (entry_of s.args.goals s.args.entry.now) input.result get.result input.ensures.0 get.ensures if1.false
     encountered-overflow.result encountered-overflow.ensures if2.false highest-head.result highest-head.ensures
     cycle-path-kind.result path-from-head.result cycle-path-kind.ensures path-from-head.ensures extend-with.result.bits

@@ -1,8 +1,8 @@
 use mathlib.Core.Path.{ap, subst}
 use Prim.Native.Nat.{ℕ, ◌+◌}
 use Rattle.layout.specs.Copied.{HeadsCopied}
-use Rattle.layout.specs.Entry.{entryHeadsStart}
-use Rattle.layout.specs.Work.{entryStart}
+use Rattle.layout.specs.Entry.{entry_heads_start}
+use Rattle.layout.specs.Work.{entry_start}
 use Rattle.provisional_cache.proofs.Copies.{copy_apart}
 use borrow.Author.Rules.{rules}
 use Rattle.provisional_cache.proofs.copy_heads.Statement.{statement}
@@ -21,7 +21,7 @@ add-b : tie.Need-overflow-add-b
 add-b c = search rules
 
 copy-requires : tie.Need-copy-requires
-copy-requires c κs = let s = c.before.before.before.before in copy_apart s.args.goals s.args.height s.args.i (c.before.before.frame-start.result + 40) (c.before.entry-start.result + entryHeadsStart) s.args.graph.now s.requires.0 s.requires.1.0 s.requires.1.1 (ap (λ (x : ℕ). x + 40) c.before.before.frame-start.ensures.0) (ap (λ (x : ℕ). x + entryHeadsStart) c.before.entry-start.ensures.0)
+copy-requires c κs = let s = c.before.before.before.before in copy_apart s.args.goals s.args.height s.args.i (c.before.before.frame-start.result + 40) (c.before.entry-start.result + entry_heads_start) s.args.graph.now s.requires.0 s.requires.1.0 s.requires.1.1 (ap (λ (x : ℕ). x + 40) c.before.before.frame-start.ensures.0) (ap (λ (x : ℕ). x + entry_heads_start) c.before.entry-start.ensures.0)
 
 same_length : tie.Need-same-length
 same_length c = search rules
@@ -29,8 +29,8 @@ same_length c = search rules
 returns : tie.Need-returns
 returns c =
     let s = c.before.before.before.before.before.before.before in
-    subst (λ (a : ℕ). HeadsCopied s.args.goals a (entryStart s.args.goals s.args.i + entryHeadsStart) s.args.graph.now c.before.before.copy.new.0) (ap (λ (x : ℕ). x + 40) c.before.before.before.before.before.frame-start.ensures.0)
-    (subst (λ (b : ℕ). HeadsCopied s.args.goals (c.before.before.before.before.before.frame-start.result + 40) b s.args.graph.now c.before.before.copy.new.0) (ap (λ (x : ℕ). x + entryHeadsStart) c.before.before.before.before.entry-start.ensures.0) c.before.before.copy.ensures)
+    subst (λ (a : ℕ). HeadsCopied s.args.goals a (entry_start s.args.goals s.args.i + entry_heads_start) s.args.graph.now c.before.before.copy.new.0) (ap (λ (x : ℕ). x + 40) c.before.before.before.before.before.frame-start.ensures.0)
+    (subst (λ (b : ℕ). HeadsCopied s.args.goals (c.before.before.before.before.before.frame-start.result + 40) b s.args.graph.now c.before.before.copy.new.0) (ap (λ (x : ℕ). x + entry_heads_start) c.before.before.before.before.entry-start.ensures.0) c.before.before.copy.ensures)
 
 pub copy-heads-spec : {M : Type 1} → statement M
 copy-heads-spec =

@@ -1,6 +1,6 @@
 use native.Mathlib.Omega.{arith}
-use Rattle.layout.specs.Work.{entriesStart}
-use Rattle.provisional_cache.proofs.Entries.{graph-entries, part_room, part-is}
+use Rattle.layout.specs.Work.{entries_start}
+use Rattle.provisional_cache.proofs.Entries.{graph_entries, part_room, part_is}
 use borrow.Author.Rules.{rules}
 use Rattle.provisional_cache.proofs.entry_at.Statement.{statement}
 use Rattle.provisional_cache.proofs.entry_at.Tie as tie
@@ -26,8 +26,8 @@ part-result-end c =
     let entry-start = c.before.entry-start in
     let entry-size = c.entry-size in
     let inside =
-    part_room s.args.goals (entriesStart s.args.goals) s.args.graph.now s.args.i entry-start.result entry-size.result
-    (graph-entries s.args.goals s.args.graph.now s.requires.0) s.requires.1
+    part_room s.args.goals (entries_start s.args.goals) s.args.graph.now s.args.i entry-start.result entry-size.result
+    (graph_entries s.args.goals s.args.graph.now s.requires.0) s.requires.1
     entry-start.ensures.0 entry-size.ensures in
     omega arith
 
@@ -36,8 +36,8 @@ returns c =
     let s = c.before.before.before.before in
     let entry-start = c.before.before.entry-start in
     let entry-size = c.before.entry-size in
-    part-is s.args.goals (entriesStart s.args.goals) s.args.graph.now s.args.i entry-start.result entry-size.result
-    (graph-entries s.args.goals s.args.graph.now s.requires.0) s.requires.1
+    part_is s.args.goals (entries_start s.args.goals) s.args.graph.now s.args.i entry-start.result entry-size.result
+    (graph_entries s.args.goals s.args.graph.now s.requires.0) s.requires.1
     entry-start.ensures.0 entry-size.ensures
 
 pub entry-at-spec : {M : Type 1} → statement M

@@ -1,5 +1,5 @@
 use native.Mathlib.Omega.{arith}
-use Rattle.provisional_cache.proofs.Entries.{part_room, part-is}
+use Rattle.provisional_cache.proofs.Entries.{part_room, part_is}
 use borrow.Author.Rules.{rules}
 use Rattle.provisional_cache.proofs.entry_from.Statement.{statement}
 use Rattle.provisional_cache.proofs.entry_from.Tie as tie
@@ -35,7 +35,7 @@ returns c =
     let s = c.before.before.before.before in
     let entry-start-from = c.before.before.entry-start-from in
     let entry-size = c.before.entry-size in
-    part-is s.args.goals s.args.base s.args.bytes.now s.args.i entry-start-from.result
+    part_is s.args.goals s.args.base s.args.bytes.now s.args.i entry-start-from.result
     entry-size.result s.requires.0 s.requires.1
     entry-start-from.ensures.0 entry-size.ensures
 

@@ -3,18 +3,18 @@ use Prim.Native.Nat.{◌-◌, ◌≤◌, ◌<◌, ◌*◌}
 use native.Mathlib.Omega.{arith}
 use mathlib.Core.Bool.{Bool}
 use lib.ListN.{drop}
-use Rattle.definition.specs.Lookup.{entryMatches, firstMatch}
-use Rattle.layout.specs.Work.{stack_of, entriesOf}
-use Rattle.provisional_cache.proofs.Entries.{entry-at-bytes}
-use Rattle.provisional_cache.proofs.Loops.{read_at, match-here, match-next, match_none}
+use Rattle.definition.specs.Lookup.{entry_matches, first_match}
+use Rattle.layout.specs.Work.{stack_of, entries_of}
+use Rattle.provisional_cache.proofs.Entries.{entry_at_bytes}
+use Rattle.provisional_cache.proofs.Loops.{read_at, match_here, match_next, match_none}
 use Rattle.provisional_cache.proofs.first_match.Statement.{statement}
 use Rattle.provisional_cache.proofs.first_match.Tie as tie
 
 abbrev invariant-loop : tie.invariant-loop
 invariant-loop graph goals height entries goal step i₀ i =
     (i ≤ entries)
-    × (firstMatch (stack_of goals height graph) goal step (drop i (entriesOf goals entries graph))
-    ≡ firstMatch (stack_of goals height graph) goal step (entriesOf goals entries graph))
+    × (first_match (stack_of goals height graph) goal step (drop i (entries_of goals entries graph))
+    ≡ first_match (stack_of goals height graph) goal step (entries_of goals entries graph))
 
 abbrev decreases-loop : tie.decreases-loop
 decreases-loop graph goals height entries goal step i₀ i = entries - i
@@ -35,7 +35,7 @@ is-match-requires c κs =
     let s = c.before.before.before.before.before in
     let lt : c.before.before.loop.i < 2 * s.args.goals = omega arith in
     let entry_at = c.entry_at in (
-      entry-at-bytes s.args.goals s.args.graph.now entry_at.result.now c.before.before.loop.i s.requires.0.bytes lt
+      entry_at_bytes s.args.goals s.args.graph.now entry_at.result.now c.before.before.loop.i s.requires.0.bytes lt
           entry_at.ensures,
       s.requires.0,
     )
@@ -49,14 +49,14 @@ returns c =
     record {
       few = omega arith;
       is =
-          match-here s.args.goals s.args.graph.now s.args.entries l.i
+          match_here s.args.goals s.args.graph.now s.args.entries l.i
           (stack_of s.args.goals s.args.height s.args.graph.now) s.args.goal s.args.step
-          (firstMatch (stack_of s.args.goals s.args.height s.args.graph.now) s.args.goal s.args.step
-          (entriesOf s.args.goals s.args.entries s.args.graph.now)) l.invariant.1 loop-test.true
+          (first_match (stack_of s.args.goals s.args.height s.args.graph.now) s.args.goal s.args.step
+          (entries_of s.args.goals s.args.entries s.args.graph.now)) l.invariant.1 loop-test.true
           (sym
           (c.before.is-match.ensures
           ∙ read_at {A = Bool}
-          (entryMatches (stack_of s.args.goals s.args.height s.args.graph.now) s.args.goal s.args.step)
+          (entry_matches (stack_of s.args.goals s.args.height s.args.graph.now) s.args.goal s.args.step)
           s.args.goals s.args.graph.now l.i entry_at.result.now entry_at.ensures)
           ∙ c.if1.true);
     }
@@ -79,11 +79,11 @@ loop-again c =
     let st = stack_of s.args.goals s.args.height s.args.graph.now in (
       c.next-of2.ensures.few,
       c.next-of2.ensures.is st s.args.step
-          ∙ match-next s.args.goals s.args.graph.now s.args.entries l.i st s.args.goal s.args.step
-          (firstMatch st s.args.goal s.args.step (entriesOf s.args.goals s.args.entries s.args.graph.now)) l.invariant.1 loop-test.true
+          ∙ match_next s.args.goals s.args.graph.now s.args.entries l.i st s.args.goal s.args.step
+          (first_match st s.args.goal s.args.step (entries_of s.args.goals s.args.entries s.args.graph.now)) l.invariant.1 loop-test.true
           (sym
           (c.before.before.is-match.ensures
-          ∙ read_at {A = Bool} (entryMatches st s.args.goal s.args.step) s.args.goals s.args.graph.now l.i entry_at.result.now entry_at.ensures)
+          ∙ read_at {A = Bool} (entry_matches st s.args.goal s.args.step) s.args.goals s.args.graph.now l.i entry_at.result.now entry_at.ensures)
           ∙ c.before.if1.false),
     )
 
@@ -96,8 +96,8 @@ returns-2 c =
       is =
           match_none s.args.goals s.args.graph.now s.args.entries l.i
           (stack_of s.args.goals s.args.height s.args.graph.now) s.args.goal s.args.step
-          (firstMatch (stack_of s.args.goals s.args.height s.args.graph.now) s.args.goal s.args.step
-          (entriesOf s.args.goals s.args.entries s.args.graph.now)) l.invariant.1 c.loop-test.false;
+          (first_match (stack_of s.args.goals s.args.height s.args.graph.now) s.args.goal s.args.step
+          (entries_of s.args.goals s.args.entries s.args.graph.now)) l.invariant.1 c.loop-test.false;
     }
 
 pub first-match-spec : {M : Type 1} → statement M

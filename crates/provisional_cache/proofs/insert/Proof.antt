@@ -1,5 +1,5 @@
 use native.Mathlib.Omega.{arith}
-use Rattle.provisional_cache.proofs.Inserts.{insert-full, insert-kept}
+use Rattle.provisional_cache.proofs.Inserts.{insert_full, insert_kept}
 use borrow.Author.Rules.{rules}
 use Rattle.provisional_cache.proofs.insert.Statement.{statement}
 use Rattle.provisional_cache.proofs.insert.Tie as tie
@@ -10,7 +10,7 @@ mul-if1 c = search rules
 returns : tie.Need-returns
 returns c =
     let s = c.before.before in
-    insert-full s.args.goals s.args.height s.args.entries s.args.goal s.args.step s.args.overflow
+    insert_full s.args.goals s.args.height s.args.entries s.args.goal s.args.step s.args.overflow
     s.args.answer s.args.graph.now c.if1.true
 
 path-from-head-requires : tie.Need-path-from-head-requires
@@ -27,7 +27,7 @@ returns-2 c =
     let s = c.before.before.before.before.before.before.before.before in
     let path-from-head = c.before.before.before.before.path-from-head in
     let write-entry = c.before.before.write-entry in
-    insert-kept s.args.goals s.args.height s.args.entries s.args.goal s.args.step s.args.overflow
+    insert_kept s.args.goals s.args.height s.args.entries s.args.goal s.args.step s.args.overflow
     s.args.answer s.args.graph.now (omega arith) write-entry.new.0 path-from-head.result path-from-head.ensures
     write-entry.ensures
 

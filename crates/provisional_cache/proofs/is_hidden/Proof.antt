@@ -1,8 +1,8 @@
-use Rattle.definition.specs.Lookup.{noneOrAbove, lastHeads}
-use Rattle.definition.specs.Heads.{optLowestIndex}
+use Rattle.definition.specs.Lookup.{none_or_above, last_heads}
+use Rattle.definition.specs.Heads.{opt_lowest_index}
 use Rattle.layout.specs.Entry.{entry_of}
 use Rattle.layout.specs.Work.{stack_of}
-use Rattle.provisional_cache.proofs.Tests.{hidden-not, hidden-by}
+use Rattle.provisional_cache.proofs.Tests.{hidden_not, hidden_by}
 use borrow.Author.Rules.{rules}
 use Rattle.provisional_cache.proofs.is_hidden.Statement.{statement}
 use Rattle.provisional_cache.proofs.is_hidden.Tie as tie
@@ -18,8 +18,8 @@ returns c =
     let s = c.before.before.before.before.before in
     let encountered-overflow = c.before.before.encountered-overflow in
     let none-or-above = c.none-or-above in
-    hidden-by (entry_of s.args.goals s.args.entry.now).encounteredOverflow
-    (noneOrAbove (optLowestIndex (lastHeads (stack_of s.args.goals s.args.height s.args.graph.now))) s.args.head)
+    hidden_by (entry_of s.args.goals s.args.entry.now).encountered_overflow
+    (none_or_above (opt_lowest_index (last_heads (stack_of s.args.goals s.args.height s.args.graph.now))) s.args.head)
     encountered-overflow.result none-or-above.result encountered-overflow.ensures c.before.if1.true
     none-or-above.ensures
 
@@ -27,8 +27,8 @@ returns-2 : tie.Need-returns-2
 returns-2 c =
     let s = c.before.before.before.before in
     let encountered-overflow = c.before.encountered-overflow in
-    hidden-not (entry_of s.args.goals s.args.entry.now).encounteredOverflow
-    (noneOrAbove (optLowestIndex (lastHeads (stack_of s.args.goals s.args.height s.args.graph.now))) s.args.head)
+    hidden_not (entry_of s.args.goals s.args.entry.now).encountered_overflow
+    (none_or_above (opt_lowest_index (last_heads (stack_of s.args.goals s.args.height s.args.graph.now))) s.args.head)
     encountered-overflow.result encountered-overflow.ensures c.if1.false
 
 pub is-hidden-spec : {M : Type 1} → statement M

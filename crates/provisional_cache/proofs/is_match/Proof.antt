@@ -1,7 +1,7 @@
 use mathlib.Core.Path.{sym, ◌∙◌}
 use Rattle.layout.specs.Entry.{entry_of}
 use Rattle.layout.specs.Work.{stack_of}
-use Rattle.provisional_cache.proofs.Tests.{match-other, match-hidden, match-shown}
+use Rattle.provisional_cache.proofs.Tests.{match_other, match_hidden, match_shown}
 use borrow.Author.Rules.{rules}
 use Rattle.provisional_cache.proofs.is_match.Statement.{statement}
 use Rattle.provisional_cache.proofs.is_match.Tie as tie
@@ -12,7 +12,7 @@ input-requires c κs = search rules
 returns : tie.Need-returns
 returns c =
     let s = c.before.before.before.before in
-    match-other (stack_of s.args.goals s.args.height s.args.graph.now) s.args.goal s.args.step
+    match_other (stack_of s.args.goals s.args.height s.args.graph.now) s.args.goal s.args.step
     (entry_of s.args.goals s.args.entry.now) (λ e. c.if1.true (c.before.input.ensures.0 ∙ e))
 
 highest-head-requires : tie.Need-highest-head-requires
@@ -28,7 +28,7 @@ returns-2 c =
     let if1 = c.before.before.before.if1 in
     let highest-head = c.before.before.highest-head in
     let is_hidden = c.before.is_hidden in
-    match-hidden (stack_of s.args.goals s.args.height s.args.graph.now) s.args.goal s.args.step
+    match_hidden (stack_of s.args.goals s.args.height s.args.graph.now) s.args.goal s.args.step
     (entry_of s.args.goals s.args.entry.now) highest-head.result highest-head.ensures (sym input.ensures.0 ∙ if1.false)
     is_hidden.result is_hidden.ensures c.if2.true
 
@@ -53,7 +53,7 @@ returns-3 c =
     let path-from-head = c2.path-from-head in
     let cycle-path-kind = c1.cycle-path-kind in
     let same = c.same in
-    match-shown (stack_of s.args.goals s.args.height s.args.graph.now) s.args.goal s.args.step
+    match_shown (stack_of s.args.goals s.args.height s.args.graph.now) s.args.goal s.args.step
     (entry_of s.args.goals s.args.entry.now) highest-head.result highest-head.ensures (sym input.ensures.0 ∙ if1.false)
     is_hidden.result is_hidden.ensures if2.false path-from-head.result cycle-path-kind.result path-from-head.ensures
     cycle-path-kind.ensures same.result same.ensures

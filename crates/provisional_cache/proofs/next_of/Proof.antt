@@ -4,20 +4,20 @@ use native.Mathlib.Omega.{arith}
 use lib.ListN.{drop}
 use Rattle.definition.specs.declared.paths.PathKind.{PathKind}
 use Rattle.definition.specs.Graph.{Entry}
-use Rattle.definition.specs.Lookup.{firstMatch}
+use Rattle.definition.specs.Lookup.{first_match}
 use Rattle.definition.specs.Stack.{Stack}
-use Rattle.layout.specs.Work.{entriesOf}
-use Rattle.provisional_cache.specs.Entries.{entryAt}
-use Rattle.provisional_cache.proofs.Entries.{entry-at-bytes}
-use Rattle.provisional_cache.proofs.Loops.{read_at, match-next}
-use Rattle.provisional_cache.proofs.Tests.{match-other}
+use Rattle.layout.specs.Work.{entries_of}
+use Rattle.provisional_cache.specs.Entries.{entry_at}
+use Rattle.provisional_cache.proofs.Entries.{entry_at_bytes}
+use Rattle.provisional_cache.proofs.Loops.{read_at, match_next}
+use Rattle.provisional_cache.proofs.Tests.{match_other}
 use Rattle.provisional_cache.proofs.next_of.Statement.{statement}
 use Rattle.provisional_cache.proofs.next_of.Tie as tie
 
 abbrev invariant-loop : tie.invariant-loop
 invariant-loop graph goals entries goal from k₀ k =
     (from ≤ k) × (k ≤ entries)
-    × ((s : Stack) (step : PathKind) → firstMatch s goal step (drop k (entriesOf goals entries graph)) ≡ firstMatch s goal step (drop from (entriesOf goals entries graph)))
+    × ((s : Stack) (step : PathKind) → first_match s goal step (drop k (entries_of goals entries graph)) ≡ first_match s goal step (drop from (entries_of goals entries graph)))
 
 abbrev decreases-loop : tie.decreases-loop
 decreases-loop graph goals entries goal from k₀ k = entries - k
@@ -33,7 +33,7 @@ input-requires c κs =
     let s = c.before.before.before.before in
     let few = s.requires.1.0 in
     let l = c.before.before.loop in
-    entry-at-bytes s.args.goals s.args.graph.now c.entry_at.result.now l.k s.requires.0 (omega arith) c.entry_at.ensures
+    entry_at_bytes s.args.goals s.args.graph.now c.entry_at.result.now l.k s.requires.0 (omega arith) c.entry_at.ensures
 
 returns : tie.Need-returns invariant-loop decreases-loop
 returns c = let l = c.before.before.before.before.loop in record { least = l.invariant.0; few = l.invariant.1; is = l.invariant.2 }
@@ -45,7 +45,7 @@ loop-less : tie.Need-loop-smaller invariant-loop decreases-loop
 loop-less c = omega arith
 
 -- the entry is of another goal
-other : (c : tie.Else1 invariant-loop decreases-loop) → (entryAt c.before.before.before.before.before.before.args.goals c.before.before.before.before.loop.k c.before.before.before.before.before.before.args.graph.now).input ≡ c.before.before.before.before.before.before.args.goal → ⊥
+other : (c : tie.Else1 invariant-loop decreases-loop) → (entry_at c.before.before.before.before.before.before.args.goals c.before.before.before.before.loop.k c.before.before.before.before.before.before.args.graph.now).input ≡ c.before.before.before.before.before.before.args.goal → ⊥
 other c = λ e.
     let s = c.before.before.before.before.before.before in
     let l = c.before.before.before.before.loop in
@@ -59,9 +59,9 @@ loop-again c =
       omega arith,
       omega arith,
       λ st step.
-          match-next s.args.goals s.args.graph.now s.args.entries l.k st s.args.goal step
-          (firstMatch st s.args.goal step (drop s.args.from (entriesOf s.args.goals s.args.entries s.args.graph.now))) (l.invariant.2 st step) c.before.before.before.loop-test.true
-          (sym (match-other st s.args.goal step (entryAt s.args.goals l.k s.args.graph.now) (other c))),
+          match_next s.args.goals s.args.graph.now s.args.entries l.k st s.args.goal step
+          (first_match st s.args.goal step (drop s.args.from (entries_of s.args.goals s.args.entries s.args.graph.now))) (l.invariant.2 st step) c.before.before.before.loop-test.true
+          (sym (match_other st s.args.goal step (entry_at s.args.goals l.k s.args.graph.now) (other c))),
     )
 
 returns-2 : tie.Need-returns-2 invariant-loop decreases-loop
@@ -74,7 +74,7 @@ returns-2 c =
     record {
       least = s.requires.1.1;
       few = omega arith;
-      is = λ st step. ap (λ (k : ℕ). firstMatch st s.args.goal step (drop k (entriesOf s.args.goals s.args.entries s.args.graph.now))) e ∙ l.invariant.2 st step;
+      is = λ st step. ap (λ (k : ℕ). first_match st s.args.goal step (drop k (entries_of s.args.goals s.args.entries s.args.graph.now))) e ∙ l.invariant.2 st step;
     }
 
 pub next-of-spec : {M : Type 1} → statement M

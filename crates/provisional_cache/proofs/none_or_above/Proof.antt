@@ -1,8 +1,8 @@
 use native.Mathlib.Omega.{arith}
 use Prim.Native.Nat.{◌-◌}
-use Rattle.stack.proofs.Graph.{frame-bytes}
-use Rattle.stack.proofs.Blocks.{heads-block}
-use Rattle.provisional_cache.proofs.Tests.{above_root, above-empty, above-lowest}
+use Rattle.stack.proofs.Graph.{frame_bytes_lem}
+use Rattle.stack.proofs.Blocks.{heads_block}
+use Rattle.provisional_cache.proofs.Tests.{above_root, above_empty, above_lowest}
 use mathlib.Core.Path.{sym, ◌∙◌}
 use borrow.Author.Rules.{rules}
 use Rattle.provisional_cache.proofs.none_or_above.Statement.{statement}
@@ -21,7 +21,7 @@ heads-requires : tie.Need-heads-requires
 heads-requires c κs =
     let s = c.before.before.before in
     let frame_at = c.frame_at in
-    frame-bytes s.args.goals s.args.graph.now frame_at.result.now (s.args.height - 1) s.requires.0 (omega arith)
+    frame_bytes_lem s.args.goals s.args.graph.now frame_at.result.now (s.args.height - 1) s.requires.0 (omega arith)
     frame_at.ensures
 
 is-empty-requires : tie.Need-is-empty-requires
@@ -29,8 +29,8 @@ is-empty-requires c κs =
     let s = c.before.before.before.before in
     let frame_at = c.before.frame_at in
     let heads = c.heads in
-    heads-block s.args.goals frame_at.result.now heads.result.now
-    (frame-bytes s.args.goals s.args.graph.now frame_at.result.now (s.args.height - 1) s.requires.0 (omega arith)
+    heads_block s.args.goals frame_at.result.now heads.result.now
+    (frame_bytes_lem s.args.goals s.args.graph.now frame_at.result.now (s.args.height - 1) s.requires.0 (omega arith)
     frame_at.ensures) heads.ensures
 
 returns-2 : tie.Need-returns-2
@@ -38,7 +38,7 @@ returns-2 c =
     let s = c.before.before.before.before.before.before in
     let frame_at = c.before.before.before.frame_at in
     let heads = c.before.before.heads in
-    above-empty s.args.goals s.args.height s.args.head s.args.graph.now (omega arith) frame_at.result.now
+    above_empty s.args.goals s.args.height s.args.head s.args.graph.now (omega arith) frame_at.result.now
     heads.result.now frame_at.ensures heads.ensures (sym c.before.is-empty.ensures ∙ c.if2.true)
 
 mask-requires : tie.Need-mask-requires
@@ -46,8 +46,8 @@ mask-requires c κs =
     let s = c.before.before.before.before.before.before in
     let frame_at = c.before.before.before.frame_at in
     let heads = c.before.before.heads in
-    heads-block s.args.goals frame_at.result.now heads.result.now
-    (frame-bytes s.args.goals s.args.graph.now frame_at.result.now (s.args.height - 1) s.requires.0 (omega arith)
+    heads_block s.args.goals frame_at.result.now heads.result.now
+    (frame_bytes_lem s.args.goals s.args.graph.now frame_at.result.now (s.args.height - 1) s.requires.0 (omega arith)
     frame_at.ensures) heads.ensures
 
 lowest-requires : tie.Need-lowest-requires
@@ -61,7 +61,7 @@ returns-3 c =
     let is-empty = c.before.before.before.is-empty in
     let mask = c.before.mask in
     let lowest = c.lowest in
-    above-lowest s.args.goals s.args.height s.args.head s.args.graph.now (omega arith) frame_at.result.now
+    above_lowest s.args.goals s.args.height s.args.head s.args.graph.now (omega arith) frame_at.result.now
     heads.result.now frame_at.ensures heads.ensures (sym is-empty.ensures ∙ c.before.before.if2.false)
     (64 - s.args.goals) mask.result mask.ensures lowest.result lowest.ensures
 

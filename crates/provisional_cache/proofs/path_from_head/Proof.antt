@@ -1,6 +1,6 @@
-use Rattle.stack.proofs.Graph.{frame-bytes}
-use Rattle.stack.proofs.Blocks.{heads-block}
-use Rattle.provisional_cache.proofs.Inserts.{path-is}
+use Rattle.stack.proofs.Graph.{frame_bytes_lem}
+use Rattle.stack.proofs.Blocks.{heads_block}
+use Rattle.provisional_cache.proofs.Inserts.{path_is}
 use borrow.Author.Rules.{rules}
 use Rattle.provisional_cache.proofs.path_from_head.Statement.{statement}
 use Rattle.provisional_cache.proofs.path_from_head.Tie as tie
@@ -12,7 +12,7 @@ heads-requires : tie.Need-heads-requires
 heads-requires c κs =
     let s = c.before.before in
     let frame_at = c.frame_at in
-    frame-bytes s.args.goals s.args.graph.now frame_at.result.now s.args.height s.requires.0.bytes s.requires.1
+    frame_bytes_lem s.args.goals s.args.graph.now frame_at.result.now s.args.height s.requires.0.bytes s.requires.1
     frame_at.ensures
 
 highest-requires : tie.Need-highest-requires
@@ -20,8 +20,8 @@ highest-requires c κs =
     let s = c.before.before.before in
     let frame_at = c.before.frame_at in
     let heads = c.heads in
-    heads-block s.args.goals frame_at.result.now heads.result.now
-    (frame-bytes s.args.goals s.args.graph.now frame_at.result.now s.args.height s.requires.0.bytes s.requires.1
+    heads_block s.args.goals frame_at.result.now heads.result.now
+    (frame_bytes_lem s.args.goals s.args.graph.now frame_at.result.now s.args.height s.requires.0.bytes s.requires.1
     frame_at.ensures) heads.ensures
 
 cycle-path-kind-requires : tie.Need-cycle-path-kind-requires
@@ -34,7 +34,7 @@ returns c =
     let heads = c.before.before.heads in
     let highest = c.before.highest in
     let cycle-path-kind = c.cycle-path-kind in
-    path-is s.args.goals s.args.height s.args.step s.args.graph.now frame_at.result.now heads.result.now
+    path_is s.args.goals s.args.height s.args.step s.args.graph.now frame_at.result.now heads.result.now
     highest.result cycle-path-kind.result frame_at.ensures heads.ensures highest.ensures cycle-path-kind.ensures
 
 pub path-from-head-spec : {M : Type 1} → statement M

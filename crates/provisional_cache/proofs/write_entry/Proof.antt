@@ -1,6 +1,6 @@
-use Rattle.layout.specs.Work.{entriesStart}
+use Rattle.layout.specs.Work.{entries_start}
 use Rattle.provisional_cache.proofs.Entries.{part_room}
-use Rattle.provisional_cache.proofs.Writes.{mid-entries-bytes, appended}
+use Rattle.provisional_cache.proofs.Writes.{mid_entries_bytes, appended}
 use borrow.Author.Rules.{rules}
 use Rattle.provisional_cache.proofs.write_entry.Statement.{statement}
 use Rattle.provisional_cache.proofs.write_entry.Tie as tie
@@ -29,8 +29,8 @@ part-start-end c =
     let copy-heads = c.before.before.before.before.copy-heads in
     let entry-start = c.before.entry-start in
     let entry-size = c.entry-size in
-    part_room s.args.goals (entriesStart s.args.goals) copy-heads.new.0 s.args.i entry-start.result entry-size.result
-    (mid-entries-bytes s.args.goals s.args.height s.args.i s.args.graph.now copy-heads.new.0 s.requires.0
+    part_room s.args.goals (entries_start s.args.goals) copy-heads.new.0 s.args.i entry-start.result entry-size.result
+    (mid_entries_bytes s.args.goals s.args.height s.args.i s.args.graph.now copy-heads.new.0 s.requires.0
     s.requires.1.1.0 copy-heads.auto.0 copy-heads.ensures) s.requires.1.1.0 entry-start.ensures.0 entry-size.ensures
 
 start-requires : tie.Need-start-requires

@@ -1,4 +1,4 @@
-use Rattle.question.specs.Lines.{outputLine}
+use Rattle.question.specs.Lines.{output_line}
 use mathlib.Core.Path.{ap, ◌∙◌}
 use borrow.Author.Rules.{rules}
 use Rattle.question.proofs.ending_line.Statement.{statement}
@@ -11,7 +11,7 @@ output-line-requires : tie.Need-output-line-requires
 output-line-requires c κs = search rules
 
 returns : tie.Need-returns
-returns c = c.output-line.ensures ∙ ap (outputLine 0 0 0) c.before.ending-number.ensures
+returns c = c.output-line.ensures ∙ ap (output_line 0 0 0) c.before.ending-number.ensures
 
 pub ending-line-spec : {M : Type 1} → statement M
 ending-line-spec = tie.close (tie.spec ending-number-requires output-line-requires returns)

@@ -1,5 +1,5 @@
 use native.Mathlib.Omega.{arith}
-use Rattle.definition.proofs.Numbers.{refusal-small}
+use Rattle.definition.proofs.Numbers.{refusal_small}
 use borrow.Author.Rules.{rules}
 use Rattle.question.proofs.ending_number.Statement.{statement}
 use Rattle.question.proofs.ending_number.Tie as tie
@@ -11,7 +11,7 @@ number-requires : tie.Need-number-requires
 number-requires c κs = search rules
 
 cast-result : tie.Need-overflow-cast-result
-cast-result c = record { fits = omega (arith, c.number.ensures, refusal-small c.before.before.e.given.0.0) }
+cast-result c = record { fits = omega (arith, c.number.ensures, refusal_small c.before.before.e.given.0.0) }
 
 enum_told : tie.Need-enum-told
 enum_told c = search rules

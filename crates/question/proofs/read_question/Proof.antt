@@ -1,17 +1,17 @@
 use Rattle.book.proofs.Tests.{refused, held}
-use Rattle.question.proofs.Lines.{wrong-length, no-newline, no-goal, no-depth, asked}
+use Rattle.question.proofs.Lines.{wrong_length, no_newline, no_goal, no_depth, asked}
 use borrow.Author.Rules.{rules}
 use Rattle.question.proofs.read_question.Statement.{statement}
 use Rattle.question.proofs.read_question.Tie as tie
 
 returns : tie.Need-returns
-returns c = wrong-length c.before.before.args.s.now c.if1.true
+returns c = wrong_length c.before.before.args.s.now c.if1.true
 
 shared-slice-read-if2 : tie.Need-shared-slice-read-if2
 shared-slice-read-if2 c = search rules
 
 returns-2 : tie.Need-returns-2
-returns-2 c = no-newline c.before.before.before.before.args.s.now c.if2.true
+returns-2 c = no_newline c.before.before.before.before.args.s.now c.if2.true
 
 shared-slice-read-is-field : tie.Need-shared-slice-read-is-field
 shared-slice-read-is-field c = search rules
@@ -26,7 +26,7 @@ is-field-requires : tie.Need-is-field-requires
 is-field-requires c κs = search rules
 
 returns-3 : tie.Need-returns-3
-returns-3 c = no-goal c.before.before.before.before.before.before.before.before.before.args.s.now (refused c.before.is_field.ensures c.if3.true)
+returns-3 c = no_goal c.before.before.before.before.before.before.before.before.before.args.s.now (refused c.before.is_field.ensures c.if3.true)
 
 shared-slice-read-is-field-4 : tie.Need-shared-slice-read-is-field-4
 shared-slice-read-is-field-4 c = search rules
@@ -41,7 +41,7 @@ is-field-requires-2 : tie.Need-is-field-requires-2
 is-field-requires-2 c κs = search rules
 
 returns-4 : tie.Need-returns-4
-returns-4 c = no-depth c.before.before.before.before.before.before.before.before.before.before.before.before.before.before.args.s.now (refused c.before.is-field2.ensures c.if4.true)
+returns-4 c = no_depth c.before.before.before.before.before.before.before.before.before.before.before.before.before.before.args.s.now (refused c.before.is-field2.ensures c.if4.true)
 
 shared-slice-read-field : tie.Need-shared-slice-read-field
 shared-slice-read-field c = search rules

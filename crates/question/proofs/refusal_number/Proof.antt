@@ -1,5 +1,5 @@
 use native.Mathlib.Omega.{arith}
-use Rattle.definition.proofs.Numbers.{refusal-small}
+use Rattle.definition.proofs.Numbers.{refusal_small}
 use borrow.Author.Rules.{rules}
 use Rattle.question.proofs.refusal_number.Statement.{statement}
 use Rattle.question.proofs.refusal_number.Tie as tie
@@ -14,7 +14,7 @@ number-requires : tie.Need-number-requires
 number-requires c κs = search rules
 
 cast-result : tie.Need-overflow-cast-result
-cast-result c = record { fits = omega (arith, c.number.ensures, refusal-small c.before.before.r.given.0.0) }
+cast-result c = record { fits = omega (arith, c.number.ensures, refusal_small c.before.before.r.given.0.0) }
 
 returns : tie.Need-returns
 returns c = search rules

@@ -1,4 +1,4 @@
-use Rattle.question.specs.Lines.{outputLine}
+use Rattle.question.specs.Lines.{output_line}
 use mathlib.Core.Path.{◌∙◌}
 use borrow.Author.Rules.{rules}
 use Rattle.question.proofs.reply_line.Statement.{statement}
@@ -15,7 +15,7 @@ output-line-requires c κs = search rules
 
 returns : tie.Need-returns
 returns c = let a = c.before.before.before.args in
-    c.output-line.ensures ∙ (λ i. outputLine a.goal a.depth (c.before.before.answer-number.ensures i) (c.before.refusal-number.ensures i))
+    c.output-line.ensures ∙ (λ i. output_line a.goal a.depth (c.before.before.answer-number.ensures i) (c.before.refusal-number.ensures i))
 
 pub reply-line-spec : {M : Type 1} → statement M
 reply-line-spec =

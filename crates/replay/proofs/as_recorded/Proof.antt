@@ -17,7 +17,7 @@ work-is-left-requires : tie.Need-work-is-left-requires
 work-is-left-requires c κs = search rules
 
 returns-3 : tie.Need-returns-3
-returns-3 c = λ h. record { same_code = c.before.before.before.if1.false; same-cache = c.before.before.same.ensures.0 (not-false c.before.before.same.result c.before.if2.false); same-work = c.work-is-left.ensures h }
+returns-3 c = λ h. record { same_code = c.before.before.before.if1.false; same_cache = c.before.before.same.ensures.0 (not-false c.before.before.same.result c.before.if2.false); same_work = c.work-is-left.ensures h }
 
 pub as-recorded-spec : {M : Type 1} → statement M
 as-recorded-spec =

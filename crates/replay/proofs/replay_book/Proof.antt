@@ -1,5 +1,5 @@
 use Rattle.std.proofs.Common.{arith, rules}
-use Rattle.replay.proofs.Lent.{first-long}
+use Rattle.replay.proofs.Lent.{first_long}
 use Rattle.replay.proofs.replay_book.Statement.{statement}
 use Rattle.replay.proofs.replay_book.Tie as tie
 
@@ -58,7 +58,7 @@ array-borrow-prefix-after : tie.Need-array-borrow-prefix-after
 array-borrow-prefix-after c = search rules
 
 slice-aggregate-replay-queries-4 : tie.Need-slice-aggregate-replay-queries-4
-slice-aggregate-replay-queries-4 c = first-long c.before.before.before.before.before.before.bytes3.result c.before.before.before.before.before.before.before.before.before.before.before.before.before.before.large-buffer3.result (omega (arith, c.before.before.before.before.before.before.bytes3.ensures.0, c.before.before.before.before.before.before.bytes3.auto.1.0, c.before.before.before.before.before.before.before.before.before.before.before.before.before.before.large-buffer3.ensures, c.before.before.before.before.before.before.before.before.before.before.before.before.before.before.before.large-buffer2.ensures))
+slice-aggregate-replay-queries-4 c = first_long c.before.before.before.before.before.before.bytes3.result c.before.before.before.before.before.before.before.before.before.before.before.before.before.before.large-buffer3.result (omega (arith, c.before.before.before.before.before.before.bytes3.ensures.0, c.before.before.before.before.before.before.bytes3.auto.1.0, c.before.before.before.before.before.before.before.before.before.before.before.before.before.before.large-buffer3.ensures, c.before.before.before.before.before.before.before.before.before.before.before.before.before.before.before.large-buffer2.ensures))
 
 replay-queries-requires : tie.Need-replay-queries-requires
 replay-queries-requires c κs = search rules

@@ -1,6 +1,6 @@
 use mathlib.Core.Bool.{false≢true}
 use Rattle.std.proofs.Common.{◌++◌, drop, arith, rules}
-use Rattle.replay.proofs.Lent.{first-long, back_long}
+use Rattle.replay.proofs.Lent.{first_long, back_long}
 use Rattle.replay.proofs.replay_query.Statement.{statement}
 use Rattle.replay.proofs.replay_query.Tie as tie
 
@@ -32,7 +32,7 @@ array-borrow-prefix-work : tie.Need-array-borrow-prefix-work
 array-borrow-prefix-work c = search rules
 
 slice-aggregate-query : tie.Need-slice-aggregate-query
-slice-aggregate-query c = first-long c.before.before.before.before.before.before.before.before.before.number3.result c.before.before.sevens.result (omega (arith, c.before.before.sevens.ensures, c.before.before.before.if1.false))
+slice-aggregate-query c = first_long c.before.before.before.before.before.before.before.before.before.number3.result c.before.before.sevens.result (omega (arith, c.before.before.sevens.ensures, c.before.before.before.if1.false))
 
 query-requires : tie.Need-query-requires
 query-requires c κs = search rules
@@ -49,13 +49,13 @@ array-share-prefix-work c = let n = c.before.before.before.before.before.before.
 
 slice-aggregate-as-recorded : tie.Need-slice-aggregate-as-recorded
 slice-aggregate-as-recorded c = let n = c.before.before.before.before.before.before.before.before.before.before.before.before.before.before.before.before.before.number3.result in let xs = c.before.before.before.before.before.before.before.before.before.before.sevens.result in let ys = c.before.before.before.before.before.before.before.query.new.1.1.0 in
-    first-long n (ys ++ drop n xs) (omega (arith, c.before.before.before.before.before.before.before.before.before.before.sevens.ensures, c.before.before.before.before.before.before.before.before.before.before.before.if1.false, back_long n xs ys (omega (arith, c.before.before.before.before.before.before.before.before.before.before.sevens.ensures, c.before.before.before.before.before.before.before.before.before.before.before.if1.false)) c.before.before.before.before.before.before.before.query.auto.1.1.0))
+    first_long n (ys ++ drop n xs) (omega (arith, c.before.before.before.before.before.before.before.before.before.before.sevens.ensures, c.before.before.before.before.before.before.before.before.before.before.before.if1.false, back_long n xs ys (omega (arith, c.before.before.before.before.before.before.before.before.before.before.sevens.ensures, c.before.before.before.before.before.before.before.before.before.before.before.if1.false)) c.before.before.before.before.before.before.before.query.auto.1.1.0))
 
 array-share-prefix-before : tie.Need-array-share-prefix-before
 array-share-prefix-before c = search rules
 
 slice-aggregate-as-recorded-2 : tie.Need-slice-aggregate-as-recorded-2
-slice-aggregate-as-recorded-2 c = first-long c.before.before.before.before.before.before.before.before.before.before.before.before.before.before.before.before.before.before.number3.result c.before.before.before.before.before.before.before.before.before.before.before.sevens.result (omega (arith, c.before.before.before.before.before.before.before.before.before.before.before.sevens.ensures, c.before.before.before.before.before.before.before.before.before.before.before.before.if1.false))
+slice-aggregate-as-recorded-2 c = first_long c.before.before.before.before.before.before.before.before.before.before.before.before.before.before.before.before.before.before.number3.result c.before.before.before.before.before.before.before.before.before.before.before.sevens.result (omega (arith, c.before.before.before.before.before.before.before.before.before.before.before.sevens.ensures, c.before.before.before.before.before.before.before.before.before.before.before.before.if1.false))
 
 as-recorded-requires : tie.Need-as-recorded-requires
 as-recorded-requires c κs = search rules
@@ -67,7 +67,7 @@ same-length-3 : tie.Need-same-length-3
 same-length-3 c = search rules
 
 returns-2 : tie.Need-returns-2
-returns-2 c = λ h. (c.as-recorded.ensures h).same-cache
+returns-2 c = λ h. (c.as-recorded.ensures h).same_cache
 
 pub replay-query-spec : {M : Type 1} → statement M
 replay-query-spec =

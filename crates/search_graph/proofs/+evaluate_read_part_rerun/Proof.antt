@@ -5,18 +5,18 @@ use mathlib.Core.Logic.{⊎_elim}
 use native.Mathlib.Omega.{arith}
 use lib.ListN.{length}
 use Prim.Native.Nat.{ℕ, ◌+◌, ◌-◌, ◌*◌, ◌<◌}
-use Rattle.book.specs.Lines.{lineIn}
-use Rattle.book.proofs.Walk.{a-line, first_reads}
+use Rattle.book.specs.Lines.{line_in}
+use Rattle.book.proofs.Walk.{a_line, first_reads}
 use Rattle.definition.specs.Stack.{Stack}
 use Rattle.definition.proofs.Skeleton.{skeleton}
 use Rattle.stack.specs.Places.{PlacesHeld}
-use Rattle.search_graph.specs.Calls.{Running, computed, partFrom, taskFrom, Comes, keptBelow}
-use Rattle.search_graph.proofs.Cycle.{rank, lower, fewer, work-next, cache-next, running-next, running-on, known, full, framed}
-use Rattle.search_graph.proofs.Cycle.{computed-kept, part-counts, looked-counts, pushed-counts, pushed-places, ran-counts}
-use Rattle.search_graph.proofs.Cycle.{Turn, turn-starts, turn-ends, turn-left, turn-again}
-use Rattle.search_graph.proofs.Walks.{call_known, call-comes, undecided-comes, comes-as, passed, none_left}
-use Rattle.search_graph.proofs.Walks.{GroupWalk, group-starts, group-ends, group-stops, group-next}
-use Rattle.search_graph.proofs.Walks.{PickWalk, pickFrom, begun-same, entered-skeleton, pick-starts, pick-whole, pick_ends, pick-stops, pick_next}
+use Rattle.search_graph.specs.Calls.{Running, computed, part_from, task_from, Comes, kept_below}
+use Rattle.search_graph.proofs.Cycle.{rank, lower, fewer, work_next, cache_next, running_next, running_on, known, full, framed}
+use Rattle.search_graph.proofs.Cycle.{computed_kept, part_counts, looked_counts, pushed_counts, pushed_places, ran_counts}
+use Rattle.search_graph.proofs.Cycle.{Turn, turn_starts, turn_ends, turn_left, turn_again}
+use Rattle.search_graph.proofs.Walks.{call_known, call_comes, undecided_comes, comes_as, passed, none_left}
+use Rattle.search_graph.proofs.Walks.{GroupWalk, group_starts, group_ends, group_stops, group_next}
+use Rattle.search_graph.proofs.Walks.{PickWalk, pick_from, begun_same, entered_skeleton, pick_starts, pick_whole, pick_ends, pick_stops, pick_next}
 use borrow.Fn.Kinds.{In, Out}
 use borrow.Fn.PlainCycle.{Measures, is, falls, and}
 use Rattle.search_graph.proofs.evaluate.Reads as evaluate
@@ -173,7 +173,7 @@ evaluate-push-requires : (t : ℕ) → evaluate-lts.Need-push-requires (evaluate
 evaluate-push-requires t c κs =
     let room = c.before in let told = room.before in let up = evaluate-looked told in let s = evaluate-start up in
     let run = s.pre.1.0 in let lt = room.if1.false in let known = s.pre.1.1 in let few = run.bytes.few in (
-      (work-next _ run.bytes up.look_up.kept.1.0, looked-counts run up.look_up.ensures told.before.found2.given.1),
+      (work_next _ run.bytes up.look_up.kept.1.0, looked_counts run up.look_up.ensures told.before.found2.given.1),
       (omega arith, (omega arith, up.look_up.ensures.low _ told.before.found2.given.1)),
     )
 
@@ -210,17 +210,17 @@ evaluate-rerun-requires t c κs =
     let less = c.before.before.before in let pushed = evaluate-pushed less in let room = evaluate-room pushed in
     let told = room.before in let up = evaluate-looked told in let s = evaluate-start up in let a = s.args in
     let run = s.pre.1.0 in let is-push = told.before.found2.given.1 in
-    let lt = room.if1.left in let ranged = run.read.in-range in
-    let limit = ranged.limit-fits in let is-less = less.one_less.ensures in
+    let lt = room.if1.left in let ranged = run.read.in_range in
+    let limit = ranged.limit_fits in let is-less = less.one_less.ensures in
     let known = s.pre.1.1 in let few = run.bytes.few in
     let inside : a.goal < 64 = omega arith in (
       lower ((a.h.goals - a.height) * 128 + 0)
           ((a.h.goals - (a.height + 1)) * 128 + (less.one_less.result + 1)) 0 0 t s.pre.0
           (omega arith) (omega arith),
       (
-        running-next _ _ _ (a.height + 1) a.entries run refl (pushed.push.kept.0 ∙ up.look_up.kept.1.0)
-            (omega arith) run.entries (pushed-counts run up.look_up.ensures is-push pushed.push.ensures)
-            (pushed-places run up.look_up.ensures is-push pushed.push.ensures inside),
+        running_next _ _ _ (a.height + 1) a.entries run refl (pushed.push.kept.0 ∙ up.look_up.kept.1.0)
+            (omega arith) run.entries (pushed_counts run up.look_up.ensures is-push pushed.push.ensures)
+            (pushed_places run up.look_up.ensures is-push pushed.push.ensures inside),
         (
           omega arith,
           (
@@ -241,15 +241,15 @@ evaluate-finish-requires t c κs =
     let s = evaluate-start up in let run = s.pre.1.0 in
     let lt = room.if1.left in
     record {
-      bytes = work-next _ run.bytes
+      bytes = work_next _ run.bytes
           (ran.rerun.auto.1.1.1.1.1.0 ∙ pushed.push.kept.0 ∙ up.look_up.kept.1.0);
-      slots = cache-next _ run.slots ran.rerun.auto.1.1.1.1.0;
+      slots = cache_next _ run.slots ran.rerun.auto.1.1.1.1.0;
       stack = omega arith;
       known = s.pre.1.1;
       few = ran.rerun.ensures.few;
       passes = ran.rerun.ensures.passes;
       counts =
-          ran-counts run up.look_up.ensures told.before.found2.given.1 (omega arith) s.pre.1.1
+          ran_counts run up.look_up.ensures told.before.found2.given.1 (omega arith) s.pre.1.1
           pushed.push.ensures less.before.of-goal.ensures less.one_less.ensures ran.rerun.ensures;
     }
 
@@ -333,7 +333,7 @@ module _ {C : read-part-lts.Claims} {A : In 6 read-part-kinds.ps} {P : Out 6 rea
 
 abbrev read-part-Inv-loop : read-part-lts.invariant-loop
 read-part-Inv-loop book starts places₀ p cache₀ work₀ h root height entries in-pick group₀ t₀ k₀ places cache work group t k =
-    GroupWalk book h root height in-pick (partFrom book p in-pick h root height entries work₀ cache₀) (length p) work₀
+    GroupWalk book h root height in-pick (part_from book p in-pick h root height entries work₀ cache₀) (length p) work₀
     work cache places group t k
     × ((length work ≡ length work₀) × (length cache ≡ length cache₀))
 
@@ -342,7 +342,7 @@ read-part-μ-loop book starts places₀ p cache₀ work₀ h root height entries
 
 abbrev read-part-Inv-loop2 : read-part-lts.invariant-loop2
 read-part-Inv-loop2 book starts places₀ p cache₀ work₀ h root height entries in-pick pick₀ t₀ k₀ places cache work pick t k =
-    PickWalk book h root height (pickFrom book h root height work₀ cache₀ pick₀ t₀ k₀) (length p) work₀ work cache
+    PickWalk book h root height (pick_from book h root height work₀ cache₀ pick₀ t₀ k₀) (length p) work₀ work cache
     places pick t k
     × ((length work ≡ length work₀) × (length cache ≡ length cache₀))
 
@@ -358,7 +358,7 @@ group-running : (t : ℕ)
     c.loop.group.entries
 group-running t c =
     let run = (group-entry c).requires.1.0 in let inv = c.loop.invariant in
-    running-on _ _ _ _ run inv.1.1 inv.1.0 inv.0.few inv.0.bones inv.0.placed
+    running_on _ _ _ _ run inv.1.1 inv.1.0 inv.0.few inv.0.bones inv.0.placed
 
 pick-running : (t : ℕ)
     (c : read-part-lts.After-enter-candidate (read-part-claims t) (read-part-at t) read-part.Post read-part-Inv-loop
@@ -368,9 +368,9 @@ pick-running : (t : ℕ)
     l.pick.entries
 pick-running t c =
     let turn = pick-turn c in let begun = pick-begin turn in let run = (pick-entry turn).pre.1.0 in
-    let l = turn.loop2 in let same = begun-same begun.begin.ensures in
-    running-on _ _ _ _ run l.inv.1.1 (c.enter-candidate.auto.0 ∙ l.inv.1.0 ∙ begun.begin.kept.0)
-    l.inv.0.few (entered-skeleton c.enter-candidate.ensures ∙ l.inv.0.bones ∙ ap skeleton same)
+    let l = turn.loop2 in let same = begun_same begun.begin.ensures in
+    running_on _ _ _ _ run l.inv.1.1 (c.enter-candidate.auto.0 ∙ l.inv.1.0 ∙ begun.begin.kept.0)
+    l.inv.0.few (entered_skeleton c.enter-candidate.ensures ∙ l.inv.0.bones ∙ ap skeleton same)
     (subst (λ (x : Stack). PlacesHeld x l.places) same l.inv.0.placed)
 
 -- a part below a group, by either call
@@ -378,8 +378,8 @@ joined : (t : ℕ)
     (c : read-part-lts.At-match2-branch (read-part-claims t) (read-part-at t) read-part.Post
     read-part-Inv-loop read-part-μ-loop read-part-Inv-loop2 read-part-μ-loop2)
     → let turn = group-turn c.before in let a = (group-entry turn).args in let l = turn.loop in
-    Comes a.h.goals a.root a.height (keptBelow a.in-pick a.height)
-    (partFrom a.book.now l.t.now a.in-pick a.h a.root a.height l.group.entries l.work
+    Comes a.h.goals a.root a.height (kept_below a.in-pick a.height)
+    (part_from a.book.now l.t.now a.in-pick a.h a.root a.height l.group.entries l.work
     l.cache)
     l.work c.match2.work c.match2.cache c.match2.places c.match2.o
     × ((length c.match2.work ≡ length l.work) × (length c.match2.cache ≡ length l.cache))
@@ -389,13 +389,13 @@ joined t c =
     c.before.before.loop-test.true in
     ⊎_elim
     (λ w. (
-      comes-as w.13 w.12 w.11 w.14
-          (call-comes (group-running t turn) a.in-pick l.t.now reads
+      comes_as w.13 w.12 w.11 w.14
+          (call_comes (group-running t turn) a.in-pick l.t.now reads
           (sym c.before.code3.ensures ∙ w.1.given.1) w.2.ensures w.6.ensures),
       (ap length w.13 ∙ w.6.kept.1.1.1.1.0, ap length w.12 ∙ w.6.kept.1.1.1.0),
     ))
     (λ w. (
-      comes-as w.11 w.10 w.9 w.12 w.4.ensures,
+      comes_as w.11 w.10 w.9 w.12 w.4.ensures,
       (ap length w.11 ∙ w.4.kept.1.1.1.1.1.0, ap length w.10 ∙ w.4.kept.1.1.1.1.0),
     ))
     c.match2.branch
@@ -407,7 +407,7 @@ tried : (t : ℕ)
     → let entered = pick-entered c.before in let turn = pick-turn entered in let a = (pick-entry turn).args in
     let l = turn.loop2 in let work1 = entered.enter-candidate.last.0 in
     Comes a.h.goals a.root a.height a.height
-    (partFrom a.book.now l.t.now true a.h a.root a.height l.pick.entries work1 l.cache)
+    (part_from a.book.now l.t.now true a.h a.root a.height l.pick.entries work1 l.cache)
     work1 c.match4.work c.match4.cache c.match4.places c.match4.o
     × ((length c.match4.work ≡ length work1) × (length c.match4.cache ≡ length l.cache))
 tried t c =
@@ -417,13 +417,13 @@ tried t c =
     entered.before.before.loop2-test.taken in
     ⊎_elim
     (λ w. (
-      comes-as w.13 w.12 w.11 w.14
-          (call-comes (pick-running t entered) true l.t.now reads
+      comes_as w.13 w.12 w.11 w.14
+          (call_comes (pick-running t entered) true l.t.now reads
           (sym c.before.code4.ensures ∙ w.1.given.1) w.2.ensures w.6.ensures),
       (ap length w.13 ∙ w.6.kept.1.1.1.1.0, ap length w.12 ∙ w.6.kept.1.1.1.0),
     ))
     (λ w. (
-      comes-as w.11 w.10 w.9 w.12 w.4.ensures,
+      comes_as w.11 w.10 w.9 w.12 w.4.ensures,
       (ap length w.11 ∙ w.4.kept.1.1.1.1.1.0, ap length w.10 ∙ w.4.kept.1.1.1.1.0),
     ))
     c.match4.branch
@@ -433,7 +433,7 @@ read-part-code-requires : (t : ℕ)
     read-part-Inv-loop read-part-μ-loop read-part-Inv-loop2 read-part-μ-loop2
 read-part-code-requires t c κs =
     let s = c.before.before.before.before.before in record
-    { goals = s.args.h.goals; inPick = s.args.in-pick; reads = s.requires.1.1.1 }
+    { goals = s.args.h.goals; in_pick = s.args.in-pick; reads = s.requires.1.1.1 }
 
 read-part-enum-told : (t : ℕ) → read-part-lts.Need-enum-told (read-part-claims t) (read-part-at t) read-part.Post
     read-part-Inv-loop read-part-μ-loop read-part-Inv-loop2 read-part-μ-loop2
@@ -444,7 +444,7 @@ read-part-first-requires : (t : ℕ)
     read-part-Inv-loop read-part-μ-loop read-part-Inv-loop2 read-part-μ-loop2
 read-part-first-requires t c κs =
     let s = read-part-start c.before.before in (
-      record { goals = s.args.h.goals; inPick = s.args.in-pick; reads = s.pre.1.1.1 },
+      record { goals = s.args.h.goals; in_pick = s.args.in-pick; reads = s.pre.1.1.1 },
       sym c.before.before.code.ensures ∙ c.enum_told.given.1,
     )
 
@@ -455,7 +455,7 @@ read-part-evaluate-requires t c κs =
     let first = c.before.before.before in let coded = first.before.before.before in
     let s = read-part-start coded in let a = s.args in
     let reads = s.pre.1.1.1 in
-    let line = a-line a.h.goals a.in-pick a.p.now (lineIn a.p.now) refl reads in (
+    let line = a_line a.h.goals a.in-pick a.p.now (line_in a.p.now) refl reads in (
       fewer ((a.h.goals - a.height) * 128 + 0) (length a.p.now) 0 t s.pre.0 (omega arith),
       (
         s.pre.1.0,
@@ -479,7 +479,7 @@ read-part-sub-t : (t : ℕ) → read-part-lts.Need-overflow-sub-t (read-part-cla
     read-part-Inv-loop read-part-μ-loop read-part-Inv-loop2 read-part-μ-loop2
 read-part-sub-t t c =
     let s = read-part-start (group-code c) in
-    let line = a-line s.args.h.goals s.args.in-pick s.args.p.now (lineIn s.args.p.now) refl
+    let line = a_line s.args.h.goals s.args.in-pick s.args.p.now (line_in s.args.p.now) refl
     s.pre.1.1.1 in omega arith
 
 read-part-part-t-start : (t : ℕ)
@@ -487,14 +487,14 @@ read-part-part-t-start : (t : ℕ)
     read-part-Inv-loop read-part-μ-loop read-part-Inv-loop2 read-part-μ-loop2
 read-part-part-t-start t c =
     let s = read-part-start (group-code c) in
-    let line = a-line s.args.h.goals s.args.in-pick s.args.p.now (lineIn s.args.p.now) refl
+    let line = a_line s.args.h.goals s.args.in-pick s.args.p.now (line_in s.args.p.now) refl
     s.pre.1.1.1 in omega arith
 
 read-part-part-t-end : (t : ℕ) → read-part-lts.Need-slice-bounds-t-end (read-part-claims t) (read-part-at t) read-part.Post
     read-part-Inv-loop read-part-μ-loop read-part-Inv-loop2 read-part-μ-loop2
 read-part-part-t-end t c =
     let s = read-part-start (group-code c) in
-    let line = a-line s.args.h.goals s.args.in-pick s.args.p.now (lineIn s.args.p.now) refl
+    let line = a_line s.args.h.goals s.args.in-pick s.args.p.now (line_in s.args.p.now) refl
     s.pre.1.1.1 in omega arith
 
 read-part-count-requires : (t : ℕ)
@@ -502,14 +502,14 @@ read-part-count-requires : (t : ℕ)
     read-part-Inv-loop read-part-μ-loop read-part-Inv-loop2 read-part-μ-loop2
 read-part-count-requires t c κs =
     let s = read-part-start (group-code c.before) in record
-    { goals = s.args.h.goals; inPick = s.args.in-pick; reads = s.pre.1.1.1 }
+    { goals = s.args.h.goals; in_pick = s.args.in-pick; reads = s.pre.1.1.1 }
 
 read-part-loop-holds : (t : ℕ) → read-part-lts.Need-loop-init (read-part-claims t) (read-part-at t) read-part.Post
     read-part-Inv-loop read-part-μ-loop read-part-Inv-loop2 read-part-μ-loop2
 read-part-loop-holds t c =
     let started = c.before.before in let coded = group-code started in
     let s = read-part-start coded in let a = s.args in (
-      group-starts s.pre.1.0 a.in-pick a.p.now s.pre.1.1.1 _
+      group_starts s.pre.1.0 a.in-pick a.p.now s.pre.1.1.1 _
           (sym coded.code.ensures ∙ started.before.before.code2.given.1) started.start.ensures
           c.count.result c.count.ensures.0,
       (refl, refl),
@@ -522,7 +522,7 @@ read-part-code-requires-2 t c κs =
     let turn = c.before in let a = (group-entry turn).args in let l = turn.loop in
     record {
       goals = a.h.goals;
-      inPick = a.in-pick;
+      in_pick = a.in-pick;
       reads = first_reads a.h.goals a.in-pick l.k l.t.now l.invariant.0.parts c.loop-test.true;
     }
 
@@ -538,7 +538,7 @@ read-part-first-requires-2 t c κs =
     let a = (group-entry turn).args in let l = turn.loop in (
       record {
         goals = a.h.goals;
-        inPick = a.in-pick;
+        in_pick = a.in-pick;
         reads = first_reads a.h.goals a.in-pick l.k l.t.now l.inv.0.parts
             coded.before.loop-test.true;
       },
@@ -551,7 +551,7 @@ read-part-evaluate-requires-2 : (t : ℕ)
 read-part-evaluate-requires-2 t c κs =
     let first = c.before.before.before in let coded = first.before.before.before in let turn = group-turn coded in
     let s = group-entry turn in let a = s.args in let l = turn.loop in
-    let line = a-line a.h.goals a.in-pick a.p.now (lineIn a.p.now) refl s.pre.1.1.1 in
+    let line = a_line a.h.goals a.in-pick a.p.now (line_in a.p.now) refl s.pre.1.1.1 in
     let reads = first_reads a.h.goals a.in-pick l.k l.t.now l.inv.0.parts
     coded.before.loop-test.true in (
       fewer ((a.h.goals - a.height) * 128 + 0) (length a.p.now) 0 t s.pre.0 (omega arith),
@@ -606,7 +606,7 @@ read-part-returns : (t : ℕ) → read-part-lts.Need-returns (read-part-claims t
     read-part-Inv-loop read-part-μ-loop read-part-Inv-loop2 read-part-μ-loop2
 read-part-returns t c =
     let weigh = c.before.before.before in let came = weigh.before in let turn = group-turn came.before in
-    group-stops turn.loop.inv.0 (joined t came).0 weigh.weigh.ensures
+    group_stops turn.loop.inv.0 (joined t came).0 weigh.weigh.ensures
     came.before.before.loop-test.true _ c.before.next.given.1
 
 read-part-enum-known-next-2 : (t : ℕ)
@@ -627,7 +627,7 @@ read-part-next-requires t c κs =
     let a = (group-entry turn).args in let l = turn.loop in
     record {
       goals = a.h.goals;
-      inPick = a.in-pick;
+      in_pick = a.in-pick;
       reads = first_reads a.h.goals a.in-pick l.k l.t.now l.inv.0.parts
           coded.before.loop-test.taken;
     }
@@ -644,7 +644,7 @@ read-part-loop-again t c =
     let turn = group-turn came.before in
     let a = (group-entry turn).args in let l = turn.loop in let pos = came.before.before.loop-test.taken in
     let reads = first_reads a.h.goals a.in-pick l.k l.t.now l.inv.0.parts pos in (
-      group-next l.inv.0 (joined t came).0 weigh.weigh.ensures _ told.before.next2.given.1
+      group_next l.inv.0 (joined t came).0 weigh.weigh.ensures _ told.before.next2.given.1
           (passed a.h.goals a.in-pick l.k l.t.now l.inv.0.parts pos _
           (c.next3.ensures a.h.goals a.in-pick reads)),
       ((joined t came).1.0 ∙ l.inv.1.0, (joined t came).1.1 ∙ l.inv.1.1),
@@ -662,7 +662,7 @@ read-part-loop-again-2 t c =
     let told = c.before in let weigh = group-weighed told in let came = weigh.before in
     let turn = group-turn came.before in
     let a = (group-entry turn).args in let l = turn.loop in let pos = came.before.before.loop-test.taken in (
-      group-next l.inv.0 (joined t came).0 weigh.weigh.ensures _ told.before.next2.given.1
+      group_next l.inv.0 (joined t came).0 weigh.weigh.ensures _ told.before.next2.given.1
           (none_left a.h.goals a.in-pick l.k l.t.now l.inv.0.parts pos c.if1.false),
       ((joined t came).1.0 ∙ l.inv.1.0, (joined t came).1.1 ∙ l.inv.1.1),
     )
@@ -685,7 +685,7 @@ read-part-sub-t-2 : (t : ℕ) → read-part-lts.Need-overflow-sub-t-2 (read-part
     read-part-Inv-loop read-part-μ-loop read-part-Inv-loop2 read-part-μ-loop2
 read-part-sub-t-2 t c =
     let s = read-part-start (pick-code c.before.before) in
-    let line = a-line s.args.h.goals s.args.in-pick s.args.p.now (lineIn s.args.p.now) refl
+    let line = a_line s.args.h.goals s.args.in-pick s.args.p.now (line_in s.args.p.now) refl
     s.pre.1.1.1 in omega arith
 
 read-part-part-t-start-2 : (t : ℕ)
@@ -693,7 +693,7 @@ read-part-part-t-start-2 : (t : ℕ)
     read-part-Inv-loop read-part-μ-loop read-part-Inv-loop2 read-part-μ-loop2
 read-part-part-t-start-2 t c =
     let s = read-part-start (pick-code c.before.before) in
-    let line = a-line s.args.h.goals s.args.in-pick s.args.p.now (lineIn s.args.p.now) refl
+    let line = a_line s.args.h.goals s.args.in-pick s.args.p.now (line_in s.args.p.now) refl
     s.pre.1.1.1 in omega arith
 
 read-part-part-t-end-2 : (t : ℕ)
@@ -701,7 +701,7 @@ read-part-part-t-end-2 : (t : ℕ)
     read-part-Inv-loop read-part-μ-loop read-part-Inv-loop2 read-part-μ-loop2
 read-part-part-t-end-2 t c =
     let s = read-part-start (pick-code c.before.before) in
-    let line = a-line s.args.h.goals s.args.in-pick s.args.p.now (lineIn s.args.p.now) refl
+    let line = a_line s.args.h.goals s.args.in-pick s.args.p.now (line_in s.args.p.now) refl
     s.pre.1.1.1 in omega arith
 
 read-part-count-requires-2 : (t : ℕ)
@@ -709,14 +709,14 @@ read-part-count-requires-2 : (t : ℕ)
     read-part-Inv-loop read-part-μ-loop read-part-Inv-loop2 read-part-μ-loop2
 read-part-count-requires-2 t c κs =
     let s = read-part-start (pick-code c.before.before.before) in
-    record { goals = s.args.h.goals; inPick = s.args.in-pick; reads = s.pre.1.1.1 }
+    record { goals = s.args.h.goals; in_pick = s.args.in-pick; reads = s.pre.1.1.1 }
 
 read-part-loop2-holds : (t : ℕ) → read-part-lts.Need-loop2-init (read-part-claims t) (read-part-at t) read-part.Post
     read-part-Inv-loop read-part-μ-loop read-part-Inv-loop2 read-part-μ-loop2
 read-part-loop2-holds t c =
     let begun = c.before.before.before.before in let coded = pick-code begun in
     let s = read-part-start coded in let a = s.args in (
-      pick-starts s.pre.1.0 a.in-pick a.p.now s.pre.1.1.1
+      pick_starts s.pre.1.0 a.in-pick a.p.now s.pre.1.1.1
           (sym coded.code.ensures ∙ begun.before.before.enum-told3.given.1) begun.begin.ensures
           c.count2.result c.count2.ensures.0,
       (refl, refl),
@@ -727,7 +727,7 @@ read-part-enter-candidate-requires : (t : ℕ)
     read-part-Inv-loop read-part-μ-loop read-part-Inv-loop2 read-part-μ-loop2
 read-part-enter-candidate-requires t c κs =
     let turn = c.before.before in let s = pick-entry turn in let run = s.pre.1.0 in (
-      work-next _ run.bytes (turn.loop2.invariant.1.0 ∙ (pick-begin turn).begin.auto.0),
+      work_next _ run.bytes (turn.loop2.invariant.1.0 ∙ (pick-begin turn).begin.auto.0),
       (s.pre.1.1.0, run.stack),
     )
 
@@ -739,7 +739,7 @@ read-part-code-requires-3 t c κs =
     let l = turn.loop2 in
     record {
       goals = a.h.goals;
-      inPick = true;
+      in_pick = true;
       reads = first_reads a.h.goals true l.k l.t.now l.inv.0.parts
           entered.before.before.loop2-test.true;
     }
@@ -756,7 +756,7 @@ read-part-first-requires-3 t c κs =
     let a = (pick-entry turn).args in let l = turn.loop2 in (
       record {
         goals = a.h.goals;
-        inPick = true;
+        in_pick = true;
         reads = first_reads a.h.goals true l.k l.t.now l.inv.0.parts
             entered.before.before.loop2-test.taken;
       },
@@ -770,7 +770,7 @@ read-part-evaluate-requires-3 t c κs =
     let first = c.before.before.before in let coded = first.before.before.before in
     let entered = pick-entered coded in let turn = pick-turn entered in
     let s = pick-entry turn in let a = s.args in let l = turn.loop2 in
-    let line = a-line a.h.goals a.in-pick a.p.now (lineIn a.p.now) refl s.pre.1.1.1 in
+    let line = a_line a.h.goals a.in-pick a.p.now (line_in a.p.now) refl s.pre.1.1.1 in
     let reads = first_reads a.h.goals true l.k l.t.now l.inv.0.parts
     entered.before.before.loop2-test.taken in (
       fewer ((a.h.goals - a.height) * 128 + 0) (length a.p.now) 0 t s.pre.0 (omega arith),
@@ -806,7 +806,7 @@ read-part-finish-candidate-requires : (t : ℕ)
 read-part-finish-candidate-requires t c κs =
     let came = c.before in let entered = pick-entered came.before in
     let s = pick-entry (pick-turn entered) in (
-      work-next _ (pick-running t entered).bytes (tried t came).1.0,
+      work_next _ (pick-running t entered).bytes (tried t came).1.0,
       (s.pre.1.1.0, (s.pre.1.0.stack, (tried t came).0.few)),
     )
 
@@ -843,10 +843,10 @@ read-part-returns-2 t c =
     let turn = pick-turn entered in let begun = pick-begin turn in let coded = pick-code begun in
     let s = read-part-start coded in let a = s.args in
     let count = turn.before.count2 in
-    pick-whole s.pre.1.0 a.in-pick a.p.now s.pre.1.1.1
+    pick_whole s.pre.1.0 a.in-pick a.p.now s.pre.1.1.1
     (sym coded.code.ensures ∙ begun.before.before.enum-told3.given.1) begun.begin.ensures count.result
     count.ensures.0
-    (pick-stops s.pre.1.1.0 s.pre.1.0.stack turn.loop2.inv.0 entered.enter-candidate.ensures
+    (pick_stops s.pre.1.1.0 s.pre.1.0.stack turn.loop2.inv.0 entered.enter-candidate.ensures
     (tried t came).0
     finished.finish-candidate.ensures entered.before.before.loop2-test.taken _ c.before.next4.given.1)
 
@@ -869,7 +869,7 @@ read-part-next-requires-2 t c κs =
     let l = turn.loop2 in
     record {
       goals = a.h.goals;
-      inPick = true;
+      in_pick = true;
       reads = first_reads a.h.goals true l.k l.t.now l.inv.0.parts
           entered.before.before.loop2-test.taken;
     }
@@ -931,7 +931,7 @@ read-part-end-requires : (t : ℕ)
 read-part-end-requires t c κs =
     let turn = c.before.before in let s = pick-entry turn in let run = s.pre.1.0 in (
       (
-        work-next _ run.bytes (turn.loop2.invariant.1.0 ∙ (pick-begin turn).begin.auto.0),
+        work_next _ run.bytes (turn.loop2.invariant.1.0 ∙ (pick-begin turn).begin.auto.0),
         (s.pre.1.1.0, run.stack),
       ),
       turn.loop2.invariant.0.few,
@@ -952,7 +952,7 @@ read-part-returns-3 : (t : ℕ) → read-part-lts.Need-returns-3 (read-part-clai
 read-part-returns-3 t c =
     let made = c.before.before.before.before in let first = made.before.before.before.before in
     let coded = first.before.before.before in let s = read-part-start coded in let a = s.args in
-    call-comes s.pre.1.0 a.in-pick a.p.now s.pre.1.1.1
+    call_comes s.pre.1.0 a.in-pick a.p.now s.pre.1.1.1
     (sym coded.code.ensures ∙ first.before.enum_told.given.1)
     first.first.ensures made.evaluate.ensures
 
@@ -971,7 +971,7 @@ read-part-same-length-8 t c =
 read-part-returns-4 : (t : ℕ) → read-part-lts.Need-returns-4 (read-part-claims t) (read-part-at t) read-part.Post
     read-part-Inv-loop read-part-μ-loop read-part-Inv-loop2 read-part-μ-loop2
 read-part-returns-4 t c =
-    group-ends c.before.before.loop.invariant.0 c.before.loop-test.false c.close.ensures
+    group_ends c.before.before.loop.invariant.0 c.before.loop-test.false c.close.ensures
 
 read-part-same-length-9 : (t : ℕ)
     → read-part-lts.Need-same-length-9 (read-part-claims t) (read-part-at t) read-part.Post
@@ -992,7 +992,7 @@ read-part-returns-5 t c =
     let ended = c.before.before in let turn = ended.before.before.before in
     let begun = pick-begin turn in let coded = pick-code begun in
     let s = read-part-start coded in let a = s.args in let count = turn.before.count2 in
-    pick-whole s.pre.1.0 a.in-pick a.p.now s.pre.1.1.1
+    pick_whole s.pre.1.0 a.in-pick a.p.now s.pre.1.1.1
     (sym coded.code.ensures ∙ begun.before.before.enum-told3.given.1) begun.begin.ensures count.result
     count.ensures.0
     (pick_ends s.pre.1.1.0 s.pre.1.0.stack turn.loop2.invariant.0 ended.before.before.loop2-test.false
@@ -1002,7 +1002,7 @@ read-part-returns-6 : (t : ℕ) → read-part-lts.Need-returns-6 (read-part-clai
     read-part-Inv-loop read-part-μ-loop read-part-Inv-loop2 read-part-μ-loop2
 read-part-returns-6 t c =
     let coded = c.before in let s = read-part-start coded in let a = s.args in
-    undecided-comes s.pre.1.0 a.in-pick a.p.now s.pre.1.1.1 coded.code.result
+    undecided_comes s.pre.1.0 a.in-pick a.p.now s.pre.1.1.1 coded.code.result
     coded.code.ensures c.match.keys4
 
 -- ---- rerun
@@ -1020,7 +1020,7 @@ module _ {C : rerun-lts.Claims} {A : In 6 rerun-kinds.ps} {P : Out 6 rerun-kinds
 abbrev rerun-Inv-loop : rerun-lts.invariant-loop
 rerun-Inv-loop book starts places₀ p cache₀ work₀ h root height entries left more₀ overflow₀ kept₀ places cache work more overflow kept =
     Turn (computed book p false h height) h.goals root height left
-    (taskFrom book p h root height entries left work₀ cache₀) work₀ work cache places more overflow kept
+    (task_from book p h root height entries left work₀ cache₀) work₀ work cache places more overflow kept
     × ((length work ≡ length work₀) × (length cache ≡ length cache₀))
 
 abbrev rerun-μ-loop : rerun-lts.decreases-loop
@@ -1031,7 +1031,7 @@ rerun-loop-holds : (t : ℕ)
     → rerun-lts.Need-loop-init (rerun-claims t) (rerun-at t) rerun.Post rerun-Inv-loop rerun-μ-loop
 rerun-loop-holds t c =
     let s = c.before.before.before.before.before in
-    (turn-starts s.requires.1.0.entries s.requires.1.0.counts s.requires.1.0.placed, (refl, refl))
+    (turn_starts s.requires.1.0.entries s.requires.1.0.counts s.requires.1.0.placed, (refl, refl))
 
 rerun-read-part-requires : (t : ℕ)
     → rerun-lts.Need-read-part-requires (rerun-claims t) (rerun-at t) rerun.Post rerun-Inv-loop rerun-μ-loop
@@ -1042,7 +1042,7 @@ rerun-read-part-requires t c κs =
       lower ((a.h.goals - a.height) * 128 + (a.left + 1)) ((a.h.goals - a.height) * 128 + 0) 0
           (length a.p.now) t s.pre.0 (omega arith) short,
       (
-        running-on _ _ _ _ run here.1.1 here.1.0 here.0.few here.0.bones here.0.placed,
+        running_on _ _ _ _ run here.1.1 here.1.0 here.0.few here.0.bones here.0.placed,
         (s.pre.1.1.0, s.pre.1.1.1.1),
       ),
     )
@@ -1053,8 +1053,8 @@ rerun-end-iteration-requires t c κs =
     let read = c.before.before.before.before.before in let turn = rerun-turn read in
     let s = rerun-start turn in let a = s.args in let run = s.pre.1.0 in (
       (
-        work-next _ run.bytes (read.read-part.auto.1.1.1.1.1.0 ∙ turn.loop.inv.1.0),
-        part-counts a.book.now a.h a.root a.height turn.loop.kept turn.loop.work turn.loop.cache
+        work_next _ run.bytes (read.read-part.auto.1.1.1.1.1.0 ∙ turn.loop.inv.1.0),
+        part_counts a.book.now a.h a.root a.height turn.loop.kept turn.loop.work turn.loop.cache
             false a.p.now read.read-part.ensures turn.loop.inv.0.counts,
       ),
       (s.pre.1.1.0, (run.stack, read.read-part.ensures.few)),
@@ -1091,7 +1091,7 @@ rerun-returns : (t : ℕ) → rerun-lts.Need-returns (rerun-claims t) (rerun-at 
 rerun-returns t c =
     let ended = c.before.before.before.before.before in let read = rerun-read ended in
     let here = rerun-turn read in let s = rerun-start here in
-    turn-ends here.loop.inv.0 read.read-part.ensures ended.end-iteration.ensures
+    turn_ends here.loop.inv.0 read.read-part.ensures ended.end-iteration.ensures
     s.pre.1.1.0 s.pre.1.1.1.0 _
     c.before.next.given.1
 
@@ -1104,7 +1104,7 @@ rerun-sub-more : (t : ℕ)
 rerun-sub-more t c =
     let ended = c.before.before.before.before.before in let read = rerun-read ended in
     let turn = rerun-turn read in
-    let some = turn-left turn.loop.inv.0 read.read-part.ensures ended.end-iteration.ensures _ _
+    let some = turn_left turn.loop.inv.0 read.read-part.ensures ended.end-iteration.ensures _ _
     c.before.next2.given.1 in omega arith
 
 rerun-loop-less : (t : ℕ)
@@ -1112,7 +1112,7 @@ rerun-loop-less : (t : ℕ)
 rerun-loop-less t c =
     let ended = c.before.before.before.before.before in let read = rerun-read ended in
     let turn = rerun-turn read in
-    let some = turn-left turn.loop.inv.0 read.read-part.ensures ended.end-iteration.ensures _ _
+    let some = turn_left turn.loop.inv.0 read.read-part.ensures ended.end-iteration.ensures _ _
     c.before.next2.given.1 in omega arith
 
 rerun-loop-again : (t : ℕ)
@@ -1120,8 +1120,8 @@ rerun-loop-again : (t : ℕ)
 rerun-loop-again t c =
     let ended = c.before.before.before.before.before in let read = rerun-read ended in
     let turn = rerun-turn read in let a = (rerun-start turn).args in (
-      turn-again turn.loop.inv.0 read.read-part.ensures ended.end-iteration.ensures
-          (computed-kept a.book.now a.p.now false a.h a.height) _ _
+      turn_again turn.loop.inv.0 read.read-part.ensures ended.end-iteration.ensures
+          (computed_kept a.book.now a.p.now false a.h a.height) _ _
           c.before.next2.given.1,
       (
         ended.end-iteration.auto.1.0 ∙ read.read-part.kept.1.1.1.1.1.0 ∙ turn.loop.inv.1.0,

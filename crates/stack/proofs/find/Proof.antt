@@ -4,9 +4,9 @@ use native.Mathlib.Omega.{arith}
 use Prim.Native.Nat.{ℕ}
 use borrow.Author.Rules.{rules}
 use Rattle.definition.specs.declared.answers.Answer.{Answer}
-use Rattle.stack.proofs.Graph.{frame-bytes}
+use Rattle.stack.proofs.Graph.{frame_bytes_lem}
 use Rattle.stack.proofs.Loops.{read_at}
-use Rattle.stack.proofs.Places.{found_nowhere, found-at, at-below, nowhere-below}
+use Rattle.stack.proofs.Places.{found_nowhere, found_at_lem, at_below, nowhere_below}
 use Rattle.stack.proofs.find.Statement.{statement}
 use Rattle.stack.proofs.find.Tie as tie
 
@@ -22,7 +22,7 @@ returns c =
     record {
       is = sym (found_nowhere a.goals a.graph.now a.places.now a.goal read.wide.result
           read.wide.ensures.0 a.height s.requires.1 (λ lt e. let over = c.if1.true in omega arith));
-      below = λ j p e. nowhere-below j p a.height e;
+      below = λ j p e. nowhere_below j p a.height e;
     }
 
 frame-at-requires : tie.Need-frame-at-requires
@@ -31,14 +31,14 @@ frame-at-requires c κs = search rules
 input-requires : tie.Need-input-requires
 input-requires c κs =
     let read = c.before.before in let s = read.before.before.before in let a = s.args in
-    frame-bytes a.goals a.graph.now c.frame_at.result.now read.wide.result s.requires.0.0 (omega arith)
+    frame_bytes_lem a.goals a.graph.now c.frame_at.result.now read.wide.result s.requires.0.0 (omega arith)
     c.frame_at.ensures
 
 provisional-result-requires : tie.Need-provisional-result-requires
 provisional-result-requires c κs =
     let at = c.before.before in let read = at.before.before in let s = read.before.before.before in
     let a = s.args in
-    frame-bytes a.goals a.graph.now at.frame_at.result.now read.wide.result s.requires.0.0 (omega arith)
+    frame_bytes_lem a.goals a.graph.now at.frame_at.result.now read.wide.result s.requires.0.0 (omega arith)
     at.frame_at.ensures
 
 returns-2 : tie.Need-returns-2
@@ -47,16 +47,16 @@ returns-2 c =
     let s = read.before.before.before in let a = s.args in
     let is-input = read_at {A = ℕ} (λ f. f.input) a.goals a.graph.now read.wide.result
     at.frame_at.result.now at.frame_at.ensures in
-    let is-result = read_at {A = Option Answer} (λ f. f.provisionalResult) a.goals a.graph.now
+    let is-result = read_at {A = Option Answer} (λ f. f.provisional_result) a.goals a.graph.now
     read.wide.result at.frame_at.result.now at.frame_at.ensures in
     let lt = at.before.if1.false in
     record {
-      is = ap (λ (p : Option Answer). some (record { index = read.wide.result; provisionalResult = p }))
+      is = ap (λ (p : Option Answer). some (record { index = read.wide.result; provisional_result = p }))
           (c.provisional-result.ensures ∙ is-result)
-          ∙ sym (found-at a.goals a.graph.now a.places.now a.goal read.wide.result
+          ∙ sym (found_at_lem a.goals a.graph.now a.places.now a.goal read.wide.result
           read.wide.ensures.0 a.height s.requires.1 (omega arith)
           (sym (in_frame.input.ensures.0 ∙ is-input) ∙ then.if2.true));
-      below = λ j p e. at-below read.wide.result c.provisional-result.result j p a.height (omega arith) e;
+      below = λ j p e. at_below read.wide.result c.provisional-result.result j p a.height (omega arith) e;
     }
 
 returns-3 : tie.Need-returns-3
@@ -69,7 +69,7 @@ returns-3 c =
       is = sym (found_nowhere a.goals a.graph.now a.places.now a.goal read.wide.result
           read.wide.ensures.0 a.height s.requires.1
           (λ lt e. c.if2.false (in_frame.input.ensures.0 ∙ is-input ∙ e)));
-      below = λ j p e. nowhere-below j p a.height e;
+      below = λ j p e. nowhere_below j p a.height e;
     }
 
 pub find_spec : {M : Type 1} → statement M

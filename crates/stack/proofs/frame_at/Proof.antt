@@ -1,4 +1,4 @@
-use Rattle.stack.proofs.Graph.{part_room, part-is}
+use Rattle.stack.proofs.Graph.{part_room, part_is}
 use borrow.Author.Rules.{rules}
 use Rattle.stack.proofs.frame_at.Statement.{statement}
 use Rattle.stack.proofs.frame_at.Tie as tie
@@ -22,7 +22,7 @@ part-result-end : tie.Need-slice-bounds-result-end
 part-result-end c = let s = c.before.before.before in part_room s.args.goals s.args.graph.now s.args.i c.before.frame-start.result c.frame-size.result s.requires.0 s.requires.1 c.before.frame-start.ensures.0 c.frame-size.ensures
 
 returns : tie.Need-returns
-returns c = let s = c.before.before.before.before in part-is s.args.goals s.args.graph.now s.args.i c.before.before.frame-start.result c.before.frame-size.result s.requires.0 s.requires.1 c.before.before.frame-start.ensures.0 c.before.frame-size.ensures
+returns c = let s = c.before.before.before.before in part_is s.args.goals s.args.graph.now s.args.i c.before.before.frame-start.result c.before.frame-size.result s.requires.0 s.requires.1 c.before.before.frame-start.ensures.0 c.before.frame-size.ensures
 
 pub frame-at-spec : {M : Type 1} → statement M
 frame-at-spec =

@@ -1,14 +1,14 @@
 use Prim.Native.Nat.{◌-◌, ◌<◌}
 use native.Mathlib.Omega.{arith}
-use Rattle.definition.specs.Parent.{markOverflow}
+use Rattle.definition.specs.Parent.{mark_overflow}
 use Rattle.definition.specs.Stack.{Frame}
-use Rattle.stack.proofs.Graph.{part_room, top-written, mark-none, mark-top}
+use Rattle.stack.proofs.Graph.{part_room, top_written, mark_none, mark_top}
 use borrow.Author.Rules.{rules}
 use Rattle.stack.proofs.mark_top_overflow.Statement.{statement}
 use Rattle.stack.proofs.mark_top_overflow.Tie as tie
 
 returns : tie.Need-returns
-returns c = let s = c.before.before in mark-none s.args.goals s.args.height s.args.graph.now c.if1.true
+returns c = let s = c.before.before in mark_none s.args.goals s.args.height s.args.graph.now c.if1.true
 
 sub-frame-start : tie.Need-overflow-sub-frame-start
 sub-frame-start c = search rules
@@ -42,8 +42,8 @@ returns-2 c =
     let s = c.before.before.before.before.before.before.before.before in
     let b = c.before.before.mark-overflow in
     let lt : s.args.height - 1 < s.args.goals = omega arith in
-    let w = top-written s.args.goals s.args.graph.now (s.args.height - 1) c.before.before.before.before.before.frame-start.result c.before.before.before.before.frame-size.result s.requires.0 lt c.before.before.before.before.before.frame-start.ensures.0 c.before.before.before.before.frame-size.ensures b.new.0 b.auto.0 (λ (f : Frame). markOverflow f) b.ensures in
-    mark-top s.args.goals s.args.height s.args.graph.now _ (omega arith) w
+    let w = top_written s.args.goals s.args.graph.now (s.args.height - 1) c.before.before.before.before.before.frame-start.result c.before.before.before.before.frame-size.result s.requires.0 lt c.before.before.before.before.before.frame-start.ensures.0 c.before.before.before.before.frame-size.ensures b.new.0 b.auto.0 (λ (f : Frame). mark_overflow f) b.ensures in
+    mark_top s.args.goals s.args.height s.args.graph.now _ (omega arith) w
 
 pub mark-top-overflow-spec : {M : Type 1} → statement M
 mark-top-overflow-spec =

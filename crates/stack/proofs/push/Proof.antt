@@ -1,7 +1,7 @@
-use Rattle.definition.specs.Evaluate.{newFrame}
+use Rattle.definition.specs.Evaluate.{new_frame}
 use Rattle.layout.specs.Work.{stack_of}
-use Rattle.stack.proofs.Counts.{push-room, push-steps}
-use Rattle.stack.proofs.Graph.{part_room, frame-put}
+use Rattle.stack.proofs.Counts.{push_room, push_steps}
+use Rattle.stack.proofs.Graph.{part_room, frame_put}
 use borrow.Author.Rules.{rules}
 use Rattle.stack.proofs.push.Statement.{statement}
 use Rattle.stack.proofs.push.Tie as tie
@@ -12,7 +12,7 @@ steps-of-requires c κs = search rules
 with-requires : tie.Need-with-requires
 with-requires c κs =
     let s = c.before.before.before in
-    push-room s.args.goals s.args.height s.args.graph.now s.requires.0 c.steps_of.result c.steps_of.ensures
+    push_room s.args.goals s.args.height s.args.graph.now s.requires.0 c.steps_of.result c.steps_of.ensures
 
 frame-start-requires : tie.Need-frame-start-requires
 frame-start-requires c κs = search rules
@@ -46,11 +46,11 @@ returns c =
     let s = c.before.before.before.before.before.before.before.before.before.before in
     let b = c.before.before.start in
     let below = stack_of s.args.goals s.args.height s.args.graph.now in
-    frame-put s.args.goals s.args.graph.now s.args.height c.before.before.before.before.before.frame-start.result c.before.before.before.before.frame-size.result
+    frame_put s.args.goals s.args.graph.now s.args.height c.before.before.before.before.before.frame-start.result c.before.before.before.before.frame-size.result
     s.requires.0.bytes s.requires.1.0 c.before.before.before.before.before.frame-start.ensures.0 c.before.before.before.before.frame-size.ensures b.new.0 b.auto.0
-    (newFrame s.args.goals s.args.goal s.args.step s.args.available below)
+    (new_frame s.args.goals s.args.goal s.args.step s.args.available below)
     (b.ensures below
-    (push-steps s.args.goals s.args.height s.args.graph.now s.requires.0 c.before.before.before.before.before.before.before.steps_of.result c.before.before.before.before.before.before.before.steps_of.ensures
+    (push_steps s.args.goals s.args.height s.args.graph.now s.requires.0 c.before.before.before.before.before.before.before.steps_of.result c.before.before.before.before.before.before.before.steps_of.ensures
     s.args.step c.before.before.before.before.before.before.with.result c.before.before.before.before.before.before.with.ensures))
 
 pub push_spec : {M : Type 1} → statement M

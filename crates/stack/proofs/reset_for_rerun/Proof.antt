@@ -1,6 +1,6 @@
-use Rattle.definition.specs.Task.{rerunFrame}
+use Rattle.definition.specs.Task.{rerun_frame}
 use Rattle.definition.specs.Stack.{Frame}
-use Rattle.stack.proofs.Graph.{part_room, top-written}
+use Rattle.stack.proofs.Graph.{part_room, top_written}
 use borrow.Author.Rules.{rules}
 use Rattle.stack.proofs.reset_for_rerun.Statement.{statement}
 use Rattle.stack.proofs.reset_for_rerun.Tie as tie
@@ -33,7 +33,7 @@ returns : tie.Need-returns
 returns c =
     let s = c.before.before.before.before.before.before.before in
     let b = c.before.before.reset in
-    top-written s.args.goals s.args.graph.now s.args.own c.before.before.before.before.before.frame-start.result c.before.before.before.before.frame-size.result s.requires.0 s.requires.1 c.before.before.before.before.before.frame-start.ensures.0 c.before.before.before.before.frame-size.ensures b.new.0 b.auto.0 (λ (f : Frame). rerunFrame f s.args.answer) b.ensures
+    top_written s.args.goals s.args.graph.now s.args.own c.before.before.before.before.before.frame-start.result c.before.before.before.before.frame-size.result s.requires.0 s.requires.1 c.before.before.before.before.before.frame-start.ensures.0 c.before.before.before.before.frame-size.ensures b.new.0 b.auto.0 (λ (f : Frame). rerun_frame f s.args.answer) b.ensures
 
 pub reset-for-rerun-spec : {M : Type 1} → statement M
 reset-for-rerun-spec =

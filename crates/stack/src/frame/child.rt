@@ -1,12 +1,12 @@
 // What a nested goal leaves in its parent's frame: update_parent_goal of mod.rs, on one frame's
 // bytes.
 ghost use Rattle.std.specs.Prelude.{◌≡◌, false, ◌||◌, ◌<◌, min};
-ghost use Rattle.definition.specs.Usages.{oneUsage};
-ghost use Rattle.definition.specs.Parent.{addRest, Ordinary, CycleOnStack, ProvisionalCacheHit};
+ghost use Rattle.definition.specs.Usages.{one_usage};
+ghost use Rattle.definition.specs.Parent.{add_rest, Ordinary, CycleOnStack, ProvisionalCacheHit};
 ghost use Rattle.layout.specs.Frame.{truth};
 ghost use Rattle.stack.specs.Bytes.{FrameBytes, FrameChanged};
-ghost use Rattle.stack.specs.Child.{trackAt, joinAt, HeadBegun, useOwn, addHeadAt, cycleHead};
-ghost use Rattle.stack.specs.Child.{reachFrame, insertGoal, insertOwn, extendNested, finishNested};
+ghost use Rattle.stack.specs.Child.{track_at, join_at, HeadBegun, use_own, add_head_at, cycle_head};
+ghost use Rattle.stack.specs.Child.{reach_frame, insert_goal, insert_own, extend_nested, finish_nested};
 
 use crate::frame;
 use buffer::scalars;
@@ -20,7 +20,7 @@ use layout::{candidate, heads, nested, offsets, records};
 // The usages of the head at index i, in the candidate that the frame tracks, if any.
 fn track(frame: &mut [u8], goals: usize, i: usize, usages: HeadUsages)
     requires { FrameBytes goals frame.old × (i < goals) }
-    ensures { FrameChanged goals (trackAt i usages) frame.old frame.new }
+    ensures { FrameChanged goals (track_at i usages) frame.old frame.new }
 {
     if !frame::tracks(frame, goals) {
         return;
@@ -33,7 +33,7 @@ fn track(frame: &mut [u8], goals: usize, i: usize, usages: HeadUsages)
 // The head at index i, reached by one step more.
 fn join(frame: &mut [u8], goals: usize, step: PathKind, i: usize, head: CycleHead)
     requires { FrameBytes goals frame.old × (i < goals) }
-    ensures { FrameChanged goals (joinAt step i head) frame.old frame.new }
+    ensures { FrameChanged goals (join_at step i head) frame.old frame.new }
 {
     let paths = PathsToNested { bits: head.paths };
     let extended = paths.extend_with(step);
@@ -66,7 +66,7 @@ fn become_head(frame: &mut [u8], goals: usize)
 // The parent itself is used as a head.
 fn use_itself(frame: &mut [u8], goals: usize, usages: HeadUsages)
     requires { FrameBytes goals frame.old }
-    ensures { FrameChanged goals (useOwn usages) frame.old frame.new }
+    ensures { FrameChanged goals (use_own usages) frame.old frame.new }
 {
     become_head(frame, goals);
     records::count_nested(
@@ -85,7 +85,7 @@ pub fn add_head(
     head: CycleHead,
 )
     requires { FrameBytes goals frame.old × (i < goals) }
-    ensures { FrameChanged goals (addHeadAt step own i head) frame.old frame.new }
+    ensures { FrameChanged goals (add_head_at step own i head) frame.old frame.new }
 {
     let usages = head.usages;
     track(frame, goals, i, usages);
@@ -102,7 +102,7 @@ pub fn add_head(
 
 fn count_tracked(frame: &mut [u8], goals: usize, i: usize, kind: PathKind)
     requires { FrameBytes goals frame.old × (i < goals) }
-    ensures { FrameChanged goals (trackAt i (oneUsage kind)) frame.old frame.new }
+    ensures { FrameChanged goals (track_at i (one_usage kind)) frame.old frame.new }
 {
     if !frame::tracks(frame, goals) {
         return;
@@ -114,7 +114,7 @@ fn count_tracked(frame: &mut [u8], goals: usize, i: usize, kind: PathKind)
 
 fn count_joined(frame: &mut [u8], goals: usize, step: PathKind, i: usize, kind: PathKind)
     requires { FrameBytes goals frame.old × (i < goals) }
-    ensures { FrameChanged goals (joinAt step i (cycleHead step kind)) frame.old
+    ensures { FrameChanged goals (join_at step i (cycle_head step kind)) frame.old
         frame.new }
 {
     let end = offsets::candidate_start(goals);
@@ -129,7 +129,7 @@ fn count_joined(frame: &mut [u8], goals: usize, step: PathKind, i: usize, kind: 
 
 fn count_itself(frame: &mut [u8], goals: usize, kind: PathKind)
     requires { FrameBytes goals frame.old }
-    ensures { FrameChanged goals (useOwn (oneUsage kind)) frame.old frame.new }
+    ensures { FrameChanged goals (use_own (one_usage kind)) frame.old frame.new }
 {
     become_head(frame, goals);
     records::count_usage(
@@ -148,7 +148,7 @@ pub fn count_head(
     kind: PathKind,
 )
     requires { FrameBytes goals frame.old × (head < goals) }
-    ensures { FrameChanged goals (addHeadAt step own head (cycleHead step kind)) frame.old
+    ensures { FrameChanged goals (add_head_at step own head (cycle_head step kind)) frame.old
         frame.new }
 {
     count_tracked(frame, goals, head, kind);
@@ -185,7 +185,7 @@ fn lesser(a: u8, b: usize) -> u8
 // Overflow, and the depth that was reached.
 fn reach(frame: &mut [u8], goals: usize, overflow: bool, reached: usize)
     requires { FrameBytes goals frame.old }
-    ensures { FrameChanged goals (reachFrame overflow reached) frame.old frame.new }
+    ensures { FrameChanged goals (reach_frame overflow reached) frame.old frame.new }
 {
     frame[offsets::FRAME_OVERFLOW] = marked(frame[offsets::FRAME_OVERFLOW], overflow);
     frame[offsets::FRAME_REACHED] = lesser(frame[offsets::FRAME_REACHED], reached);
@@ -194,7 +194,7 @@ fn reach(frame: &mut [u8], goals: usize, overflow: bool, reached: usize)
 // Paths to a nested goal.
 fn insert_nested(frame: &mut [u8], goals: usize, goal: usize, paths: u8)
     requires { FrameBytes goals frame.old }
-    ensures { FrameChanged goals (insertGoal goal paths) frame.old frame.new }
+    ensures { FrameChanged goals (insert_goal goal paths) frame.old frame.new }
 {
     let start = offsets::nested_start(goals);
     let end = start + goals;
@@ -204,7 +204,7 @@ fn insert_nested(frame: &mut [u8], goals: usize, goal: usize, paths: u8)
 // The frame's own goal is among its nested goals.
 fn insert_itself(frame: &mut [u8], goals: usize)
     requires { FrameBytes goals frame.old }
-    ensures { FrameChanged goals insertOwn frame.old frame.new }
+    ensures { FrameChanged goals insert_own frame.old frame.new }
 {
     let goal = frame::input(frame, goals);
     insert_nested(frame, goals, goal, 1);
@@ -213,7 +213,7 @@ fn insert_itself(frame: &mut [u8], goals: usize)
 // The nested goals, with those of a child.
 fn extend(frame: &mut [u8], goals: usize, step: PathKind, child: &[u8])
     requires { FrameBytes goals frame.old }
-    ensures { FrameChanged goals (extendNested step child.now) frame.old
+    ensures { FrameChanged goals (extend_nested step child.now) frame.old
         frame.new }
 {
     let start = offsets::nested_start(goals);
@@ -232,7 +232,7 @@ pub fn add_ordinary(
     reached: usize,
 )
     requires { FrameBytes goals frame.old }
-    ensures { FrameChanged goals (addRest step overflow (Ordinary child.now) reached)
+    ensures { FrameChanged goals (add_rest step overflow (Ordinary child.now) reached)
         frame.old frame.new }
 {
     reach(frame, goals, overflow, reached);
@@ -247,7 +247,7 @@ pub fn add_ordinary(
 // goals.
 pub fn add_evaluated(frame: &mut [u8], goals: usize, overflow: bool, none: bool, reached: usize)
     requires { FrameBytes goals frame.old }
-    ensures { FrameChanged goals (finishNested overflow none reached) frame.old
+    ensures { FrameChanged goals (finish_nested overflow none reached) frame.old
         frame.new }
 {
     reach(frame, goals, overflow, reached);
@@ -260,7 +260,7 @@ pub fn add_evaluated(frame: &mut [u8], goals: usize, overflow: bool, none: bool,
 // Beside the heads, after a goal that was found in the provisional cache.
 pub fn add_entry(frame: &mut [u8], goals: usize, step: PathKind, overflow: bool, reached: usize)
     requires { FrameBytes goals frame.old }
-    ensures { FrameChanged goals (addRest step overflow ProvisionalCacheHit reached) frame.old
+    ensures { FrameChanged goals (add_rest step overflow ProvisionalCacheHit reached) frame.old
         frame.new }
 {
     reach(frame, goals, overflow, reached);
@@ -270,7 +270,7 @@ pub fn add_entry(frame: &mut [u8], goals: usize, step: PathKind, overflow: bool,
 // Beside the heads, after a goal that is on the stack.
 pub fn add_cycle(frame: &mut [u8], goals: usize, step: PathKind, goal: usize, reached: usize)
     requires { FrameBytes goals frame.old }
-    ensures { FrameChanged goals (addRest step false (CycleOnStack goal) reached) frame.old
+    ensures { FrameChanged goals (add_rest step false (CycleOnStack goal) reached) frame.old
         frame.new }
 {
     reach(frame, goals, false, reached);

@@ -1,8 +1,8 @@
 // The fields of a frame, its first eight bytes, as a record that is lent and changed in
 // place.
 ghost use Rattle.std.specs.Prelude.{◌≡◌, length, set};
-ghost use Rattle.layout.specs.Frame.{frameOverflow};
-ghost use Rattle.stack.specs.Records.{recordOf, bytes_of, flagByte, overflowed};
+ghost use Rattle.layout.specs.Frame.{frame_overflow};
+ghost use Rattle.stack.specs.Records.{record_of, bytes_of, flag_byte, overflowed};
 
 use layout::offsets;
 
@@ -20,7 +20,7 @@ pub struct FrameRecord {
 
 pub fn load(b: &[u8]) -> FrameRecord
     requires { length b.now ≡ 8 }
-    ensures { result ≡ recordOf b.now }
+    ensures { result ≡ record_of b.now }
 {
     FrameRecord {
         input: b[offsets::FRAME_INPUT],
@@ -35,7 +35,7 @@ pub fn load(b: &[u8]) -> FrameRecord
 }
 
 fn flag(b: bool) -> u8
-    ensures { result ≡ flagByte b }
+    ensures { result ≡ flag_byte b }
 {
     if b {
         return 1;
@@ -76,7 +76,7 @@ pub fn marked(r: FrameRecord) -> FrameRecord
 // The mark on a frame's first eight bytes.
 pub fn mark_bytes(b: &mut [u8])
     requires { length b.old ≡ 8 }
-    ensures { b.new ≡ set b.old frameOverflow 1 }
+    ensures { b.new ≡ set b.old frame_overflow 1 }
 {
     let f = marked(load(b));
     store(b, f);

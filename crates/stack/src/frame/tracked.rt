@@ -2,17 +2,17 @@
 // enter_single_candidate, finish_single_candidate and ignore_candidate_head_usages of mod.rs.
 ghost use Rattle.std.specs.Prelude.{◌≡◌, ◌<◌, get_or};
 ghost use Rattle.std.proofs.Math.Option.{none, some};
-ghost use Rattle.definition.specs.Usages.{noUsages, usagesCover};
-ghost use Rattle.definition.specs.Heads.{usagesAt};
-ghost use Rattle.definition.specs.Stack.{withCandidateUsages};
-ghost use Rattle.definition.specs.Parent.{orNoUsages};
-ghost use Rattle.definition.specs.Candidates.{noCandidateUsages};
+ghost use Rattle.definition.specs.Usages.{no_usages, usages_cover};
+ghost use Rattle.definition.specs.Heads.{usages_at};
+ghost use Rattle.definition.specs.Stack.{with_candidate_usages};
+ghost use Rattle.definition.specs.Parent.{or_no_usages};
+ghost use Rattle.definition.specs.Candidates.{no_candidate_usages};
 ghost use Rattle.buffer.specs.Regions.{region};
-ghost use Rattle.layout.specs.Blocks.{blockSize};
-ghost use Rattle.layout.specs.Frame.{candidateStart, frame_of};
+ghost use Rattle.layout.specs.Blocks.{block_size};
+ghost use Rattle.layout.specs.Frame.{candidate_start, frame_of};
 ghost use Rattle.stack.specs.Bytes.{FrameBytes, FrameChanged};
 ghost use Rattle.layout.specs.AtIndex.{Names};
-ghost use Rattle.stack.specs.Tracked.{trackedOf, ignoreHeadAt, ignoreOwn};
+ghost use Rattle.stack.specs.Tracked.{tracked_of, ignore_head_at, ignore_own};
 
 use crate::frame;
 use definition::usages::HeadUsages;
@@ -21,7 +21,7 @@ use layout::{candidate, heads, offsets, records};
 // enter_single_candidate
 pub fn enter(frame: &mut [u8], goals: usize)
     requires { FrameBytes goals frame.old }
-    ensures { FrameChanged goals (λ f. withCandidateUsages f (some (noCandidateUsages goals)))
+    ensures { FrameChanged goals (λ f. with_candidate_usages f (some (no_candidate_usages goals)))
         frame.old frame.new }
 {
     let start = offsets::candidate_start(goals);
@@ -33,7 +33,7 @@ pub fn enter(frame: &mut [u8], goals: usize)
 // finish_single_candidate, which forgets the candidate's usages
 pub fn finish(frame: &mut [u8], goals: usize)
     requires { FrameBytes goals frame.old }
-    ensures { FrameChanged goals (λ f. withCandidateUsages f none) frame.old frame.new }
+    ensures { FrameChanged goals (λ f. with_candidate_usages f none) frame.old frame.new }
 {
     frame[offsets::FRAME_TRACKS] = 0;
 }
@@ -41,7 +41,7 @@ pub fn finish(frame: &mut [u8], goals: usize)
 // The block of the candidate's usages.
 fn block(frame: &[u8], goals: usize) -> &[u8]
     requires { FrameBytes goals frame.now }
-    ensures { result.now ≡ region (candidateStart goals) (blockSize goals) frame.now }
+    ensures { result.now ≡ region (candidate_start goals) (block_size goals) frame.now }
 {
     let start = offsets::candidate_start(goals);
     let end = offsets::nested_start(goals);
@@ -51,7 +51,7 @@ fn block(frame: &[u8], goals: usize) -> &[u8]
 // The indices that the candidate used.
 pub fn mask(frame: &[u8], goals: usize) -> u64
     requires { FrameBytes goals frame.now }
-    ensures { Names goals result (trackedOf goals (frame_of goals frame.now)) }
+    ensures { Names goals result (tracked_of goals (frame_of goals frame.now)) }
 {
     if !frame::tracks(frame, goals) {
         return 0;
@@ -62,7 +62,7 @@ pub fn mask(frame: &[u8], goals: usize) -> u64
 // How the candidate used the head at index i; not at all where the frame tracks none.
 pub fn usages(frame: &[u8], goals: usize, i: usize) -> HeadUsages
     requires { FrameBytes goals frame.now × (i < goals) }
-    ensures { result ≡ get_or (trackedOf goals (frame_of goals frame.now)) i noUsages }
+    ensures { result ≡ get_or (tracked_of goals (frame_of goals frame.now)) i no_usages }
 {
     if !frame::tracks(frame, goals) {
         return HeadUsages::none();
@@ -73,7 +73,7 @@ pub fn usages(frame: &[u8], goals: usize, i: usize) -> HeadUsages
 // Whether the usages u can be taken from the head at index i.
 pub fn head_covers(frame: &[u8], goals: usize, i: usize, u: HeadUsages) -> bool
     requires { FrameBytes goals frame.now × (i < goals) }
-    ensures { result ≡ usagesCover (usagesAt (frame_of goals frame.now).heads i) u }
+    ensures { result ≡ usages_cover (usages_at (frame_of goals frame.now).heads i) u }
 {
     let usages = heads::usages(frame::heads(frame, goals), goals, i);
     usages.covers(u)
@@ -82,7 +82,7 @@ pub fn head_covers(frame: &[u8], goals: usize, i: usize, u: HeadUsages) -> bool
 // Whether the usages u can be taken from the frame's own.
 pub fn own_covers(frame: &[u8], goals: usize, u: HeadUsages) -> bool
     requires { FrameBytes goals frame.now }
-    ensures { result ≡ usagesCover (orNoUsages (frame_of goals frame.now).usages) u }
+    ensures { result ≡ usages_cover (or_no_usages (frame_of goals frame.now).usages) u }
 {
     let usages = frame::own_usages(frame, goals);
     usages.covers(u)
@@ -91,7 +91,7 @@ pub fn own_covers(frame: &[u8], goals: usize, u: HeadUsages) -> bool
 // The usages u are taken from the head at index i, if there is one.
 pub fn ignore_head(frame: &mut [u8], goals: usize, i: usize, u: HeadUsages)
     requires { FrameBytes goals frame.old × (i < goals) }
-    ensures { FrameChanged goals (ignoreHeadAt i u) frame.old frame.new }
+    ensures { FrameChanged goals (ignore_head_at i u) frame.old frame.new }
 {
     let end = offsets::candidate_start(goals);
     heads::ignore(&mut frame[offsets::FRAME_HEADS..end], goals, i, u);
@@ -100,7 +100,7 @@ pub fn ignore_head(frame: &mut [u8], goals: usize, i: usize, u: HeadUsages)
 // The usages u are taken from the frame's own, if it is a head.
 pub fn ignore_own(frame: &mut [u8], goals: usize, u: HeadUsages)
     requires { FrameBytes goals frame.old }
-    ensures { FrameChanged goals (ignoreOwn u) frame.old frame.new }
+    ensures { FrameChanged goals (ignore_own u) frame.old frame.new }
 {
     if !frame::is_head(frame, goals) {
         return;

@@ -1,6 +1,6 @@
-use Rattle.evaluation.proofs.Outcomes.{few-done}
-use Rattle.task.proofs.Counts.{answered-stack}
-use Rattle.task.proofs.Turns.{turn_stopped, turn-done}
+use Rattle.evaluation.proofs.Outcomes.{few_done}
+use Rattle.task.proofs.Counts.{answered_stack}
+use Rattle.task.proofs.Turns.{turn_stopped, turn_done}
 use borrow.Author.Rules.{rules}
 use Rattle.task.proofs.end_iteration.Statement.{statement}
 use Rattle.task.proofs.end_iteration.Tie as tie
@@ -15,9 +15,9 @@ followed-requires : tie.Need-followed-requires
 followed-requires c κs =
     let s = c.before.before.before.before.before in
     let o = c.before.before.o2.given in (
-      answered-stack s.args.goals s.args.height s.args.graph.now s.args.o s.requires o.0.0
+      answered_stack s.args.goals s.args.height s.args.graph.now s.args.o s.requires o.0.0
           o.0.1.0 o.1,
-      (s.requires.low, few-done s.args.goals s.args.o o.0.0 o.0.1.0 o.1 s.requires.few),
+      (s.requires.low, few_done s.args.goals s.args.o o.0.0 o.0.1.0 o.1 s.requires.few),
     )
 
 returns : tie.Need-returns
@@ -34,7 +34,7 @@ returns-2 c =
     let a = c.before.before.before.before.before.before.before.before.args in
     let y = c.before.before.followed in
     let o = c.before.before.before.before.before.o2.given in
-    turn-done a.goals a.height a.left a.overflow a.graph.now a.o o.0.0 o.0.1.0 o.1
+    turn_done a.goals a.height a.left a.overflow a.graph.now a.o o.0.0 o.0.1.0 o.1
     y.new.0
     y.result y.ensures
 

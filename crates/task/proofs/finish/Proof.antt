@@ -1,8 +1,8 @@
 use mathlib.Core.Path.{◌∙◌}
-use Rattle.stack.proofs.Graph.{frame-bytes}
-use Rattle.task.proofs.Counts.{ended-stack, parent-counts}
-use Rattle.task.proofs.Nested.{required-is}
-use Rattle.task.proofs.Insertions.{finish-stopped, finish-evaluated, few-evaluated}
+use Rattle.stack.proofs.Graph.{frame_bytes_lem}
+use Rattle.task.proofs.Counts.{ended_stack, parent_counts}
+use Rattle.task.proofs.Nested.{required_is}
+use Rattle.task.proofs.Insertions.{finish_stopped, finish_evaluated, few_evaluated}
 use borrow.Author.Rules.{rules}
 use Rattle.task.proofs.finish.Statement.{statement}
 use Rattle.task.proofs.finish.Tie as tie
@@ -20,7 +20,7 @@ required-depth-requires : tie.Need-required-depth-requires
 required-depth-requires c κs =
     let s = c.before.before.before.before.before.before.before in
     let frame_at = c.frame_at in
-    frame-bytes s.args.h.goals s.args.graph.now frame_at.result.now s.args.height s.requires.bytes s.requires.under
+    frame_bytes_lem s.args.h.goals s.args.graph.now frame_at.result.now s.args.height s.requires.bytes s.requires.under
     frame_at.ensures
 
 minus-requires : tie.Need-minus-requires
@@ -39,14 +39,14 @@ result-requires c κs =
       record {
         room =
             record {
-              stack = parent-counts a.h.goals a.height a.step _ _ a.graph.now y.new.0
-                  (ended-stack a.h a.height a.goal a.graph.now a.cache.now a.ran s.requires o.0.0 o.0.1.0 o.0.1.1.0 o.1)
+              stack = parent_counts a.h.goals a.height a.step _ _ a.graph.now y.new.0
+                  (ended_stack a.h a.height a.goal a.graph.now a.cache.now a.ran s.requires o.0.0 o.0.1.0 o.0.1.1.0 o.1)
                   y.auto.0 y.ensures;
               under = s.requires.under;
               known = s.requires.known;
-              few = few-evaluated a.h.goals a.ran.outcome o.0.0 o.0.1.0 o.0.1.1.0 o.1 s.requires.few;
+              few = few_evaluated a.h.goals a.ran.outcome o.0.0 o.0.1.0 o.0.1.1.0 o.1 s.requires.few;
             };
-        cache-bytes = s.requires.cache-bytes;
+        cache_bytes = s.requires.cache_bytes;
       },
       s.requires.passes,
     )
@@ -57,7 +57,7 @@ returns c =
     let o = c.before.o in
     record {
       is =
-          λ root. finish-stopped a.h root a.height a.goal a.available a.step a.ran.passes a.graph.now a.cache.now a.ran.outcome
+          λ root. finish_stopped a.h root a.height a.goal a.available a.step a.ran.passes a.graph.now a.cache.now a.ran.outcome
           o.given.0.0 o.given.1;
       few = tt;
     }
@@ -83,9 +83,9 @@ returns-2 c =
     record {
       is =
           λ root. z.ensures.is root
-          ∙ finish-evaluated a.h root a.height a.goal a.available a.step a.ran.passes a.graph.now a.cache.now a.ran.outcome o.0.0
+          ∙ finish_evaluated a.h root a.height a.goal a.available a.step a.ran.passes a.graph.now a.cache.now a.ran.outcome o.0.0
           o.0.1.0 o.0.1.1.0 o.1 d.result minus.result
-          (required-is a.h.goals a.height a.graph.now frame_at.result.now d.result frame_at.ensures d.ensures.0)
+          (required_is a.h.goals a.height a.graph.now frame_at.result.now d.result frame_at.ensures d.ensures.0)
           minus.ensures y.new.0 y.ensures;
       few = z.ensures.few;
     }

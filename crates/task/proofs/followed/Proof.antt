@@ -2,10 +2,10 @@ use mathlib.Core.Bool.{◌||◌}
 use mathlib.Core.Path.{◌≡◌}
 use Prim.Native.Nat.{◌-◌}
 use native.Mathlib.Omega.{arith}
-use Rattle.definition.specs.Endings.{endingOf}
-use Rattle.stack.specs.Bytes.{FrameBytes, frameAt}
-use Rattle.stack.proofs.Graph.{frame-bytes}
-use Rattle.task.proofs.Turns.{met-is, ending-is, follows, follows-limit, not-limit}
+use Rattle.definition.specs.Endings.{ending_of}
+use Rattle.stack.specs.Bytes.{FrameBytes, frame_at}
+use Rattle.stack.proofs.Graph.{frame_bytes_lem}
+use Rattle.task.proofs.Turns.{met_is, ending_is, follows, follows_limit, not_limit}
 use borrow.Author.Rules.{rules}
 use Rattle.task.proofs.followed.Statement.{statement}
 use Rattle.task.proofs.followed.Tie as tie
@@ -22,27 +22,27 @@ bytes c =
     let s = begun c in
     let high = s.pre.0.high in
     let low = s.pre.1.0 in
-    frame-bytes s.args.goals s.args.graph.now c.frame_at.result.now (s.args.height - 1)
+    frame_bytes_lem s.args.goals s.args.graph.now c.frame_at.result.now (s.args.height - 1)
     s.pre.0.bytes
     (omega arith) c.frame_at.ensures
 
 met : (c : tie.After-ending-of)
     → let a = (begun (read c)).args in
-    c.before.either.result ≡ (a.overflow || (frameAt a.goals (a.height - 1) a.graph.now).encounteredOverflow)
+    c.before.either.result ≡ (a.overflow || (frame_at a.goals (a.height - 1) a.graph.now).encountered_overflow)
 met c =
     let a = (begun (read c)).args in
     let overflow = c.before.before.overflow in
     let frame_at = (read c).frame_at in
-    met-is a.goals (a.height - 1) a.graph.now frame_at.result.now a.overflow overflow.result
+    met_is a.goals (a.height - 1) a.graph.now frame_at.result.now a.overflow overflow.result
     c.before.either.result frame_at.ensures overflow.ensures c.before.either.ensures
 
 applies : (c : tie.After-ending-of)
     → let a = (begun (read c)).args in
-    c.Ending-of.result ≡ endingOf a.left (frameAt a.goals (a.height - 1) a.graph.now) a.answer
+    c.Ending-of.result ≡ ending_of a.left (frame_at a.goals (a.height - 1) a.graph.now) a.answer
 applies c =
     let a = (begun (read c)).args in
     let frame_at = (read c).frame_at in
-    ending-is a.goals (a.height - 1) a.left a.graph.now frame_at.result.now a.answer
+    ending_is a.goals (a.height - 1) a.left a.graph.now frame_at.result.now a.answer
     c.Ending-of.result
     frame_at.ensures c.Ending-of.ensures
 
@@ -72,7 +72,7 @@ popped-requires-2 : tie.Need-popped-requires-2
 popped-requires-2 c κs =
     let s = begun (read c.before.before) in
     let e = c.before.before.Ending-of.result in
-    (s.pre.0, (s.pre.1.0, (s.pre.1.1, λ is. absurd (not-limit e c.before.match.keys2 is))))
+    (s.pre.0, (s.pre.1.0, (s.pre.1.1, λ is. absurd (not_limit e c.before.match.keys2 is))))
 
 same_length : tie.Need-same-length
 same_length c = search rules
@@ -84,7 +84,7 @@ returns c =
     let s = begun (read c0) in
     let a = s.args in
     let y = c.before.before.popped in
-    follows-limit a.goals a.height a.entries a.left a.overflow a.answer a.graph.now
+    follows_limit a.goals a.height a.entries a.left a.overflow a.answer a.graph.now
     s.pre.1.0 _ (met c0) _
     (applies c0) y.new.0 y.result told.enum_told.given.1 y.ensures
 

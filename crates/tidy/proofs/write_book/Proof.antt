@@ -4,8 +4,8 @@ use native.Mathlib.Omega.{arith}
 use lib.ListN.{length}
 use borrow.Author.Rules.{rules}
 use Rattle.tidy.proofs.Places.{lent_length}
-use Rattle.tidy.proofs.Turns.{line-length}
-use Rattle.tidy.proofs.Goals.{Writes, all-kept, all-written, book-few, book-room, few-goals, first-goal, goal-starts, goals-less, goals-within, header-written, next-goals, next-kept, next-less, next-within}
+use Rattle.tidy.proofs.Turns.{line_length}
+use Rattle.tidy.proofs.Goals.{Writes, all_kept, all_written, book_few, book_room, few_goals, first_goal, goal_starts, goals_less, goals_within, header_written, next_goals, next_kept, next_less, next_within}
 use Rattle.tidy.proofs.write_book.Statement.{statement}
 use Rattle.tidy.proofs.write_book.Tie as tie
 
@@ -16,18 +16,18 @@ abbrev decreases-loop : tie.decreases-loop
 decreases-loop book out₀ goals read₀ wrote₀ g₀ out read wrote g = goals - g
 
 first-requires : tie.Need-first-requires invariant-loop decreases-loop
-first-requires c κs = let a = c.before.before.before in book-room a.args.book.now a.args.goals a.requires.0
+first-requires c κs = let a = c.before.before.before in book_room a.args.book.now a.args.goals a.requires.0
 
 write-requires : tie.Need-write-requires invariant-loop decreases-loop
-write-requires c κs = let a = c.before.before.before.before in omega (arith, a.requires.1, book-room a.args.book.now a.args.goals a.requires.0)
+write-requires c κs = let a = c.before.before.before.before in omega (arith, a.requires.1, book_room a.args.book.now a.args.goals a.requires.0)
 
 loop-holds : tie.Need-loop-init invariant-loop decreases-loop
 loop-holds c =
     let a = c.before.before.before.before.before.before.before in
     let f = c.before.before.before in
     let w = c.before.before.write in (
-      ap length w.ensures ∙ line-length f.first.result a.args.out.now (omega (arith, a.requires.1, book-room a.args.book.now a.args.goals a.requires.0)) ∙ a.requires.1,
-      first-goal a.args.book.now a.args.goals a.requires.0 f.first.result f.first.ensures a.args.out.now w.new.0 w.ensures,
+      ap length w.ensures ∙ line_length f.first.result a.args.out.now (omega (arith, a.requires.1, book_room a.args.book.now a.args.goals a.requires.0)) ∙ a.requires.1,
+      first_goal a.args.book.now a.args.goals a.requires.0 f.first.result f.first.ensures a.args.out.now w.new.0 w.ensures,
     )
 
 sub-write-goal : tie.Need-overflow-sub-write-goal invariant-loop decreases-loop
@@ -35,14 +35,14 @@ sub-write-goal c =
     let x = c in
     let l = x.before.loop in
     let a = x.before.before.before.before.before.before.before.before.before in
-    goals-within a.args.book.now a.args.goals a.requires.0 l.out l.read l.wrote l.g l.invariant.1
+    goals_within a.args.book.now a.args.goals a.requires.0 l.out l.read l.wrote l.g l.invariant.1
 
 part-write-goal-start : tie.Need-slice-bounds-write-goal-start invariant-loop decreases-loop
 part-write-goal-start c =
     let x = c in
     let l = x.before.loop in
     let a = x.before.before.before.before.before.before.before.before.before in
-    goals-within a.args.book.now a.args.goals a.requires.0 l.out l.read l.wrote l.g l.invariant.1
+    goals_within a.args.book.now a.args.goals a.requires.0 l.out l.read l.wrote l.g l.invariant.1
 
 part-write-goal-end : tie.Need-slice-bounds-write-goal-end invariant-loop decreases-loop
 part-write-goal-end c = search rules
@@ -52,14 +52,14 @@ sub-write-goal-2 c =
     let x = c.before in
     let l = x.before.loop in
     let a = x.before.before.before.before.before.before.before.before.before in
-    omega (arith, goals-within a.args.book.now a.args.goals a.requires.0 l.out l.read l.wrote l.g l.invariant.1, goals-less a.args.book.now a.args.goals a.requires.0 l.out l.read l.wrote l.g l.invariant.1, l.invariant.0)
+    omega (arith, goals_within a.args.book.now a.args.goals a.requires.0 l.out l.read l.wrote l.g l.invariant.1, goals_less a.args.book.now a.args.goals a.requires.0 l.out l.read l.wrote l.g l.invariant.1, l.invariant.0)
 
 part-write-goal-start-2 : tie.Need-slice-bounds-write-goal-start-2 invariant-loop decreases-loop
 part-write-goal-start-2 c =
     let x = c.before in
     let l = x.before.loop in
     let a = x.before.before.before.before.before.before.before.before.before in
-    omega (arith, goals-within a.args.book.now a.args.goals a.requires.0 l.out l.read l.wrote l.g l.invariant.1, goals-less a.args.book.now a.args.goals a.requires.0 l.out l.read l.wrote l.g l.invariant.1, l.invariant.0)
+    omega (arith, goals_within a.args.book.now a.args.goals a.requires.0 l.out l.read l.wrote l.g l.invariant.1, goals_less a.args.book.now a.args.goals a.requires.0 l.out l.read l.wrote l.g l.invariant.1, l.invariant.0)
 
 part-write-goal-end-2 : tie.Need-slice-bounds-write-goal-end-2 invariant-loop decreases-loop
 part-write-goal-end-2 c = search rules
@@ -69,18 +69,18 @@ cast-write-goal c =
     let x = c.before.before in
     let l = x.before.loop in
     let a = x.before.before.before.before.before.before.before.before.before in
-    record { fits = omega (arith, x.loop-test.true, few-goals a.args.book.now a.args.goals a.requires.0) }
+    record { fits = omega (arith, x.loop-test.true, few_goals a.args.book.now a.args.goals a.requires.0) }
 
 write-goal-requires : tie.Need-write-goal-requires invariant-loop decreases-loop
 write-goal-requires c κs =
     let x = c.before.before in
     let l = x.before.loop in
     let a = x.before.before.before.before.before.before.before.before.before in
-    let s = lent_length a.args.book.now l.read (goals-within a.args.book.now a.args.goals a.requires.0 l.out l.read l.wrote l.g l.invariant.1) in (
-      goal-starts a.args.book.now a.args.goals a.requires.0 l.out l.read l.wrote l.g l.invariant.1 x.loop-test.true,
+    let s = lent_length a.args.book.now l.read (goals_within a.args.book.now a.args.goals a.requires.0 l.out l.read l.wrote l.g l.invariant.1) in (
+      goal_starts a.args.book.now a.args.goals a.requires.0 l.out l.read l.wrote l.g l.invariant.1 x.loop-test.true,
       (
-        omega (arith, s, lent_length l.out l.wrote (omega (arith, goals-within a.args.book.now a.args.goals a.requires.0 l.out l.read l.wrote l.g l.invariant.1, goals-less a.args.book.now a.args.goals a.requires.0 l.out l.read l.wrote l.g l.invariant.1, l.invariant.0)), goals-less a.args.book.now a.args.goals a.requires.0 l.out l.read l.wrote l.g l.invariant.1, l.invariant.0),
-        omega (arith, s, header-written a.args.book.now a.args.goals a.requires.0 l.out l.read l.wrote l.g l.invariant.1, goals-less a.args.book.now a.args.goals a.requires.0 l.out l.read l.wrote l.g l.invariant.1, book-few a.args.book.now a.args.goals a.requires.0),
+        omega (arith, s, lent_length l.out l.wrote (omega (arith, goals_within a.args.book.now a.args.goals a.requires.0 l.out l.read l.wrote l.g l.invariant.1, goals_less a.args.book.now a.args.goals a.requires.0 l.out l.read l.wrote l.g l.invariant.1, l.invariant.0)), goals_less a.args.book.now a.args.goals a.requires.0 l.out l.read l.wrote l.g l.invariant.1, l.invariant.0),
+        omega (arith, s, header_written a.args.book.now a.args.goals a.requires.0 l.out l.read l.wrote l.g l.invariant.1, goals_less a.args.book.now a.args.goals a.requires.0 l.out l.read l.wrote l.g l.invariant.1, book_few a.args.book.now a.args.goals a.requires.0),
       ),
     )
 
@@ -90,7 +90,7 @@ add_read c =
     let l = x.before.loop in
     let a = x.before.before.before.before.before.before.before.before.before in
     let w = c.before.before.before.write-goal in
-    omega (arith, next-within a.args.book.now a.args.goals a.requires.0 l.out l.read l.wrote l.g l.invariant.1 x.loop-test.true l.invariant.0 w.new.1.0 w.result w.ensures, goals-within a.args.book.now a.args.goals a.requires.0 l.out l.read l.wrote l.g l.invariant.1, book-few a.args.book.now a.args.goals a.requires.0)
+    omega (arith, next_within a.args.book.now a.args.goals a.requires.0 l.out l.read l.wrote l.g l.invariant.1 x.loop-test.true l.invariant.0 w.new.1.0 w.result w.ensures, goals_within a.args.book.now a.args.goals a.requires.0 l.out l.read l.wrote l.g l.invariant.1, book_few a.args.book.now a.args.goals a.requires.0)
 
 add-wrote : tie.Need-overflow-add-wrote invariant-loop decreases-loop
 add-wrote c =
@@ -98,14 +98,14 @@ add-wrote c =
     let l = x.before.loop in
     let a = x.before.before.before.before.before.before.before.before.before in
     let w = c.before.before.before.before.write-goal in
-    omega (arith, next-within a.args.book.now a.args.goals a.requires.0 l.out l.read l.wrote l.g l.invariant.1 x.loop-test.true l.invariant.0 w.new.1.0 w.result w.ensures, next-less a.args.book.now a.args.goals a.requires.0 l.out l.read l.wrote l.g l.invariant.1 x.loop-test.true l.invariant.0 w.new.1.0 w.result w.ensures, goals-within a.args.book.now a.args.goals a.requires.0 l.out l.read l.wrote l.g l.invariant.1, goals-less a.args.book.now a.args.goals a.requires.0 l.out l.read l.wrote l.g l.invariant.1, book-few a.args.book.now a.args.goals a.requires.0)
+    omega (arith, next_within a.args.book.now a.args.goals a.requires.0 l.out l.read l.wrote l.g l.invariant.1 x.loop-test.true l.invariant.0 w.new.1.0 w.result w.ensures, next_less a.args.book.now a.args.goals a.requires.0 l.out l.read l.wrote l.g l.invariant.1 x.loop-test.true l.invariant.0 w.new.1.0 w.result w.ensures, goals_within a.args.book.now a.args.goals a.requires.0 l.out l.read l.wrote l.g l.invariant.1, goals_less a.args.book.now a.args.goals a.requires.0 l.out l.read l.wrote l.g l.invariant.1, book_few a.args.book.now a.args.goals a.requires.0)
 
 add-g : tie.Need-overflow-add-g invariant-loop decreases-loop
 add-g c =
     let x = c.before.before.before.before.before.before.before in
     let l = x.before.loop in
     let a = x.before.before.before.before.before.before.before.before.before in
-    omega (arith, x.loop-test.true, few-goals a.args.book.now a.args.goals a.requires.0)
+    omega (arith, x.loop-test.true, few_goals a.args.book.now a.args.goals a.requires.0)
 
 loop-less : tie.Need-loop-smaller invariant-loop decreases-loop
 loop-less c =
@@ -120,21 +120,21 @@ loop-again c =
     let l = x.before.loop in
     let a = x.before.before.before.before.before.before.before.before.before in
     let w = c.before.before.before.before.write-goal in
-    (next-kept a.args.book.now a.args.goals a.requires.0 l.out l.read l.wrote l.g l.invariant.1 x.loop-test.true l.invariant.0 w.new.1.0 w.result w.ensures ∙ l.invariant.0, next-goals a.args.book.now a.args.goals a.requires.0 l.out l.read l.wrote l.g l.invariant.1 x.loop-test.true l.invariant.0 w.new.1.0 w.result w.ensures)
+    (next_kept a.args.book.now a.args.goals a.requires.0 l.out l.read l.wrote l.g l.invariant.1 x.loop-test.true l.invariant.0 w.new.1.0 w.result w.ensures ∙ l.invariant.0, next_goals a.args.book.now a.args.goals a.requires.0 l.out l.read l.wrote l.g l.invariant.1 x.loop-test.true l.invariant.0 w.new.1.0 w.result w.ensures)
 
 sub-fill-zero : tie.Need-overflow-sub-fill-zero invariant-loop decreases-loop
 sub-fill-zero c =
     let x = c in
     let l = x.before.loop in
     let a = x.before.before.before.before.before.before.before.before.before in
-    omega (arith, goals-within a.args.book.now a.args.goals a.requires.0 l.out l.read l.wrote l.g l.invariant.1, goals-less a.args.book.now a.args.goals a.requires.0 l.out l.read l.wrote l.g l.invariant.1, l.invariant.0)
+    omega (arith, goals_within a.args.book.now a.args.goals a.requires.0 l.out l.read l.wrote l.g l.invariant.1, goals_less a.args.book.now a.args.goals a.requires.0 l.out l.read l.wrote l.g l.invariant.1, l.invariant.0)
 
 part-fill-zero-start : tie.Need-slice-bounds-fill-zero-start invariant-loop decreases-loop
 part-fill-zero-start c =
     let x = c in
     let l = x.before.loop in
     let a = x.before.before.before.before.before.before.before.before.before in
-    omega (arith, goals-within a.args.book.now a.args.goals a.requires.0 l.out l.read l.wrote l.g l.invariant.1, goals-less a.args.book.now a.args.goals a.requires.0 l.out l.read l.wrote l.g l.invariant.1, l.invariant.0)
+    omega (arith, goals_within a.args.book.now a.args.goals a.requires.0 l.out l.read l.wrote l.g l.invariant.1, goals_less a.args.book.now a.args.goals a.requires.0 l.out l.read l.wrote l.g l.invariant.1, l.invariant.0)
 
 part-fill-zero-end : tie.Need-slice-bounds-fill-zero-end invariant-loop decreases-loop
 part-fill-zero-end c = search rules
@@ -147,14 +147,14 @@ same_length c =
     let x = c.before.before.before.before in
     let l = x.before.loop in
     let a = x.before.before.before.before.before.before.before.before.before in
-    all-kept a.args.book.now a.args.goals a.requires.0 l.out l.read l.wrote l.g l.invariant.1 x.loop-test.false l.invariant.0 a.args.out.now c.before.before.fill-zero.new.0 (l.invariant.0 ∙ sym a.requires.1) c.before.before.fill-zero.ensures ∙ l.invariant.0 ∙ sym a.requires.1
+    all_kept a.args.book.now a.args.goals a.requires.0 l.out l.read l.wrote l.g l.invariant.1 x.loop-test.false l.invariant.0 a.args.out.now c.before.before.fill-zero.new.0 (l.invariant.0 ∙ sym a.requires.1) c.before.before.fill-zero.ensures ∙ l.invariant.0 ∙ sym a.requires.1
 
 returns : tie.Need-returns invariant-loop decreases-loop
 returns c =
     let x = c.before.before.before.before in
     let l = x.before.loop in
     let a = x.before.before.before.before.before.before.before.before.before in
-    all-written a.args.book.now a.args.goals a.requires.0 l.out l.read l.wrote l.g l.invariant.1 x.loop-test.false l.invariant.0 a.args.out.now c.before.before.fill-zero.new.0 (l.invariant.0 ∙ sym a.requires.1) c.before.before.fill-zero.ensures
+    all_written a.args.book.now a.args.goals a.requires.0 l.out l.read l.wrote l.g l.invariant.1 x.loop-test.false l.invariant.0 a.args.out.now c.before.before.fill-zero.new.0 (l.invariant.0 ∙ sym a.requires.1) c.before.before.fill-zero.ensures
 
 pub write-book-spec : {M : Type 1} → statement M
 write-book-spec =

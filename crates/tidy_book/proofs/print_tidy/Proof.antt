@@ -23,7 +23,7 @@ cast-n c = search rules
 
 -- the bytes used are bytes of the output
 within : {bytes before after : List ℕ} {r : Response} → Promises bytes before (replied r after) → (n : ℕ) → r ≡ Written n → n ≤ length after
-within p n e = let u = p.accepted n e in omega (arith, u.as_long, u.not-longer)
+within p n e = let u = p.accepted n e in omega (arith, u.as_long, u.not_longer)
 
 slice-reshare-prefix-write-all : tie.Need-slice-reshare-prefix-write-all
 slice-reshare-prefix-write-all c =

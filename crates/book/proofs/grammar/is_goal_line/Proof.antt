@@ -1,9 +1,9 @@
 use borrow.Author.Rules.{rules}
 use mathlib.Core.Path.{ap, ◌∙◌}
-use Rattle.book.specs.Lines.{lineIn}
+use Rattle.book.specs.Lines.{line_in}
 use Rattle.book.specs.Codes.{code_of}
-use Rattle.book.proofs.Codes.{isGoal}
-use Rattle.book.proofs.Sizes.{no-goal-line, by-goal}
+use Rattle.book.proofs.Codes.{is_goal}
+use Rattle.book.proofs.Sizes.{no_goal_line, by_goal}
 use Rattle.book.proofs.grammar.is_goal_line.Statement.{statement}
 use Rattle.book.proofs.grammar.is_goal_line.Tie as tie
 
@@ -35,52 +35,52 @@ enum-told-6 : tie.Need-enum-told-6
 enum-told-6 c = search rules
 
 returns : tie.Need-returns
-unfolding lineIn
+unfolding line_in
 returns c =
     let a = c.before.before.before.before.before.before.args in
     let number = c.before.before.before.before.field_at in
     let is = c.before.before.before.of_number.ensures ∙ ap code_of number.ensures in
-    c.goal-fits.ensures ∙ by-goal (lineIn a.s.now) a.goal _ is c.before.enum_told.given.1
+    c.goal-fits.ensures ∙ by_goal (line_in a.s.now) a.goal _ is c.before.enum_told.given.1
 
 returns-2 : tie.Need-returns-2
-unfolding lineIn
+unfolding line_in
 returns-2 c =
     let a = c.before.before.before.before.before.args in
     let number = c.before.before.before.field_at in
     let is = c.before.before.of_number.ensures ∙ ap code_of number.ensures in
-    no-goal-line (lineIn a.s.now) a.goal _ is (ap isGoal c.enum-told2.given.1)
+    no_goal_line (line_in a.s.now) a.goal _ is (ap is_goal c.enum-told2.given.1)
 
 returns-3 : tie.Need-returns-3
-unfolding lineIn
+unfolding line_in
 returns-3 c =
     let a = c.before.before.before.before.before.args in
     let number = c.before.before.before.field_at in
     let is = c.before.before.of_number.ensures ∙ ap code_of number.ensures in
-    no-goal-line (lineIn a.s.now) a.goal _ is (ap isGoal c.enum-told3.given.1)
+    no_goal_line (line_in a.s.now) a.goal _ is (ap is_goal c.enum-told3.given.1)
 
 returns-4 : tie.Need-returns-4
-unfolding lineIn
+unfolding line_in
 returns-4 c =
     let a = c.before.before.before.before.before.args in
     let number = c.before.before.before.field_at in
     let is = c.before.before.of_number.ensures ∙ ap code_of number.ensures in
-    no-goal-line (lineIn a.s.now) a.goal _ is (ap isGoal c.enum-told4.given.1)
+    no_goal_line (line_in a.s.now) a.goal _ is (ap is_goal c.enum-told4.given.1)
 
 returns-5 : tie.Need-returns-5
-unfolding lineIn
+unfolding line_in
 returns-5 c =
     let a = c.before.before.before.before.before.args in
     let number = c.before.before.before.field_at in
     let is = c.before.before.of_number.ensures ∙ ap code_of number.ensures in
-    no-goal-line (lineIn a.s.now) a.goal _ is (ap isGoal c.enum-told5.given.1)
+    no_goal_line (line_in a.s.now) a.goal _ is (ap is_goal c.enum-told5.given.1)
 
 returns-6 : tie.Need-returns-6
-unfolding lineIn
+unfolding line_in
 returns-6 c =
     let a = c.before.before.before.before.before.args in
     let number = c.before.before.before.field_at in
     let is = c.before.before.of_number.ensures ∙ ap code_of number.ensures in
-    no-goal-line (lineIn a.s.now) a.goal _ is (ap isGoal c.enum-told6.given.1)
+    no_goal_line (line_in a.s.now) a.goal _ is (ap is_goal c.enum-told6.given.1)
 
 pub is-goal-line-spec : {M : Type 1} → statement M
 is-goal-line-spec =

@@ -1,8 +1,8 @@
 use borrow.Author.Rules.{rules}
 use mathlib.Core.Path.{refl, ap, ◌∙◌}
-use Rattle.book.specs.Lines.{lineIn}
+use Rattle.book.specs.Lines.{line_in}
 use Rattle.book.specs.Codes.{code_of}
-use Rattle.book.proofs.Sizes.{goal-opens, call_line, group-line, pick-line, undecided-line, unknown-line}
+use Rattle.book.proofs.Sizes.{goal_opens, call_line, group_line, pick_line, undecided_line, unknown_line}
 use Rattle.book.proofs.grammar.opened_by.Statement.{statement}
 use Rattle.book.proofs.grammar.opened_by.Tie as tie
 
@@ -61,66 +61,66 @@ enum-told-6 : tie.Need-enum-told-6
 enum-told-6 c = search rules
 
 returns : tie.Need-returns
-unfolding lineIn
+unfolding line_in
 returns c =
     λ inner ls.
     let a = c.before.before.before.before.before.args in
     let number = c.before.before.before.field_at in
     let is = c.before.before.of_number.ensures ∙ ap code_of number.ensures in
-    goal-opens a.goals a.in-pick inner (lineIn a.s.now) ls _ is _ refl c.enum_told.given.1
+    goal_opens a.goals a.in-pick inner (line_in a.s.now) ls _ is _ refl c.enum_told.given.1
 
 returns-2 : tie.Need-returns-2
-unfolding lineIn
+unfolding line_in
 returns-2 c =
     λ inner ls.
     let a = c.before.before.before.before.before.before.before.args in
     let number = c.before.before.before.before.before.field_at in
     let is = c.before.before.before.before.of_number.ensures ∙ ap code_of number.ensures in
     let fits = c.before.call_fits in
-    call_line a.goals a.in-pick inner (lineIn a.s.now) ls _ is c.opened-if.result fits.result c.opened-if.ensures
+    call_line a.goals a.in-pick inner (line_in a.s.now) ls _ is c.opened-if.result fits.result c.opened-if.ensures
     fits.ensures c.before.before.enum-told2.given.1
 
 returns-3 : tie.Need-returns-3
-unfolding lineIn
+unfolding line_in
 returns-3 c =
     λ inner ls.
     let a = c.before.before.before.before.before.before.before.before.args in
     let number = c.before.before.before.before.before.before.field_at in
     let is = c.before.before.before.before.before.of_number.ensures ∙ ap code_of number.ensures in
     let fits = c.before.before.uses-first in
-    group-line a.goals a.in-pick inner (lineIn a.s.now) ls _ is c.opened-if2.result fits.result _
+    group_line a.goals a.in-pick inner (line_in a.s.now) ls _ is c.opened-if2.result fits.result _
     c.before.field-at2.ensures _ c.opened-if2.ensures fits.ensures c.before.before.before.enum-told3.given.1
 
 returns-4 : tie.Need-returns-4
-unfolding lineIn
+unfolding line_in
 returns-4 c =
     λ inner ls.
     let a = c.before.before.before.before.before.before.before.before.args in
     let number = c.before.before.before.before.before.before.field_at in
     let is = c.before.before.before.before.before.of_number.ensures ∙ ap code_of number.ensures in
     let fits = c.before.before.pick-fits in
-    pick-line a.goals a.in-pick inner (lineIn a.s.now) ls _ is c.opened-if3.result fits.result _
+    pick_line a.goals a.in-pick inner (line_in a.s.now) ls _ is c.opened-if3.result fits.result _
     c.before.field-at3.ensures c.opened-if3.ensures fits.ensures c.before.before.before.enum-told4.given.1
 
 returns-5 : tie.Need-returns-5
-unfolding lineIn
+unfolding line_in
 returns-5 c =
     λ inner ls.
     let a = c.before.before.before.before.before.before.before.args in
     let number = c.before.before.before.before.before.field_at in
     let is = c.before.before.before.before.of_number.ensures ∙ ap code_of number.ensures in
-    let fits = c.before.undecided-fits in
-    undecided-line a.goals a.in-pick inner (lineIn a.s.now) ls _ is c.opened-if4.result fits.result
+    let fits = c.before.undecided_fits_lem in
+    undecided_line a.goals a.in-pick inner (line_in a.s.now) ls _ is c.opened-if4.result fits.result
     c.opened-if4.ensures fits.ensures c.before.before.enum-told5.given.1
 
 returns-6 : tie.Need-returns-6
-unfolding lineIn
+unfolding line_in
 returns-6 c =
     λ inner ls.
     let a = c.before.before.before.before.before.args in
     let number = c.before.before.before.field_at in
     let is = c.before.before.of_number.ensures ∙ ap code_of number.ensures in
-    unknown-line a.goals a.in-pick inner (lineIn a.s.now) ls _ is _ refl c.enum-told6.given.1
+    unknown_line a.goals a.in-pick inner (line_in a.s.now) ls _ is _ refl c.enum-told6.given.1
 
 pub opened-by-spec : {M : Type 1} → statement M
 opened-by-spec =

@@ -3,7 +3,7 @@ use mathlib.Core.Path.{◌≡◌, refl}
 use lib.ListN.{length}
 use Rattle.book.specs.Lines.{all_fit}
 use Rattle.book.proofs.Tests.{refused, held}
-use Rattle.book.proofs.Lines.{turn-bad, turn-good, turn_end, shorter}
+use Rattle.book.proofs.Lines.{turn_bad, turn_good, turn_end, shorter}
 use Rattle.book.proofs.line.all_fit.Statement.{statement}
 use Rattle.book.proofs.line.all_fit.Tie as tie
 
@@ -21,7 +21,7 @@ first-fits-requires c κs = search rules
 
 returns : tie.Need-returns invariant-loop decreases-loop
 returns c = let l = c.before.before.before.loop in
-    turn-bad c.before.before.before.before.before.args.book.now l.t.now c.before.before.loop-test.true l.invariant (refused c.before.first_fits.ensures c.if1.true)
+    turn_bad c.before.before.before.before.before.args.book.now l.t.now c.before.before.loop-test.true l.invariant (refused c.before.first_fits.ensures c.if1.true)
 
 sub-t : tie.Need-overflow-sub-t invariant-loop decreases-loop
 sub-t c = search rules
@@ -37,7 +37,7 @@ loop-less c = shorter c.before.before.before.before.loop.t.now c.before.before.b
 
 loop-again : tie.Need-loop-preserved invariant-loop decreases-loop
 loop-again c = let l = c.before.before.before.before.loop in
-    turn-good c.before.before.before.before.before.before.args.book.now l.t.now c.before.before.before.loop-test.true l.invariant (held c.before.before.first_fits.ensures c.before.if1.false)
+    turn_good c.before.before.before.before.before.before.args.book.now l.t.now c.before.before.before.loop-test.true l.invariant (held c.before.before.first_fits.ensures c.before.if1.false)
 
 returns-2 : tie.Need-returns-2 invariant-loop decreases-loop
 returns-2 c = turn_end c.before.before.before.args.book.now c.before.loop.t.now c.loop-test.false c.before.loop.invariant

@@ -1,6 +1,6 @@
 use borrow.Author.Rules.{rules}
 use mathlib.Core.Path.{sym, ◌∙◌}
-use Rattle.book.proofs.Tests.{last-only}
+use Rattle.book.proofs.Tests.{last_only}
 use Rattle.book.proofs.line.field.Statement.{statement}
 use Rattle.book.proofs.line.field.Tie as tie
 
@@ -12,7 +12,7 @@ digit-requires c κs = search rules
 
 returns : tie.Need-returns
 returns c = let a = c.before.before.before.args in
-    c.digit.ensures.0 ∙ last-only a.x a.y a.z (sym c.before.before.both-spaces.ensures ∙ c.before.if1.true)
+    c.digit.ensures.0 ∙ last_only a.x a.y a.z (sym c.before.before.both-spaces.ensures ∙ c.before.if1.true)
 
 digit-requires-2 : tie.Need-digit-requires-2
 digit-requires-2 c κs = search rules

@@ -1,5 +1,5 @@
 use borrow.Author.Rules.{rules}
-use Rattle.book.specs.Lines.{lineIn}
+use Rattle.book.specs.Lines.{line_in}
 use Rattle.book.proofs.line.first.Statement.{statement}
 use Rattle.book.proofs.line.first.Tie as tie
 
@@ -19,7 +19,7 @@ field-at-requires-5 : tie.Need-field-at-requires-5
 field-at-requires-5 c κs = search rules
 
 returns : tie.Need-returns
-unfolding lineIn
+unfolding line_in
 returns c = λ i. record {
   code = c.before.before.before.before.field_at.ensures i;
   first = c.before.before.before.field-at2.ensures i;

@@ -1,6 +1,6 @@
 use borrow.Author.Rules.{rules}
 use mathlib.Core.Path.{sym, ◌∙◌}
-use Rattle.book.proofs.Tests.{refused, held, no-spaces, no_last, filled, unfilled, one-column, two-columns}
+use Rattle.book.proofs.Tests.{refused, held, no_spaces, no_last, filled, unfilled, one_column, two_columns}
 use Rattle.book.proofs.line.is_field.Statement.{statement}
 use Rattle.book.proofs.line.is_field.Tie as tie
 
@@ -16,7 +16,7 @@ both-spaces-requires c κs = search rules
 
 returns-2 : tie.Need-returns-2
 returns-2 c = let a = c.before.before.before.before.args in
-    one-column a.x a.y a.z (held c.before.before.before.is_digit.ensures c.before.before.if1.false) (sym c.before.both-spaces.ensures ∙ c.if2.true)
+    one_column a.x a.y a.z (held c.before.before.before.is_digit.ensures c.before.before.if1.false) (sym c.before.both-spaces.ensures ∙ c.if2.true)
 
 is-leading-digit-requires : tie.Need-is-leading-digit-requires
 is-leading-digit-requires c κs = search rules
@@ -37,7 +37,7 @@ is-leading-digit-requires-2 c κs = search rules
 
 returns-5 : tie.Need-returns-5
 returns-5 c = let a = c.before.before.before.before.before.before.args in
-    c.is-leading-digit2.ensures ∙ two-columns a.x a.y a.z (held c.before.before.before.before.before.is_digit.ensures c.before.before.before.before.if1.false) c.before.if3.false (no-spaces a.x a.y (sym c.before.before.before.both-spaces.ensures ∙ c.before.before.if2.false) c.before.if3.false)
+    c.is-leading-digit2.ensures ∙ two_columns a.x a.y a.z (held c.before.before.before.before.before.is_digit.ensures c.before.before.before.before.if1.false) c.before.if3.false (no_spaces a.x a.y (sym c.before.before.before.both-spaces.ensures ∙ c.before.before.if2.false) c.before.if3.false)
 
 pub is-field-spec : {M : Type 1} → statement M
 is-field-spec =

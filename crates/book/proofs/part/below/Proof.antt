@@ -2,8 +2,8 @@ use borrow.Author.Rules.{rules}
 use mathlib.Core.Path.{sym, ap, ◌∙◌}
 use native.Mathlib.Omega.{arith}
 use Rattle.book.specs.declared.code.Code.{Code}
-use Rattle.book.specs.Lines.{lineIn}
-use Rattle.book.specs.Codes.{countBelow}
+use Rattle.book.specs.Lines.{line_in}
+use Rattle.book.specs.Codes.{count_below}
 use Rattle.book.proofs.Codes.{some_below, none_below}
 use Rattle.book.proofs.part.below.Statement.{statement}
 use Rattle.book.proofs.part.below.Tie as tie
@@ -16,17 +16,17 @@ count-requires c κs = search rules
 
 returns : tie.Need-returns
 returns c =
-    let coded = c.before.before in let l = lineIn coded.before.before.args.part.now in (
+    let coded = c.before.before in let l = line_in coded.before.before.args.part.now in (
       c.count.ensures.0
           ∙ sym (some_below coded.code.result l.first c.before.match.keys1)
-          ∙ ap (λ (x : Code). countBelow x l.first) coded.code.ensures,
+          ∙ ap (λ (x : Code). count_below x l.first) coded.code.ensures,
       c.count.ensures.1,
     )
 
 returns-2 : tie.Need-returns-2
 returns-2 c =
-    let l = lineIn c.before.before.before.args.part.now in (
-      sym (none_below c.before.code.result l.first c.match.keys2) ∙ ap (λ (x : Code). countBelow x l.first) c.before.code.ensures,
+    let l = line_in c.before.before.before.args.part.now in (
+      sym (none_below c.before.code.result l.first c.match.keys2) ∙ ap (λ (x : Code). count_below x l.first) c.before.code.ensures,
       omega arith,
     )
 

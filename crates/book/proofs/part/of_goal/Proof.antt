@@ -1,6 +1,6 @@
 use borrow.Author.Rules.{rules}
 use lib.ListN.{get_or}
-use Rattle.definition.proofs.Lists.{part-from}
+use Rattle.definition.proofs.Lists.{part_from_lem}
 use Rattle.book.proofs.part.of_goal.Statement.{statement}
 use Rattle.book.proofs.part.of_goal.Tie as tie
 
@@ -23,7 +23,7 @@ part-result-end : tie.Need-slice-bounds-result-end
 part-result-end c = search rules
 
 returns : tie.Need-returns
-returns c = let a = c.before.before.args in part-from (get_or a.starts.now a.goal 0) a.book.now
+returns c = let a = c.before.before.args in part_from_lem (get_or a.starts.now a.goal 0) a.book.now
 
 pub of-goal-spec : {M : Type 1} → statement M
 of-goal-spec =

@@ -1,5 +1,5 @@
 use borrow.Author.Rules.{rules}
-use Rattle.delegate.proofs.Groups.{weighed-stopped, weighed-done}
+use Rattle.delegate.proofs.Groups.{weighed_stopped, weighed_done}
 use Rattle.delegate.proofs.group.weigh.Statement.{statement}
 use Rattle.delegate.proofs.group.weigh.Tie as tie
 
@@ -15,12 +15,12 @@ weigh-answer-requires c κs = search rules
 returns : tie.Need-returns
 returns c =
     let a = c.before.before.before.args in
-    weighed-stopped a.o a.group _ c.before.o.given.1
+    weighed_stopped a.o a.group _ c.before.o.given.1
 
 returns-2 : tie.Need-returns-2
 returns-2 c =
     let a = c.before.before.before.before.args in
-    weighed-done a.o a.group _ _ c.weigh-answer.result c.before.before.o2.given.1 c.weigh-answer.ensures
+    weighed_done a.o a.group _ _ c.weigh-answer.result c.before.before.o2.given.1 c.weigh-answer.ensures
 
 pub weigh-spec : {M : Type 1} → statement M
 weigh-spec =

@@ -1,7 +1,7 @@
 use borrow.Author.Rules.{rules}
 use mathlib.Core.Option.{some}
 use Prim.Native.Nat.{◌-◌}
-use Rattle.definition.specs.Candidates.{noCandidateUsages}
+use Rattle.definition.specs.Candidates.{no_candidate_usages}
 use Rattle.delegate.proofs.Tracking.{tracked}
 use Rattle.delegate.proofs.Picks.{entered}
 use Rattle.delegate.proofs.pick.enter_candidate.Statement.{statement}
@@ -36,7 +36,7 @@ returns c =
     let e = c.before.before.enter-single-candidate in
     entered a.goals a.height a.work.now _ f.requires.1.0
     (tracked a.goals a.work.now f.requires.0 n.result n.ensures.0 e.new.0 e.auto.0 (a.height - 1)
-    (some (noCandidateUsages a.goals)) e.ensures.stack e.ensures.entries)
+    (some (no_candidate_usages a.goals)) e.ensures.stack e.ensures.entries)
 
 pub enter-candidate-spec : {M : Type 1} → statement M
 enter-candidate-spec =

@@ -1,6 +1,6 @@
 use borrow.Author.Rules.{rules}
-use Rattle.evaluation.proofs.Outcomes.{few-done}
-use Rattle.delegate.proofs.Picks.{finished-stopped, finished-done}
+use Rattle.evaluation.proofs.Outcomes.{few_done}
+use Rattle.delegate.proofs.Picks.{finished_stopped, finished_done}
 use Rattle.delegate.proofs.pick.finish_candidate.Statement.{statement}
 use Rattle.delegate.proofs.pick.finish_candidate.Tie as tie
 
@@ -19,7 +19,7 @@ count-requires c κs = search rules
 returns : tie.Need-returns
 returns c =
     let a = c.before.before.before.before.args in
-    finished-stopped a.goals a.height a.o a.pick a.work.now a.work.now _ c.before.o.given.1
+    finished_stopped a.goals a.height a.o a.pick a.work.now a.work.now _ c.before.o.given.1
 
 same_length : tie.Need-same-length
 same_length c = search rules
@@ -30,8 +30,8 @@ returns-2 c =
     let a = f.args in
     let is = c.before.before.before.before.before.o2.given.1 in
     let n = c.before.before.count in
-    finished-done a.goals a.height a.o a.pick a.work.now n.new.1.1.1.0 _ _ is
-    (few-done a.goals a.o _ _ is f.requires.1.1.1) f.requires.1.0 n.result n.ensures
+    finished_done a.goals a.height a.o a.pick a.work.now n.new.1.1.1.0 _ _ is
+    (few_done a.goals a.o _ _ is f.requires.1.1.1) f.requires.1.0 n.result n.ensures
 
 pub finish-candidate-spec : {M : Type 1} → statement M
 finish-candidate-spec =

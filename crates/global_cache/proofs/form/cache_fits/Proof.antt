@@ -3,13 +3,13 @@ use mathlib.Core.Bool.{true}
 use borrow.Author.Tests.{not-true, not-false}
 use Prim.Native.Nat.{◌-◌, ◌≤◌}
 use native.Mathlib.Omega.{arith}
-use Rattle.definition.specs.CacheForm.{goalsFit}
-use Rattle.global_cache.proofs.Fits.{goals-fail, goals-more}
+use Rattle.definition.specs.CacheForm.{goals_fit}
+use Rattle.global_cache.proofs.Fits.{goals_fail, goals_more}
 use Rattle.global_cache.proofs.form.cache_fits.Statement.{statement}
 use Rattle.global_cache.proofs.form.cache_fits.Tie as tie
 
 abbrev invariant-loop : tie.invariant-loop
-invariant-loop cache h goal₀ goal = (goal ≤ h.goals) × (true ≡ goalsFit h cache goal)
+invariant-loop cache h goal₀ goal = (goal ≤ h.goals) × (true ≡ goals_fit h cache goal)
 
 abbrev decreases-loop : tie.decreases-loop
 decreases-loop cache h goal₀ goal = h.goals - goal
@@ -26,8 +26,8 @@ returns : tie.Need-returns invariant-loop decreases-loop
 returns c =
     let l = c.before.before.before.before in
     let a = l.before.before.args in
-    goals-fail a.h a.cache.now l.loop.goal c.before.slots-fit.result c.before.slots-fit.ensures a.h.goals (omega arith)
-    (not-true c.before.slots-fit.result c.if2.true)
+    goals_fail a.h a.cache.now l.loop.goal c.before.slots_fit_lem.result c.before.slots_fit_lem.ensures a.h.goals (omega arith)
+    (not-true c.before.slots_fit_lem.result c.if2.true)
 
 add-goal : tie.Need-overflow-add-goal invariant-loop decreases-loop
 add-goal c = omega arith
@@ -40,8 +40,8 @@ loop-again c =
     let l = c.before.before.before.before in
     let a = l.before.before.args in (
       omega arith,
-      goals-more a.h a.cache.now l.loop.goal c.before.slots-fit.result c.before.slots-fit.ensures l.loop.invariant.1
-          (not-false c.before.slots-fit.result c.if2.false),
+      goals_more a.h a.cache.now l.loop.goal c.before.slots_fit_lem.result c.before.slots_fit_lem.ensures l.loop.invariant.1
+          (not-false c.before.slots_fit_lem.result c.if2.false),
     )
 
 returns-2 : tie.Need-returns-2 invariant-loop decreases-loop
@@ -49,7 +49,7 @@ returns-2 c =
     let l = c.before.before in
     let a = l.before.before.args in
     let e : l.loop.goal ≡ a.h.goals = omega arith in
-    l.loop.invariant.1 ∙ ap (goalsFit a.h a.cache.now) e
+    l.loop.invariant.1 ∙ ap (goals_fit a.h a.cache.now) e
 
 pub cache-fits-spec : {M : Type 1} → statement M
 cache-fits-spec =

@@ -1,4 +1,4 @@
-use Rattle.global_cache.proofs.Fits.{some-field, no_field}
+use Rattle.global_cache.proofs.Fits.{some_field, no_field}
 use borrow.Author.Rules.{rules}
 use Rattle.global_cache.proofs.form.is_vacant.Statement.{statement}
 use Rattle.global_cache.proofs.form.is_vacant.Tie as tie
@@ -20,7 +20,7 @@ returns c =
     let high = c.before.load-pair2 in
     let low = c.before.before.load_pair in
     let s = c.before.before.before.before in
-    some-field s.args.s.now s.requires low.result high.result low.ensures.0 high.ensures.0 c.if1.true
+    some_field s.args.s.now s.requires low.result high.result low.ensures.0 high.ensures.0 c.if1.true
     s.args.paths
 
 returns-2 : tie.Need-returns-2

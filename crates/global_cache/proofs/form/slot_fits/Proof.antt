@@ -4,8 +4,8 @@ use borrow.Author.Tests.{not-true, not-false}
 use Prim.Native.Nat.{ℕ, ◌-◌, ◌^◌}
 use lib.Dec.{leb}
 use lib.ListN.{drop, get_or}
-use Rattle.definition.specs.CacheForm.{allAtMost, depthFits, passesFit, slotFits}
-use Rattle.global_cache.proofs.Fits.{vacant, not-held, no_result, has-answer, first-fails, second-fails, third-decides, part-tells}
+use Rattle.definition.specs.CacheForm.{all_at_most, depth_fits, passes_fit, slot_fits}
+use Rattle.global_cache.proofs.Fits.{vacant, not_held, no_result, has_answer, first_fails, second_fails, third_decides, part_tells}
 use borrow.Author.Rules.{rules}
 use Rattle.global_cache.proofs.form.slot_fits.Statement.{statement}
 use Rattle.global_cache.proofs.form.slot_fits.Tie as tie
@@ -15,35 +15,35 @@ abbrev begun : tie.After-is-vacant → tie.Start
 begun c = c.before.before.before.before
 
 tells : (c : tie.After-is-vacant) (j : ℕ)
-    → leb c.before.all-paths.result (2 ^ j - 1) ≡ allAtMost (2 ^ j - 1) (drop 4 (begun c).args.s.now)
-tells c = part-tells (begun c).args.s.now c.before.all-paths.result c.before.all-paths.ensures
+    → leb c.before.all-paths.result (2 ^ j - 1) ≡ all_at_most (2 ^ j - 1) (drop 4 (begun c).args.s.now)
+tells c = part_tells (begun c).args.s.now c.before.all-paths.result c.before.all-paths.ensures
 
 abbrev told : tie.Else3 → tie.After-is-vacant
 told c = c.before.before.before.before.before
 
 answered : (c : tie.Else3)
     → let a = (begun (told c)).args in
-    (depthFits a.h a.slot (get_or a.s.now 2 0) && passesFit a.h (get_or a.s.now 3 0)
-    && leb (told c).before.all-paths.result 31) ≡ slotFits a.h a.slot a.s.now
+    (depth_fits a.h a.slot (get_or a.s.now 2 0) && passes_fit a.h (get_or a.s.now 3 0)
+    && leb (told c).before.all-paths.result 31) ≡ slot_fits a.h a.slot a.s.now
 answered c =
     let f = told c in
     let a = (begun f).args in
-    has-answer a.h a.slot a.s.now f.before.all-paths.result (tells f) f.is-vacant.result
+    has_answer a.h a.slot a.s.now f.before.all-paths.result (tells f) f.is-vacant.result
     f.is-vacant.ensures c.before.before.before.before.if1.false c.before.before.if2.false c.if3.false
 
 depth_is : (c : tie.After-depth-fits)
     → let a = (begun (told c.before.before.before)).args in
-    c.depth-fits.result ≡ depthFits a.h a.slot (get_or a.s.now 2 0)
+    c.depth_fits_lem.result ≡ depth_fits a.h a.slot (get_or a.s.now 2 0)
 depth_is c =
     let a = (begun (told c.before.before.before)).args in
-    c.depth-fits.ensures ∙ ap (depthFits a.h a.slot) c.before.wide.ensures.0
+    c.depth_fits_lem.ensures ∙ ap (depth_fits a.h a.slot) c.before.wide.ensures.0
 
 passes-is : (c : tie.After-passes-fit)
     → let a = (begun (told c.before.before.before.before.before.before.before)).args in
-    c.passes-fit.result ≡ passesFit a.h (get_or a.s.now 3 0)
+    c.passes_fit_lem.result ≡ passes_fit a.h (get_or a.s.now 3 0)
 passes-is c =
     let a = (begun (told c.before.before.before.before.before.before.before)).args in
-    c.passes-fit.ensures ∙ ap (passesFit a.h) c.before.wide2.ensures.0
+    c.passes_fit_lem.ensures ∙ ap (passes_fit a.h) c.before.wide2.ensures.0
 
 -- ---- the needs
 sub-all-paths : tie.Need-overflow-sub-all-paths
@@ -75,7 +75,7 @@ returns-2 : tie.Need-returns-2
 returns-2 c =
     let f = c.before.before.before in
     let s = begun f in
-    not-held s.args.h s.args.slot s.args.s.now f.before.all-paths.result (tells f)
+    not_held s.args.h s.args.slot s.args.s.now f.before.all-paths.result (tells f)
     f.is-vacant.result f.is-vacant.ensures
     c.before.before.if1.false c.if2.true
 
@@ -101,8 +101,8 @@ depth-fits-requires c κs = search rules
 
 returns-4 : tie.Need-returns-4
 returns-4 c =
-    first-fails _ _ _ _ (answered c.before.before.before.before)
-    (sym (depth_is c.before) ∙ not-true c.before.depth-fits.result c.if4.true)
+    first_fails _ _ _ _ (answered c.before.before.before.before)
+    (sym (depth_is c.before) ∙ not-true c.before.depth_fits_lem.result c.if4.true)
 
 shared-slice-read-wide-2 : tie.Need-shared-slice-read-wide-2
 shared-slice-read-wide-2 c = search rules
@@ -116,16 +116,16 @@ passes-fit-requires c κs = search rules
 returns-5 : tie.Need-returns-5
 returns-5 c =
     let d = c.before.before.before.before in
-    second-fails _ _ _ _ (answered d.before.before.before.before)
-    (sym (depth_is d.before) ∙ not-false d.before.depth-fits.result d.if4.false)
-    (sym (passes-is c.before) ∙ not-true c.before.passes-fit.result c.if5.true)
+    second_fails _ _ _ _ (answered d.before.before.before.before)
+    (sym (depth_is d.before) ∙ not-false d.before.depth_fits_lem.result d.if4.false)
+    (sym (passes-is c.before) ∙ not-true c.before.passes_fit_lem.result c.if5.true)
 
 returns-6 : tie.Need-returns-6
 returns-6 c =
     let d = c.before.before.before.before in
-    third-decides _ _ _ _ (answered d.before.before.before.before)
-    (sym (depth_is d.before) ∙ not-false d.before.depth-fits.result d.if4.false)
-    (sym (passes-is c.before) ∙ not-false c.before.passes-fit.result c.if5.false)
+    third_decides _ _ _ _ (answered d.before.before.before.before)
+    (sym (depth_is d.before) ∙ not-false d.before.depth_fits_lem.result d.if4.false)
+    (sym (passes-is c.before) ∙ not-false c.before.passes_fit_lem.result c.if5.false)
 
 pub slot-fits-spec : {M : Type 1} → statement M
 slot-fits-spec =

@@ -3,14 +3,14 @@ use mathlib.Core.Bool.{true}
 use borrow.Author.Tests.{not-true, not-false}
 use Prim.Native.Nat.{◌+◌, ◌-◌, ◌≤◌}
 use native.Mathlib.Omega.{arith}
-use Rattle.definition.specs.CacheForm.{slotsFit}
-use Rattle.global_cache.proofs.Fits.{slots-fail, slots-more, slots-vacant}
-use Rattle.global_cache.proofs.Slots.{slot-room}
+use Rattle.definition.specs.CacheForm.{slots_fit}
+use Rattle.global_cache.proofs.Fits.{slots_fail, slots_more, slots_vacant}
+use Rattle.global_cache.proofs.Slots.{slot_room}
 use Rattle.global_cache.proofs.form.slots_fit.Statement.{statement}
 use Rattle.global_cache.proofs.form.slots_fit.Tie as tie
 
 abbrev invariant-loop : tie.invariant-loop
-invariant-loop cache h goal slot₀ slot = (slot ≤ h.top + 2) × (true ≡ slotsFit h cache goal slot)
+invariant-loop cache h goal slot₀ slot = (slot ≤ h.top + 2) × (true ≡ slots_fit h cache goal slot)
 
 abbrev decreases-loop : tie.decreases-loop
 decreases-loop cache h goal slot₀ slot = h.top + 2 - slot
@@ -23,12 +23,12 @@ abbrev entered : tie.At-loop invariant-loop decreases-loop → tie.Start invaria
 entered c = begun c.before.before.before.before.before
 
 -- the success slot fits
-success-fits : (c : tie.Else1 invariant-loop decreases-loop) → let a = (begun c.before).args in true ≡ slotsFit a.h a.cache.now a.goal 1
+success-fits : (c : tie.Else1 invariant-loop decreases-loop) → let a = (begun c.before).args in true ≡ slots_fit a.h a.cache.now a.goal 1
 success-fits c =
     let f = c.before in
     let a = (begun f).args in
-    slots-more a.h a.cache.now a.goal 0 f.before.slot_at.result.now f.slot-fits.result f.before.slot_at.ensures
-    f.slot-fits.ensures refl (not-false f.slot-fits.result c.if1.false)
+    slots_more a.h a.cache.now a.goal 0 f.before.slot_at.result.now f.slot_fits_lem.result f.before.slot_at.ensures
+    f.slot_fits_lem.ensures refl (not-false f.slot_fits_lem.result c.if1.false)
 
 -- ---- the needs
 slot-at-requires : tie.Need-slot-at-requires invariant-loop decreases-loop
@@ -37,15 +37,15 @@ slot-at-requires c κs = c.before.requires
 slot-fits-requires : tie.Need-slot-fits-requires invariant-loop decreases-loop
 slot-fits-requires c κs =
     let s = c.before.before in
-    slot-room s.args.h.goals s.args.h.top s.args.goal 0 s.args.cache.now c.slot_at.result.now s.requires.0 s.requires.1
+    slot_room s.args.h.goals s.args.h.top s.args.goal 0 s.args.cache.now c.slot_at.result.now s.requires.0 s.requires.1
     (omega arith) c.slot_at.ensures
 
 returns : tie.Need-returns invariant-loop decreases-loop
 returns c =
     let f = c.before in
     let a = (begun f).args in
-    slots-fail a.h a.cache.now a.goal 0 f.before.slot_at.result.now f.slot-fits.result f.before.slot_at.ensures
-    f.slot-fits.ensures (a.h.top + 2) (omega arith) (not-true f.slot-fits.result c.if1.true)
+    slots_fail a.h a.cache.now a.goal 0 f.before.slot_at.result.now f.slot_fits_lem.result f.before.slot_at.ensures
+    f.slot_fits_lem.ensures (a.h.top + 2) (omega arith) (not-true f.slot_fits_lem.result c.if1.true)
 
 overflow-slots-requires : tie.Need-overflow-slots-requires invariant-loop decreases-loop
 overflow-slots-requires c κs = (begun c.before).pre
@@ -57,7 +57,7 @@ returns-2 : tie.Need-returns-2 invariant-loop decreases-loop
 returns-2 c =
     let row = c.before.before in
     let a = (begun row.before.before).args in
-    slots-vacant a.h a.cache.now a.goal row.overflow-slots.result.now c.before.all-zero.result
+    slots_vacant a.h a.cache.now a.goal row.overflow-slots.result.now c.before.all-zero.result
     row.overflow-slots.ensures c.before.all-zero.ensures c.if2.true (success-fits row.before)
 
 loop-holds : tie.Need-loop-init invariant-loop decreases-loop
@@ -73,7 +73,7 @@ slot-fits-requires-2 : tie.Need-slot-fits-requires-2 invariant-loop decreases-lo
 slot-fits-requires-2 c κs =
     let l = c.before.before.before in
     let s = entered l in
-    slot-room s.args.h.goals s.args.h.top s.args.goal l.loop.slot s.args.cache.now c.slot-at2.result.now s.pre.0
+    slot_room s.args.h.goals s.args.h.top s.args.goal l.loop.slot s.args.cache.now c.slot-at2.result.now s.pre.0
     s.pre.1 (omega arith) c.slot-at2.ensures
 
 returns-3 : tie.Need-returns-3 invariant-loop decreases-loop
@@ -81,7 +81,7 @@ returns-3 c =
     let f = c.before in
     let l = f.before.before.before.before in
     let a = (entered l).args in
-    slots-fail a.h a.cache.now a.goal l.loop.slot f.before.slot-at2.result.now f.slot-fits2.result
+    slots_fail a.h a.cache.now a.goal l.loop.slot f.before.slot-at2.result.now f.slot-fits2.result
     f.before.slot-at2.ensures f.slot-fits2.ensures (a.h.top + 2) (omega arith) (not-true f.slot-fits2.result c.if4.true)
 
 add-slot : tie.Need-overflow-add-slot invariant-loop decreases-loop
@@ -96,7 +96,7 @@ loop-again c =
     let l = f.before.before.before.before in
     let a = (entered l).args in (
       omega arith,
-      slots-more a.h a.cache.now a.goal l.loop.slot f.before.slot-at2.result.now f.slot-fits2.result
+      slots_more a.h a.cache.now a.goal l.loop.slot f.before.slot-at2.result.now f.slot-fits2.result
           f.before.slot-at2.ensures f.slot-fits2.ensures l.loop.invariant.1 (not-false f.slot-fits2.result c.if4.false),
     )
 
@@ -105,7 +105,7 @@ returns-4 c =
     let l = c.before.before in
     let a = (entered l).args in
     let e : l.loop.slot ≡ a.h.top + 2 = omega arith in
-    l.loop.invariant.1 ∙ ap (slotsFit a.h a.cache.now a.goal) e
+    l.loop.invariant.1 ∙ ap (slots_fit a.h a.cache.now a.goal) e
 
 pub slots-fit-spec : {M : Type 1} → statement M
 slots-fit-spec =

@@ -1,4 +1,4 @@
-use Rattle.global_cache.proofs.Slots.{held-other, held_none}
+use Rattle.global_cache.proofs.Slots.{held_other, held_none}
 use borrow.Author.Rules.{rules}
 use Rattle.global_cache.proofs.slot.conflicts.Statement.{statement}
 use Rattle.global_cache.proofs.slot.conflicts.Tie as tie
@@ -12,7 +12,7 @@ get-requires c κs = search rules
 returns : tie.Need-returns
 returns c =
     let h = c.before.before in
-    held-other h.before.before.args.slot.now h.is_held.result c.get.result h.before.before.args.res h.is_held.ensures c.before.if1.true c.get.ensures
+    held_other h.before.before.args.slot.now h.is_held.result c.get.result h.before.before.args.res h.is_held.ensures c.before.if1.true c.get.ensures
 
 returns-2 : tie.Need-returns-2
 returns-2 c =

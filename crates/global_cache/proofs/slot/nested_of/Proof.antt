@@ -1,7 +1,7 @@
 use mathlib.Core.Path.{sym}
 use native.Mathlib.Omega.{arith}
 use lib.ListN.{drop_of_length-le}
-use Rattle.definition.proofs.Lists.{part-from}
+use Rattle.definition.proofs.Lists.{part_from_lem}
 use borrow.Author.Rules.{rules}
 use Rattle.global_cache.proofs.slot.nested_of.Statement.{statement}
 use Rattle.global_cache.proofs.slot.nested_of.Tie as tie
@@ -28,7 +28,7 @@ part-result-end-2 : tie.Need-slice-bounds-result-end-2
 part-result-end-2 c = search rules
 
 returns-2 : tie.Need-returns-2
-returns-2 c = part-from 4 c.before.before.args.slot.now
+returns-2 c = part_from_lem 4 c.before.before.args.slot.now
 
 pub nested-of-spec : {M : Type 1} → statement M
 nested-of-spec =

@@ -3,7 +3,7 @@ use Prim.Native.Nat.{◌-◌, ◌≤◌}
 use native.Mathlib.Omega.{arith}
 use lib.ListN.{length, length-set}
 use lib.Seq.{paste, paste-zero}
-use Rattle.buffer.proofs.Loops.{pasted-more, pasted-all}
+use Rattle.buffer.proofs.Loops.{pasted_more, pasted_all}
 use Rattle.global_cache.proofs.slot.write_nested.Statement.{statement}
 use Rattle.global_cache.proofs.slot.write_nested.Tie as tie
 
@@ -34,7 +34,7 @@ loop-less c = omega arith
 loop-again : tie.Need-loop-preserved invariant-loop decreases-loop
 loop-again c =
     let l = c.before.before in
-    (omega arith, simp length-set l.loop.invariant.1, pasted-more 4 l.before.args.slot.now l.before.args.nested.now l.loop.slot l.loop.i l.loop.invariant.2 l.before.requires (omega arith))
+    (omega arith, simp length-set l.loop.invariant.1, pasted_more 4 l.before.args.slot.now l.before.args.nested.now l.loop.slot l.loop.i l.loop.invariant.2 l.before.requires (omega arith))
 
 same_length : tie.Need-same-length invariant-loop decreases-loop
 same_length c = c.before.loop.invariant.1
@@ -42,7 +42,7 @@ same_length c = c.before.loop.invariant.1
 returns : tie.Need-returns invariant-loop decreases-loop
 returns c =
     let l = c.before in
-    pasted-all 4 l.before.args.slot.now l.before.args.nested.now l.loop.slot l.loop.i l.loop.invariant.2 l.before.requires (omega arith)
+    pasted_all 4 l.before.args.slot.now l.before.args.nested.now l.loop.slot l.loop.i l.loop.invariant.2 l.before.requires (omega arith)
 
 pub write-nested-spec : {M : Type 1} → statement M
 write-nested-spec =

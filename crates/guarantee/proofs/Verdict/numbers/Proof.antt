@@ -1,5 +1,5 @@
 use mathlib.Core.Path.{sym, ap}
-use Rattle.guarantee.specs.Codes.{verdictNumbers}
+use Rattle.guarantee.specs.Codes.{verdict_numbers}
 use borrow.Author.Rules.{rules}
 use Rattle.guarantee.proofs.Verdict.numbers.Statement.{statement}
 use Rattle.guarantee.proofs.Verdict.numbers.Tie as tie
@@ -20,7 +20,7 @@ returns-2 : tie.Need-returns-2
 returns-2 c = search rules
 
 returns-3 : tie.Need-returns-3
-returns-3 c = sym (ap verdictNumbers c.before.self.given.1)
+returns-3 c = sym (ap verdict_numbers c.before.self.given.1)
 
 pub numbers-spec : {M : Type 1} → statement M
 numbers-spec =

@@ -1,5 +1,5 @@
 use borrow.Author.Tests.{not-true, not-false}
-use Rattle.guarantee.proofs.Lines.{no_step, far-step, one-step}
+use Rattle.guarantee.proofs.Lines.{no_step, far_step, one_step_lem}
 use borrow.Author.Rules.{rules}
 use Rattle.guarantee.proofs.reach.add_step.Statement.{statement}
 use Rattle.guarantee.proofs.reach.add_step.Tie as tie
@@ -8,7 +8,7 @@ returns : tie.Need-returns
 returns c = let a = c.before.before.before.args in no_step a.masks.now a.s (not-true _ c.if1.true)
 
 returns-2 : tie.Need-returns-2
-returns-2 c = let a = c.before.before.before.before.args in far-step a.masks.now a.s c.if2.true
+returns-2 c = let a = c.before.before.before.before.args in far_step a.masks.now a.s c.if2.true
 
 mul-with : tie.Need-overflow-mul-with
 mul-with c = search rules
@@ -31,7 +31,7 @@ same_length c = search rules
 returns-3 : tie.Need-returns-3
 returns-3 c =
     let a = c.before.before.before.before.before.before.args in
-    one-step a.masks.now a.s (not-false _ c.before.before.before.if1.false)
+    one_step_lem a.masks.now a.s (not-false _ c.before.before.before.if1.false)
     c.before.before.before.before.before.before.requires c.before.before.if2.false c.with.result
     c.with.ensures
 

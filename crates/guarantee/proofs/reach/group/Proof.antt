@@ -1,8 +1,8 @@
 use mathlib.Core.Path.{sym}
 use Prim.Native.Nat.{◌-◌, ◌≤◌}
 use native.Mathlib.Omega.{arith}
-use Rattle.guarantee.proofs.Masks.{Upto, upto-none, upto-more, mask-none}
-use Rattle.guarantee.proofs.Rounds.{nobody, together, group-ends}
+use Rattle.guarantee.proofs.Masks.{Upto, upto_none, upto_more, mask_none}
+use Rattle.guarantee.proofs.Rounds.{nobody, together, group_ends}
 use borrow.Author.Rules.{rules}
 use Rattle.guarantee.proofs.reach.group.Statement.{statement}
 use Rattle.guarantee.proofs.reach.group.Tie as tie
@@ -18,7 +18,7 @@ returns c b masks small = absurd (omega arith)
 
 loop-holds : tie.Need-loop-init invariant-loop decreases-loop
 loop-holds c =
-    let a = c.before.before.args in (upto-none nobody (together a.reach.now a.g) 0 mask-none, omega arith)
+    let a = c.before.before.args in (upto_none nobody (together a.reach.now a.g) 0 mask_none, omega arith)
 
 linked-requires : tie.Need-linked-requires invariant-loop decreases-loop
 linked-requires c κs = search rules
@@ -36,7 +36,7 @@ loop-again : tie.Need-loop-preserved invariant-loop decreases-loop
 loop-again c =
     let l = c.before.before.before.loop in
     let a = c.before.before.before.before.before.before.args in (
-      upto-more nobody (together a.reach.now a.g) l.m c.with-if.result l.k c.before.linked.result
+      upto_more nobody (together a.reach.now a.g) l.m c.with-if.result l.k c.before.linked.result
           l.invariant.0 (sym c.before.linked.ensures) c.with-if.ensures,
       omega arith,
     )
@@ -45,7 +45,7 @@ returns-2 : tie.Need-returns-2 invariant-loop decreases-loop
 returns-2 c =
     let a = c.before.before.before.before.args in
     let l = c.before.loop in
-    group-ends a.reach.now a.g l.m l.k c.loop-test.false l.invariant.0
+    group_ends a.reach.now a.g l.m l.k c.loop-test.false l.invariant.0
 
 pub group-spec : {M : Type 1} → statement M
 group-spec =

@@ -4,7 +4,7 @@ use native.Mathlib.Omega.{arith}
 use lib.ListN.{length, length-set}
 use Rattle.definition.specs.Part.{Book}
 use Rattle.guarantee.specs.Engine.{CallMasks}
-use Rattle.guarantee.proofs.Rounds.{ReachBelow, reach-more}
+use Rattle.guarantee.proofs.Rounds.{ReachBelow, reach_more}
 use borrow.Author.Rules.{rules}
 use Rattle.guarantee.proofs.reach.masks.Statement.{statement}
 use Rattle.guarantee.proofs.reach.masks.Tie as tie
@@ -38,7 +38,7 @@ loop-again : tie.Need-loop-preserved invariant-loop decreases-loop
 loop-again c =
     let l = c.before.before.loop in (
       λ b masks e.
-          reach-more b l.i c.reaching.result l.masks (omega arith) (l.invariant.0 b masks e)
+          reach_more b l.i c.reaching.result l.masks (omega arith) (l.invariant.0 b masks e)
           (c.reaching.ensures b masks e),
       omega arith,
       length-set l.masks l.i c.reaching.result ∙ l.invariant.2,

@@ -4,7 +4,7 @@ use native.Mathlib.Omega.{arith}
 use Rattle.definition.specs.Part.{Book}
 use Rattle.guarantee.specs.Engine.{CallMasks}
 use Rattle.guarantee.proofs.Masks.{mask_one}
-use Rattle.guarantee.proofs.Rounds.{Rounds, rounds-start, rounds-more, rounds-end}
+use Rattle.guarantee.proofs.Rounds.{Rounds, rounds_start, rounds_more, rounds_end}
 use borrow.Author.Rules.{rules}
 use Rattle.guarantee.proofs.reach.reaching.Statement.{statement}
 use Rattle.guarantee.proofs.reach.reaching.Tie as tie
@@ -25,7 +25,7 @@ loop-holds c =
       λ b masks e.
           let all : b.header.goals ≡ a.goals - 0 = omega arith in
           subst (λ (n : ℕ). Rounds b a.goal n c.with.result) all
-          (rounds-start b a.goal c.with.result
+          (rounds_start b a.goal c.with.result
           (mask_one c.with.result a.goal c.before.before.requires.1 c.with.ensures)),
       omega arith,
     )
@@ -43,7 +43,7 @@ loop-again : tie.Need-loop-preserved invariant-loop decreases-loop
 loop-again c =
     let a = c.before.before.before.before.before.args in
     let l = c.before.before.loop in (
-      λ b masks e. rounds-more b a.goal a.goals l.i l.m c.toward.result c.before.loop-test.true
+      λ b masks e. rounds_more b a.goal a.goals l.i l.m c.toward.result c.before.loop-test.true
           (l.invariant.0 b masks e) (c.toward.ensures b masks),
       omega arith,
     )
@@ -52,7 +52,7 @@ returns : tie.Need-returns invariant-loop decreases-loop
 returns c b masks e =
     let a = c.before.before.before.before.args in
     let l = c.before.loop in
-    rounds-end b a.goal a.goals l.i l.m c.loop-test.false (l.invariant.0 b masks e)
+    rounds_end b a.goal a.goals l.i l.m c.loop-test.false (l.invariant.0 b masks e)
 
 pub reaching-spec : {M : Type 1} → statement M
 reaching-spec =

@@ -1,14 +1,14 @@
 use mathlib.Core.Path.{sym}
 use Prim.Native.Nat.{◌-◌, ◌≤◌}
 use native.Mathlib.Omega.{arith}
-use Rattle.guarantee.proofs.Masks.{Upto, upto-none, upto-more, mask_one}
-use Rattle.guarantee.proofs.Rounds.{atGoal, callers, round-ends}
+use Rattle.guarantee.proofs.Masks.{Upto, upto_none, upto_more, mask_one}
+use Rattle.guarantee.proofs.Rounds.{at_goal, callers, round_ends}
 use borrow.Author.Rules.{rules}
 use Rattle.guarantee.proofs.reach.toward.Statement.{statement}
 use Rattle.guarantee.proofs.reach.toward.Tie as tie
 
 abbrev invariant-loop : tie.invariant-loop
-invariant-loop calls goal m r₀ i₀ r i = Upto (atGoal goal) (callers calls m) i r × (i ≤ 64)
+invariant-loop calls goal m r₀ i₀ r i = Upto (at_goal goal) (callers calls m) i r × (i ≤ 64)
 
 abbrev decreases-loop : tie.decreases-loop
 decreases-loop calls goal m r₀ i₀ r i = 64 - i
@@ -19,7 +19,7 @@ with-requires c κs = search rules
 loop-holds : tie.Need-loop-init invariant-loop decreases-loop
 loop-holds c =
     let a = c.before.before.args in (
-      upto-none (atGoal a.goal) (callers a.calls.now a.m) c.with.result
+      upto_none (at_goal a.goal) (callers a.calls.now a.m) c.with.result
           (mask_one c.with.result a.goal c.before.before.requires.1 c.with.ensures),
       omega arith,
     )
@@ -46,7 +46,7 @@ loop-again : tie.Need-loop-preserved invariant-loop decreases-loop
 loop-again c =
     let l = c.before.before.before.before.loop in
     let a = c.before.before.before.before.before.before.before.args in (
-      upto-more (atGoal a.goal) (callers a.calls.now a.m) l.r c.with-if.result l.i
+      upto_more (at_goal a.goal) (callers a.calls.now a.m) l.r c.with-if.result l.i
           c.before.meet.result l.invariant.0 (sym c.before.meet.ensures) c.with-if.ensures,
       omega arith,
     )
@@ -56,7 +56,7 @@ returns c =
     let a = c.before.before.before.before.args in
     let l = c.before.loop in
     let p = c.before.before.before.before.requires in
-    round-ends a.calls.now a.goal a.m l.r l.i p.0 p.1 c.loop-test.false l.invariant.0
+    round_ends a.calls.now a.goal a.m l.r l.i p.0 p.1 c.loop-test.false l.invariant.0
 
 pub toward-spec : {M : Type 1} → statement M
 toward-spec =

@@ -2,19 +2,19 @@ use mathlib.Core.Path.{◌≡◌, sym, ap, ◌∙◌}
 use Prim.Native.Nat.{◌+◌, ◌≤◌}
 use native.Mathlib.Omega.{arith}
 use lib.ListN.{length}
-use Rattle.book.specs.Lines.{linesIn}
-use Rattle.soundness.specs.Groups.{stepLines}
-use Rattle.guarantee.specs.Guarantee.{stepWithin, firstStep}
-use Rattle.guarantee.specs.Engine.{inMask, stepAt, line_of}
-use Rattle.guarantee.proofs.Lines.{stepsIn, steps-none, steps-turn, steps-start, first-here, first-later, rest-length}
+use Rattle.book.specs.Lines.{lines_in}
+use Rattle.soundness.specs.Groups.{step_lines}
+use Rattle.guarantee.specs.Guarantee.{step_within, first_step}
+use Rattle.guarantee.specs.Engine.{in_mask, step_at, line_of}
+use Rattle.guarantee.proofs.Lines.{steps_in, steps_none, steps_turn, steps_start, first_here, first_later, rest_length}
 use borrow.Author.Rules.{rules}
 use Rattle.guarantee.proofs.steps.first_within.Statement.{statement}
 use Rattle.guarantee.proofs.steps.first_within.Tie as tie
 
 abbrev invariant-loop : tie.invariant-loop
 invariant-loop book group kind t₀ caller₀ line₀ t caller line =
-    (firstStep (stepWithin (inMask group) kind) (stepsIn line caller t) ≡ firstStep (stepWithin (inMask group) kind)
-    (stepLines (linesIn book)))
+    (first_step (step_within (in_mask group) kind) (steps_in line caller t) ≡ first_step (step_within (in_mask group) kind)
+    (step_lines (lines_in book)))
     × (line + length t ≤ length book)
 
 abbrev decreases-loop : tie.decreases-loop
@@ -32,9 +32,9 @@ part-t-end c = search rules
 loop-holds : tie.Need-loop-init invariant-loop decreases-loop
 loop-holds c =
     let a = c.before.before.args in (
-      ap (firstStep (stepWithin (inMask a.group) a.kind))
-          (steps-start a.book.now c.before.before.requires),
-      omega (arith, rest-length a.book.now),
+      ap (first_step (step_within (in_mask a.group) a.kind))
+          (steps_start a.book.now c.before.before.requires),
+      omega (arith, rest_length a.book.now),
     )
 
 first-requires : tie.Need-first-requires invariant-loop decreases-loop
@@ -48,11 +48,11 @@ returns c =
     let a = c.before.before.before.before.before.before.before.args in
     let l = c.before.before.before.before.loop in
     let s = c.before.before.first.result in
-    let w = stepWithin (inMask a.group) a.kind in
+    let w = step_within (in_mask a.group) a.kind in
     ap line_of
-    (sym (ap (firstStep w) (steps-turn l.line l.caller l.t.now s
+    (sym (ap (first_step w) (steps_turn l.line l.caller l.t.now s
     c.before.before.before.loop-test.true c.before.before.first.ensures)
-    ∙ first-here w s.step (stepAt l.line s) _ (sym c.before.is_Within.ensures ∙ c.if1.true))
+    ∙ first_here w s.step (step_at l.line s) _ (sym c.before.is_Within.ensures ∙ c.if1.true))
     ∙ l.invariant.0)
 
 sub-t-2 : tie.Need-overflow-sub-t-2 invariant-loop decreases-loop
@@ -70,28 +70,28 @@ add-line c = search rules
 loop-less : tie.Need-loop-smaller invariant-loop decreases-loop
 loop-less c =
     let l = c.before.before.before.before.before.loop in
-    omega (arith, rest-length l.t.now, c.before.before.before.before.loop-test.true)
+    omega (arith, rest_length l.t.now, c.before.before.before.before.loop-test.true)
 
 loop-again : tie.Need-loop-preserved invariant-loop decreases-loop
 loop-again c =
     let a = c.before.before.before.before.before.before.before.before.args in
     let l = c.before.before.before.before.before.loop in
     let s = c.before.before.before.first.result in
-    let w = stepWithin (inMask a.group) a.kind in (
-      sym (ap (firstStep w) (steps-turn l.line l.caller l.t.now s
+    let w = step_within (in_mask a.group) a.kind in (
+      sym (ap (first_step w) (steps_turn l.line l.caller l.t.now s
           c.before.before.before.before.loop-test.true c.before.before.before.first.ensures)
-          ∙ first-later w s.step (stepAt l.line s) _
+          ∙ first_later w s.step (step_at l.line s) _
           (sym c.before.before.is_Within.ensures ∙ c.before.if1.false))
           ∙ l.invariant.0,
-      omega (arith, rest-length l.t.now, l.invariant.1, c.before.before.before.before.loop-test.true),
+      omega (arith, rest_length l.t.now, l.invariant.1, c.before.before.before.before.loop-test.true),
     )
 
 returns-2 : tie.Need-returns-2 invariant-loop decreases-loop
 returns-2 c =
     let a = c.before.before.before.before.args in
     let l = c.before.loop in
-    let w = stepWithin (inMask a.group) a.kind in
-    ap line_of (sym (ap (firstStep w) (steps-none l.line l.caller l.t.now c.loop-test.false)) ∙ l.invariant.0)
+    let w = step_within (in_mask a.group) a.kind in
+    ap line_of (sym (ap (first_step w) (steps_none l.line l.caller l.t.now c.loop-test.false)) ∙ l.invariant.0)
 
 pub first-within-spec : {M : Type 1} → statement M
 first-within-spec =

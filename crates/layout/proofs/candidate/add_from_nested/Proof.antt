@@ -4,10 +4,10 @@ use mathlib.Core.List.{List, ◌++◌}
 use native.Mathlib.Omega.{arith}
 use lib.ListN.{length, take, drop}
 use Rattle.buffer.specs.Regions.{region}
-use Rattle.buffer.proofs.Regions.{overwrite-part, length-region}
-use Rattle.definition.specs.Usages.{addUsagesFromNested}
-use Rattle.layout.specs.Blocks.{usagesOf}
-use Rattle.layout.proofs.Counted.{usages-added}
+use Rattle.buffer.proofs.Regions.{overwrite_part, length_region}
+use Rattle.definition.specs.Usages.{add_usages_from_nested}
+use Rattle.layout.specs.Blocks.{usages_of}
+use Rattle.layout.proofs.Counted.{usages_added}
 use borrow.Author.Rules.{rules}
 use Rattle.layout.proofs.candidate.add_from_nested.Statement.{statement}
 use Rattle.layout.proofs.candidate.add_from_nested.Tie as tie
@@ -49,11 +49,11 @@ returns c =
     let room : at + 32 ≤ length bs = omega (arith, s.requires.0.long) in
     let e : at + 32 - at ≡ 32 = omega arith in
     let here : region at (at + 32 - at) bs ≡ region at 32 bs = ap (λ (n : ℕ). region at n bs) e in
-    let whole : length ys ≡ 32 = c.before.before.count-nested.auto.0 ∙ ap length here ∙ length-region at 32 bs room in
-    usages-added s.args.goals s.args.b.now bs s.args.i ys s.args.u s.requires.0.few s.requires.1 room whole
+    let whole : length ys ≡ 32 = c.before.before.count-nested.auto.0 ∙ ap length here ∙ length_region at 32 bs room in
+    usages_added s.args.goals s.args.b.now bs s.args.i ys s.args.u s.requires.0.few s.requires.1 room whole
     c.before.before.before.before.before.before.start.ensures.1 c.before.before.before.before.before.before.start.ensures.0
-    (take at bs ++ (ys ++ drop (at + 32 - at) (drop at bs))) (overwrite-part bs at (at + 32) ys (whole ∙ sym e))
-    (c.before.before.count-nested.ensures ∙ ap (λ (l : List ℕ). addUsagesFromNested (usagesOf l) s.args.u) here)
+    (take at bs ++ (ys ++ drop (at + 32 - at) (drop at bs))) (overwrite_part bs at (at + 32) ys (whole ∙ sym e))
+    (c.before.before.count-nested.ensures ∙ ap (λ (l : List ℕ). add_usages_from_nested (usages_of l) s.args.u) here)
 
 pub add-from-nested-spec : {M : Type 1} → statement M
 add-from-nested-spec =

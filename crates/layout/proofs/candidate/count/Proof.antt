@@ -4,11 +4,11 @@ use mathlib.Core.List.{List, ◌++◌}
 use native.Mathlib.Omega.{arith}
 use lib.ListN.{length, take, drop}
 use Rattle.buffer.specs.Regions.{region}
-use Rattle.buffer.proofs.Regions.{overwrite-part, length-region}
-use Rattle.definition.specs.Usages.{oneUsage}
-use Rattle.layout.specs.Blocks.{usagesOf}
-use Rattle.definition.specs.Usages.{addUsage}
-use Rattle.layout.proofs.Counted.{one_more, usages-added}
+use Rattle.buffer.proofs.Regions.{overwrite_part, length_region}
+use Rattle.definition.specs.Usages.{one_usage}
+use Rattle.layout.specs.Blocks.{usages_of}
+use Rattle.definition.specs.Usages.{add_usage}
+use Rattle.layout.proofs.Counted.{one_more, usages_added}
 use borrow.Author.Rules.{rules}
 use Rattle.layout.proofs.candidate.count.Statement.{statement}
 use Rattle.layout.proofs.candidate.count.Tie as tie
@@ -50,11 +50,11 @@ returns c =
     let room : at + 32 ≤ length bs = omega (arith, s.requires.0.long) in
     let e : at + 32 - at ≡ 32 = omega arith in
     let here : region at (at + 32 - at) bs ≡ region at 32 bs = ap (λ (n : ℕ). region at n bs) e in
-    let whole : length ys ≡ 32 = c.before.before.count-usage.auto.0 ∙ ap length here ∙ length-region at 32 bs room in
-    usages-added s.args.goals s.args.b.now bs s.args.i ys (oneUsage s.args.kind) s.requires.0.few s.requires.1 room whole
+    let whole : length ys ≡ 32 = c.before.before.count-usage.auto.0 ∙ ap length here ∙ length_region at 32 bs room in
+    usages_added s.args.goals s.args.b.now bs s.args.i ys (one_usage s.args.kind) s.requires.0.few s.requires.1 room whole
     c.before.before.before.before.before.before.start.ensures.1 c.before.before.before.before.before.before.start.ensures.0
-    (take at bs ++ (ys ++ drop (at + 32 - at) (drop at bs))) (overwrite-part bs at (at + 32) ys (whole ∙ sym e))
-    (c.before.before.count-usage.ensures ∙ ap (λ (l : List ℕ). addUsage (usagesOf l) s.args.kind) here ∙ sym (one_more (usagesOf (region at 32 bs)) s.args.kind))
+    (take at bs ++ (ys ++ drop (at + 32 - at) (drop at bs))) (overwrite_part bs at (at + 32) ys (whole ∙ sym e))
+    (c.before.before.count-usage.ensures ∙ ap (λ (l : List ℕ). add_usage (usages_of l) s.args.kind) here ∙ sym (one_more (usages_of (region at 32 bs)) s.args.kind))
 
 pub count_spec : {M : Type 1} → statement M
 count_spec =

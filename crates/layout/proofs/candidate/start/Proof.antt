@@ -7,9 +7,9 @@ use lib.Seq.{set-get_or}
 use Rattle.bits.specs.Masks.{flags}
 use Rattle.buffer.proofs.Tables.{up_at}
 use Rattle.definition.specs.declared.usages.HeadUsages.{HeadUsages}
-use Rattle.definition.specs.Usages.{noUsages}
-use Rattle.layout.specs.Blocks.{usagesOf, flagAt, usagesIn, candidateOf}
-use Rattle.layout.proofs.Blocks.{kept-clear}
+use Rattle.definition.specs.Usages.{no_usages}
+use Rattle.layout.specs.Blocks.{usages_of, flag_at, usages_in, candidate_of}
+use Rattle.layout.proofs.Blocks.{kept_clear}
 use borrow.Author.Rules.{rules}
 use Rattle.layout.proofs.candidate.start.Statement.{statement}
 use Rattle.layout.proofs.candidate.start.Tie as tie
@@ -23,8 +23,8 @@ has-requires c κs = search rules
 same_length : tie.Need-same-length
 same_length c = search rules
 
-flag_is : (c : tie.Then1) → flagAt c.before.before.before.before.before.args.b.now c.before.before.before.before.before.args.i ≡ true
-unfolding flagAt
+flag_is : (c : tie.Then1) → flag_at c.before.before.before.before.before.args.b.now c.before.before.before.before.before.args.i ≡ true
+unfolding flag_at
 flag_is c = ap (λ (n : ℕ). get_or (flags 64 n) c.before.before.before.before.before.args.i false) (sym c.before.before.read_u64.ensures) ∙ sym c.before.has.ensures ∙ c.if1.true
 
 returns : tie.Need-returns
@@ -39,19 +39,19 @@ put-requires c κs = search rules
 same-length-2 : tie.Need-same-length-2
 same-length-2 c = search rules
 
-no-usages : (c : tie.After-slice-known2) → get_or (candidateOf c.before.before.before.before.before.before.before.before.before.before.args.goals c.before.before.before.before.before.before.before.before.before.before.args.b.now) c.before.before.before.before.before.before.before.before.before.before.args.i noUsages ≡ noUsages
-unfolding candidateOf flagAt
-no-usages c =
+no_usages_lem : (c : tie.After-slice-known2) → get_or (candidate_of c.before.before.before.before.before.before.before.before.before.before.args.goals c.before.before.before.before.before.before.before.before.before.before.args.b.now) c.before.before.before.before.before.before.before.before.before.before.args.i no_usages ≡ no_usages
+unfolding candidate_of flag_at
+no_usages_lem c =
     let s = c.before.before.before.before.before.before.before.before.before.before in
-    up_at noUsages (usagesIn s.args.b.now) s.args.goals s.args.i s.requires.1
-    ∙ kept-clear usagesOf noUsages 32 s.args.b.now s.args.i
+    up_at no_usages (usages_in s.args.b.now) s.args.goals s.args.i s.requires.1
+    ∙ kept_clear usages_of no_usages 32 s.args.b.now s.args.i
     (ap (λ (n : ℕ). get_or (flags 64 n) s.args.i false) (sym c.before.before.before.before.before.before.before.read_u64.ensures) ∙ sym c.before.before.before.before.before.before.has.ensures ∙ c.before.before.before.before.before.if1.false)
 
 returns-2 : tie.Need-returns-2
 returns-2 c =
     let s = c.before.before.before.before.before.before.before.before.before.before in
-    let us : List HeadUsages = candidateOf s.args.goals s.args.b.now in (
-      c.before.before.put.ensures.0 ∙ ap (set us s.args.i) (c.before.before.before.none.ensures ∙ sym (no-usages c)) ∙ set-get_or us s.args.i noUsages,
+    let us : List HeadUsages = candidate_of s.args.goals s.args.b.now in (
+      c.before.before.put.ensures.0 ∙ ap (set us s.args.i) (c.before.before.before.none.ensures ∙ sym (no_usages_lem c)) ∙ set-get_or us s.args.i no_usages,
       c.before.before.put.ensures.1,
     )
 

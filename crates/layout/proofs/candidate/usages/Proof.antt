@@ -3,12 +3,12 @@ use mathlib.Core.Path.{◌≡◌, sym, ap, ◌∙◌}
 use Prim.Native.Nat.{ℕ, ◌+◌, ◌*◌, ◌-◌}
 use mathlib.Core.Bool.{false}
 use native.Mathlib.Omega.{arith}
-use Rattle.definition.specs.Usages.{noUsages}
+use Rattle.definition.specs.Usages.{no_usages}
 use lib.ListN.{get_or}
 use Rattle.bits.specs.Masks.{flags}
 use Rattle.buffer.proofs.Tables.{up_at}
-use Rattle.layout.specs.Blocks.{usagesOf, candidateOf, flagAt, usagesIn}
-use Rattle.layout.proofs.Blocks.{kept_set, kept-clear}
+use Rattle.layout.specs.Blocks.{usages_of, candidate_of, flag_at, usages_in}
+use Rattle.layout.proofs.Blocks.{kept_set, kept_clear}
 use borrow.Author.Rules.{rules}
 use Rattle.layout.proofs.candidate.usages.Statement.{statement}
 use Rattle.layout.proofs.candidate.usages.Tie as tie
@@ -41,27 +41,27 @@ read-usages-requires : tie.Need-read-usages-requires
 read-usages-requires c κs = search rules
 
 returns : tie.Need-returns
-unfolding candidateOf flagAt
+unfolding candidate_of flag_at
 returns c =
     let s = c.before.before.before.before.before.before in
     let a : ℕ = 8 + s.args.i * 32 in
     let e : a + 32 - a ≡ 32 = omega arith in
     c.read-usages.ensures
-    ∙ ap (λ (n : ℕ). usagesOf (region a n s.args.b.now)) e
-    ∙ sym (up_at noUsages (usagesIn s.args.b.now) s.args.goals s.args.i s.requires.1
-    ∙ kept_set usagesOf noUsages 32 s.args.b.now s.args.i
+    ∙ ap (λ (n : ℕ). usages_of (region a n s.args.b.now)) e
+    ∙ sym (up_at no_usages (usages_in s.args.b.now) s.args.goals s.args.i s.requires.1
+    ∙ kept_set usages_of no_usages 32 s.args.b.now s.args.i
     (ap (λ (m : ℕ). get_or (flags 64 m) s.args.i false) (sym c.before.before.before.before.read_u64.ensures) ∙ sym c.before.before.before.has.ensures ∙ c.before.before.if1.true))
 
 none-requires : tie.Need-none-requires
 none-requires c κs = search rules
 
 returns-2 : tie.Need-returns-2
-unfolding candidateOf flagAt
+unfolding candidate_of flag_at
 returns-2 c =
     let s = c.before.before.before.before.before in
     c.none.ensures
-    ∙ sym (up_at noUsages (usagesIn s.args.b.now) s.args.goals s.args.i s.requires.1
-    ∙ kept-clear usagesOf noUsages 32 s.args.b.now s.args.i
+    ∙ sym (up_at no_usages (usages_in s.args.b.now) s.args.goals s.args.i s.requires.1
+    ∙ kept_clear usages_of no_usages 32 s.args.b.now s.args.i
     (ap (λ (m : ℕ). get_or (flags 64 m) s.args.i false) (sym c.before.before.before.read_u64.ensures) ∙ sym c.before.before.has.ensures ∙ c.before.if1.false))
 
 pub usages-spec : {M : Type 1} → statement M

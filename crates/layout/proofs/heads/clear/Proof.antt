@@ -1,8 +1,8 @@
 use mathlib.Core.Path.{ap, ◌∙◌}
 use mathlib.Core.Option.{none, some}
 use native.Mathlib.Omega.{arith}
-use Rattle.layout.specs.Blocks.{head_of, headsOf}
-use Rattle.layout.proofs.Blocks.{block-clear}
+use Rattle.layout.specs.Blocks.{head_of, heads_of}
+use Rattle.layout.proofs.Blocks.{block_clear}
 use borrow.Author.Rules.{rules}
 use Rattle.layout.proofs.heads.clear.Statement.{statement}
 use Rattle.layout.proofs.heads.clear.Tie as tie
@@ -14,10 +14,10 @@ same_length : tie.Need-same-length
 same_length c = search rules
 
 returns : tie.Need-returns
-unfolding headsOf
+unfolding heads_of
 returns c =
     let s = c.before.before.before.before.before in
-    ap (headsOf s.args.goals) c.before.before.write-u64.ensures ∙ block-clear (λ r. some (head_of r)) none 33 s.args.b.now s.args.goals (omega arith) s.requires.few
+    ap (heads_of s.args.goals) c.before.before.write-u64.ensures ∙ block_clear (λ r. some (head_of r)) none 33 s.args.b.now s.args.goals (omega arith) s.requires.few
 
 pub clear_spec : {M : Type 1} → statement M
 clear_spec = tie.close (tie.spec write-u64-requires same_length returns)

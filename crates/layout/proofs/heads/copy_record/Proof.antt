@@ -4,9 +4,9 @@ use mathlib.Core.List.{List, ◌++◌}
 use native.Mathlib.Omega.{arith}
 use lib.ListN.{length, take, drop}
 use Rattle.buffer.specs.Regions.{region}
-use Rattle.buffer.proofs.Regions.{overwrite-part, length-region}
+use Rattle.buffer.proofs.Regions.{overwrite_part, length_region}
 use Rattle.layout.specs.Blocks.{head_of}
-use Rattle.layout.proofs.Copied.{record-copied}
+use Rattle.layout.proofs.Copied.{record_copied}
 use borrow.Author.Rules.{rules}
 use Rattle.layout.proofs.heads.copy_record.Statement.{statement}
 use Rattle.layout.proofs.heads.copy_record.Tie as tie
@@ -54,9 +54,9 @@ returns c =
     let room : to + 33 ≤ length bs = s.requires.1 in
     let e : to + 33 - to ≡ 33 = omega arith in
     let f : from + 33 - from ≡ 33 = omega arith in
-    let whole : length ys ≡ 33 = c.before.before.write-head.auto.0 ∙ ap (λ (n : ℕ). length (region to n bs)) e ∙ length-region to 33 bs room in
-    record-copied bs from to ys whole room
-    (take to bs ++ (ys ++ drop (to + 33 - to) (drop to bs))) (overwrite-part bs to (to + 33) ys (whole ∙ sym e))
+    let whole : length ys ≡ 33 = c.before.before.write-head.auto.0 ∙ ap (λ (n : ℕ). length (region to n bs)) e ∙ length_region to 33 bs room in
+    record_copied bs from to ys whole room
+    (take to bs ++ (ys ++ drop (to + 33 - to) (drop to bs))) (overwrite_part bs to (to + 33) ys (whole ∙ sym e))
     (c.before.before.write-head.ensures ∙ c.before.before.before.before.read_head.ensures ∙ ap (λ (n : ℕ). head_of (region from n bs)) f)
 
 pub copy-record-spec : {M : Type 1} → statement M

@@ -5,10 +5,10 @@ use mathlib.Core.Option.{some}
 use native.Mathlib.Omega.{arith}
 use lib.ListN.{length, take, drop}
 use Rattle.buffer.specs.Regions.{region}
-use Rattle.buffer.proofs.Regions.{overwrite-part, length-region}
-use Rattle.definition.specs.Heads.{joinHead}
+use Rattle.buffer.proofs.Regions.{overwrite_part, length_region}
+use Rattle.definition.specs.Heads.{join_head}
 use Rattle.layout.specs.Blocks.{head_of}
-use Rattle.layout.proofs.Present.{insert-unknown, head-inserted}
+use Rattle.layout.proofs.Present.{insert_unknown, head_inserted}
 use borrow.Author.Rules.{rules}
 use Rattle.layout.proofs.heads.insert.Statement.{statement}
 use Rattle.layout.proofs.heads.insert.Tie as tie
@@ -49,11 +49,11 @@ returns c =
     let room : at + 33 ≤ length bs = omega (arith, s.requires.0.long) in
     let e : at + 33 - at ≡ 33 = omega arith in
     let here : region at (at + 33 - at) bs ≡ region at 33 bs = ap (λ (n : ℕ). region at n bs) e in
-    let whole : length ys ≡ 33 = c.before.before.join-head.auto.0 ∙ ap length here ∙ length-region at 33 bs room in
-    head-inserted s.args.goals bs s.args.i s.requires.1 ys s.args.paths s.args.usages s.requires.0.few room whole
+    let whole : length ys ≡ 33 = c.before.before.join-head.auto.0 ∙ ap length here ∙ length_region at 33 bs room in
+    head_inserted s.args.goals bs s.args.i s.requires.1 ys s.args.paths s.args.usages s.requires.0.few room whole
     (sym c.before.before.before.before.before.has.ensures ∙ c.before.before.before.before.if1.true)
-    (take at bs ++ (ys ++ drop (at + 33 - at) (drop at bs))) (overwrite-part bs at (at + 33) ys (whole ∙ sym e))
-    (c.before.before.join-head.ensures ∙ ap (λ (l : List ℕ). joinHead (some (head_of l)) s.args.paths s.args.usages) here)
+    (take at bs ++ (ys ++ drop (at + 33 - at) (drop at bs))) (overwrite_part bs at (at + 33) ys (whole ∙ sym e))
+    (c.before.before.join-head.ensures ∙ ap (λ (l : List ℕ). join_head (some (head_of l)) s.args.paths s.args.usages) here)
 
 put-requires : tie.Need-put-requires
 put-requires c κs = search rules
@@ -65,7 +65,7 @@ returns-2 : tie.Need-returns-2
 returns-2 c =
     let s = c.before.before.before.before.before.before.before.before in
     c.before.before.put.ensures
-    ∙ insert-unknown s.args.goals s.args.b.now s.args.i s.requires.1 s.args.paths s.args.usages (sym c.before.before.before.before.before.has.ensures ∙ c.before.before.before.before.if1.false)
+    ∙ insert_unknown s.args.goals s.args.b.now s.args.i s.requires.1 s.args.paths s.args.usages (sym c.before.before.before.before.before.has.ensures ∙ c.before.before.before.before.if1.false)
 
 pub insert-spec : {M : Type 1} → statement M
 insert-spec =

@@ -2,8 +2,8 @@ use mathlib.Core.Path.{ap, ◌∙◌}
 use Prim.Native.Nat.{ℕ, ◌^◌, ◌<◌}
 use mathlib.Core.Option.{none, some}
 use native.Mathlib.Omega.{arith}
-use Rattle.layout.specs.Blocks.{head_of, headsOf}
-use Rattle.layout.proofs.Blocks.{block-remove}
+use Rattle.layout.specs.Blocks.{head_of, heads_of}
+use Rattle.layout.proofs.Blocks.{block_remove}
 use Rattle.bits.specs.Masks.{flags}
 use lib.ListN.{set}
 use mathlib.Core.Bool.{false}
@@ -27,11 +27,11 @@ small : (c : tie.After-slice-known2) → c.before.before.before.without.result <
 small c = search rules
 
 returns : tie.Need-returns
-unfolding headsOf
+unfolding heads_of
 returns c =
     let s = c.before.before.before.before.before.before.before.before in
-    ap (headsOf s.args.goals) c.before.before.write-u64.ensures
-    ∙ block-remove (λ r. some (head_of r)) none 33 s.args.b.now c.before.before.before.without.result (small c) (omega arith) s.args.goals s.args.i s.requires.1 s.requires.0.few
+    ap (heads_of s.args.goals) c.before.before.write-u64.ensures
+    ∙ block_remove (λ r. some (head_of r)) none 33 s.args.b.now c.before.before.before.without.result (small c) (omega arith) s.args.goals s.args.i s.requires.1 s.requires.0.few
     (c.before.before.before.without.ensures ∙ ap (λ (m : ℕ). set (flags 64 m) s.args.i false) c.before.before.before.before.before.read_u64.ensures)
 
 pub remove-spec : {M : Type 1} → statement M

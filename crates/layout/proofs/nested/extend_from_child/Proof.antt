@@ -5,15 +5,15 @@ use lib.Bits.{bit_or}
 use lib.ListN.{length, get_or, length-set}
 use borrow.Author.Rules.{rules}
 use Rattle.definition.specs.declared.paths.PathKind.{PathKind}
-use Rattle.definition.specs.Paths.{weakerFlags, flagOf}
-use Rattle.definition.specs.Nested.{extendFromChild}
-use Rattle.layout.proofs.NestedExtended.{extendedFrom, extend-more, extend-all}
+use Rattle.definition.specs.Paths.{weaker_flags, flag_of}
+use Rattle.definition.specs.Nested.{extend_from_child}
+use Rattle.layout.proofs.NestedExtended.{extended_from, extend_more, extend_all_lem}
 use Rattle.layout.proofs.nested.extend_from_child.Statement.{statement}
 use Rattle.layout.proofs.nested.extend_from_child.Tie as tie
 
 abbrev invariant-loop : tie.invariant-loop
 invariant-loop nested₀ child weaker flag n i₀ nested i =
-    (i ≤ n) × (length nested ≡ length nested₀) × ((k : PathKind) → weaker ≡ weakerFlags k → flag ≡ flagOf k → extendedFrom i nested k child ≡ extendFromChild nested₀ k child)
+    (i ≤ n) × (length nested ≡ length nested₀) × ((k : PathKind) → weaker ≡ weaker_flags k → flag ≡ flag_of k → extended_from i nested k child ≡ extend_from_child nested₀ k child)
 
 abbrev decreases-loop : tie.decreases-loop
 decreases-loop nested₀ child weaker flag n i₀ nested i = n - i
@@ -55,7 +55,7 @@ loop-again c =
       omega arith,
       simp length-set l.invariant.1,
       λ k is-weaker is-flag.
-          extend-more l.nested k child _ l.i _ (get_or child l.i 0) (l.invariant.2 k is-weaker is-flag) (slice-read-nested c) refl
+          extend_more l.nested k child _ l.i _ (get_or child l.i 0) (l.invariant.2 k is-weaker is-flag) (slice-read-nested c) refl
           (ap (bit_or (get_or l.nested l.i 0)) (c.before.replace-weaker.ensures k is-weaker is-flag)),
     )
 
@@ -66,7 +66,7 @@ returns : tie.Need-returns invariant-loop decreases-loop
 returns c =
     let s = c.before.before.before.before.before.before.before in
     let l = c.before.loop in
-    extend-all l.nested s.args.step s.args.child.now _ c.before.before.least.result l.i
+    extend_all_lem l.nested s.args.step s.args.child.now _ c.before.before.least.result l.i
     (l.invariant.2 s.args.step c.before.before.before.before.weaker-flags.ensures c.before.before.before.flag.ensures)
     (c.before.before.least.ensures ∙ ap (λ (n : ℕ). min n (length s.args.child.now)) (sym l.invariant.1))
     c.loop-test.false

@@ -4,7 +4,7 @@ use native.Mathlib.Omega.{arith}
 use lib.Bits.{bit_or}
 use lib.ListN.{get_or}
 use borrow.Author.Rules.{rules}
-use Rattle.layout.proofs.NestedExtended.{Extending, extending-start, extending-turn, extending-done}
+use Rattle.layout.proofs.NestedExtended.{Extending, extending_start, extending_turn, extending_done}
 use Rattle.layout.proofs.nested.extend_within.Statement.{statement}
 use Rattle.layout.proofs.nested.extend_within.Tie as tie
 
@@ -21,7 +21,7 @@ flag-requires : tie.Need-flag-requires invariant-loop decreases-loop
 flag-requires c κs = search rules
 
 loop-holds : tie.Need-loop-init invariant-loop decreases-loop
-loop-holds c = let s = c.before.before.before in extending-start s.args.s.now s.args.to s.args.from s.args.goals s.requires.0 s.requires.1 c.before.weaker-flags.result c.flag.result
+loop-holds c = let s = c.before.before.before in extending_start s.args.s.now s.args.to s.args.from s.args.goals s.requires.0 s.requires.1 c.before.weaker-flags.result c.flag.result
 
 add-paths : tie.Need-overflow-add-paths invariant-loop decreases-loop
 add-paths c = let p = c.before.before.before.before.before.requires in let b = p.0 in let r = p.1 in let g = c.before.loop.invariant.long in let w = c.before.loop.invariant.low in omega arith
@@ -54,7 +54,7 @@ loop-again : tie.Need-loop-preserved invariant-loop decreases-loop
 loop-again c =
     let s = c.before.before.before.before.before.before.before.before in
     let l = c.before.before.before.before.loop in
-    extending-turn s.args.s.now s.args.to s.args.from s.args.goals s.requires.0 s.requires.1 c.before.before.before.before.before.before.weaker-flags.result c.before.before.before.before.before.flag.result l.s l.all l.i l.invariant c.before.before.before.loop-test.true
+    extending_turn s.args.s.now s.args.to s.args.from s.args.goals s.requires.0 s.requires.1 c.before.before.before.before.before.before.weaker-flags.result c.before.before.before.before.before.flag.result l.s l.all l.i l.invariant c.before.before.before.loop-test.true
     (bit_or (get_or l.s (s.args.to + l.i) 0) c.before.replace-weaker.result) (λ k a b. ap (bit_or (get_or l.s (s.args.to + l.i) 0)) (c.before.replace-weaker.ensures k a b))
 
 same_length : tie.Need-same-length invariant-loop decreases-loop
@@ -64,7 +64,7 @@ returns : tie.Need-returns invariant-loop decreases-loop
 returns c =
     let s = c.before.before.before.before.before in
     let l = c.before.loop in
-    extending-done s.args.s.now s.args.to s.args.from s.args.goals s.requires.0 s.requires.1 c.before.before.before.weaker-flags.result c.before.before.flag.result l.s l.all l.i l.invariant c.loop-test.false
+    extending_done s.args.s.now s.args.to s.args.from s.args.goals s.requires.0 s.requires.1 c.before.before.before.weaker-flags.result c.before.before.flag.result l.s l.all l.i l.invariant c.loop-test.false
     s.args.step c.before.before.before.weaker-flags.ensures c.before.before.flag.ensures
 
 pub extend-within-spec : {M : Type 1} → statement M

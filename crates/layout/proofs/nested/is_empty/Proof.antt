@@ -1,5 +1,5 @@
 use mathlib.Core.Path.{sym, ◌∙◌}
-use Rattle.layout.proofs.NestedPaths.{leb-zero, empty-flags}
+use Rattle.layout.proofs.NestedPaths.{leb_zero, empty_flags}
 use borrow.Author.Rules.{rules}
 use Rattle.layout.proofs.nested.is_empty.Statement.{statement}
 use Rattle.layout.proofs.nested.is_empty.Tie as tie
@@ -8,7 +8,7 @@ all-paths-requires : tie.Need-all-paths-requires
 all-paths-requires c κs = search rules
 
 returns : tie.Need-returns
-returns c = sym (leb-zero c.all-paths.result) ∙ c.all-paths.ensures 0 ∙ empty-flags c.before.before.args.nested.now
+returns c = sym (leb_zero c.all-paths.result) ∙ c.all-paths.ensures 0 ∙ empty_flags c.before.before.args.nested.now
 
 pub is_empty_spec : {M : Type 1} → statement M
 is_empty_spec = tie.close (tie.spec all-paths-requires returns)

@@ -1,5 +1,5 @@
-use Rattle.layout.specs.Blocks.{usagesOf}
-use Rattle.layout.proofs.Counted.{kinds-counted}
+use Rattle.layout.specs.Blocks.{usages_of}
+use Rattle.layout.proofs.Counted.{kinds_counted}
 use borrow.Author.Rules.{rules}
 use Rattle.layout.proofs.records.count_nested.Statement.{statement}
 use Rattle.layout.proofs.records.count_nested.Tie as tie
@@ -22,8 +22,8 @@ same_length c = search rules
 returns : tie.Need-returns
 returns c =
     let s = c.before.before.before.before.before.before.before.before.before.before.before.before.before.before.before.before.before in
-    kinds-counted (usagesOf s.args.b.now) s.args.nested (usagesOf c.before.before.before.before.before.before.before.before.before.before.before.before.before.before.count-if.new.0) (usagesOf c.before.before.before.before.before.before.before.before.before.before.count-if2.new.0)
-    (usagesOf c.before.before.before.before.before.before.count-if3.new.0) (usagesOf c.before.before.count-if4.new.0)
+    kinds_counted (usages_of s.args.b.now) s.args.nested (usages_of c.before.before.before.before.before.before.before.before.before.before.before.before.before.before.count-if.new.0) (usages_of c.before.before.before.before.before.before.before.before.before.before.count-if2.new.0)
+    (usages_of c.before.before.before.before.before.before.count-if3.new.0) (usages_of c.before.before.count-if4.new.0)
     c.before.before.before.before.before.before.before.before.before.before.before.before.before.before.count-if.ensures c.before.before.before.before.before.before.before.before.before.before.count-if2.ensures c.before.before.before.before.before.before.count-if3.ensures c.before.before.count-if4.ensures
 
 pub count-nested-spec : {M : Type 1} → statement M

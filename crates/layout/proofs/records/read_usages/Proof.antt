@@ -1,4 +1,4 @@
-use Rattle.layout.specs.Blocks.{usagesOf}
+use Rattle.layout.specs.Blocks.{usages_of}
 use borrow.Author.Rules.{rules}
 use Rattle.layout.proofs.records.read_usages.Statement.{statement}
 use Rattle.layout.proofs.records.read_usages.Tie as tie
@@ -16,7 +16,7 @@ read-u64-requires-4 : tie.Need-read-u64-requires-4
 read-u64-requires-4 c κs = search rules
 
 returns : tie.Need-returns
-unfolding usagesOf
+unfolding usages_of
 returns c =
     λ i. record {
       inductive = c.before.before.before.read_u64.ensures i;

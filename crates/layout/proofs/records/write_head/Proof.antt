@@ -4,9 +4,9 @@ use Prim.Native.Nat.{ℕ}
 use native.Mathlib.Omega.{arith}
 use lib.ListN.{length, set}
 use Rattle.buffer.specs.Regions.{region}
-use Rattle.buffer.proofs.Regions.{overwrite-part, length-region}
+use Rattle.buffer.proofs.Regions.{overwrite_part, length_region}
 use Rattle.layout.specs.Blocks.{head_of}
-use Rattle.layout.proofs.Written.{head-back}
+use Rattle.layout.proofs.Written.{head_back}
 use borrow.Author.Rules.{rules}
 use Rattle.layout.proofs.records.write_head.Statement.{statement}
 use Rattle.layout.proofs.records.write_head.Tie as tie
@@ -33,9 +33,9 @@ returns : tie.Need-returns
 returns c =
     let s = c.before.before.before.before.before.before in
     let ys : List ℕ = c.before.before.write-usages.new.0 in
-    let part : length (region 1 32 s.args.b.now) ≡ 32 = length-region 1 32 s.args.b.now (omega (arith, s.requires)) in
+    let part : length (region 1 32 s.args.b.now) ≡ 32 = length_region 1 32 s.args.b.now (omega (arith, s.requires)) in
     let whole : length ys ≡ 32 = c.before.before.write-usages.auto.0 ∙ part in
-    ap (λ (l : List ℕ). head_of (set l 0 s.args.head.paths)) (overwrite-part s.args.b.now 1 33 ys whole) ∙ head-back s.args.b.now ys s.args.head s.requires whole c.before.before.write-usages.ensures
+    ap (λ (l : List ℕ). head_of (set l 0 s.args.head.paths)) (overwrite_part s.args.b.now 1 33 ys whole) ∙ head_back s.args.b.now ys s.args.head s.requires whole c.before.before.write-usages.ensures
 
 pub write-head-spec : {M : Type 1} → statement M
 write-head-spec =

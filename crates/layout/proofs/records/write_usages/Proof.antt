@@ -1,4 +1,4 @@
-use Rattle.layout.proofs.Written.{Small, usages-written}
+use Rattle.layout.proofs.Written.{Small, usages_written}
 use borrow.Author.Rules.{rules}
 use Rattle.layout.proofs.records.write_usages.Statement.{statement}
 use Rattle.layout.proofs.records.write_usages.Tie as tie
@@ -24,7 +24,7 @@ small c = record { inductive = search rules; unknown = search rules; coinductive
 returns : tie.Need-returns
 returns c =
     let s = c.before.before.before.before.before.before.before.before.before.before.before.before.before.before.before.before.before in
-    usages-written s.args.b.now s.args.u s.requires (small c) c.before.before.before.before.before.before.before.before.before.before.before.before.before.before.write-u64.new.0 c.before.before.before.before.before.before.before.before.before.before.before.before.before.before.write-u64.ensures c.before.before.before.before.before.before.before.before.before.before.write-u642.new.0 c.before.before.before.before.before.before.before.before.before.before.write-u642.ensures
+    usages_written s.args.b.now s.args.u s.requires (small c) c.before.before.before.before.before.before.before.before.before.before.before.before.before.before.write-u64.new.0 c.before.before.before.before.before.before.before.before.before.before.before.before.before.before.write-u64.ensures c.before.before.before.before.before.before.before.before.before.before.write-u642.new.0 c.before.before.before.before.before.before.before.before.before.before.write-u642.ensures
     c.before.before.before.before.before.before.write-u643.new.0 c.before.before.before.before.before.before.write-u643.ensures c.before.before.write-u644.new.0 c.before.before.write-u644.ensures
 
 pub write-usages-spec : {M : Type 1} → statement M

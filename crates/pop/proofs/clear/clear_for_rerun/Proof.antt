@@ -1,14 +1,14 @@
 use mathlib.Core.Path.{◌≡◌, refl, ap, ◌∙◌}
 use native.Mathlib.Omega.{arith}
 use Prim.Native.Nat.{ℕ, ◌-◌, ◌<◌, ◌*◌}
-use Rattle.definition.specs.ProvisionalCache.{survivors, survivesRerun}
+use Rattle.definition.specs.ProvisionalCache.{survivors, survives_rerun}
 use Rattle.layout.specs.Entry.{entry_of}
-use Rattle.layout.specs.Work.{entryFrom}
+use Rattle.layout.specs.Work.{entry_from}
 use Rattle.provisional_cache.specs.Entries.{EntriesBytes}
-use Rattle.provisional_cache.proofs.Entries.{entries_from, entry-bytes}
-use Rattle.provisional_cache.proofs.Loops.{entries-bytes}
-use Rattle.pop.proofs.Kept.{Compacting, Whole, compact-start, compact-next}
-use Rattle.pop.proofs.Kept.{whole-start, whole-next, survivor-first, cleared}
+use Rattle.provisional_cache.proofs.Entries.{entries_from, entry_bytes_lem}
+use Rattle.provisional_cache.proofs.Loops.{entries_bytes}
+use Rattle.pop.proofs.Kept.{Compacting, Whole, compact_start, compact_next}
+use Rattle.pop.proofs.Kept.{whole_start, whole_next, survivor_first, cleared}
 use borrow.Author.Rules.{rules}
 use Rattle.pop.proofs.clear.clear_for_rerun.Statement.{statement}
 use Rattle.pop.proofs.clear.clear_for_rerun.Tie as tie
@@ -26,7 +26,7 @@ bytes : (c : tie.At-loop invariant-loop decreases-loop)
 bytes c =
     let s = c.before.before.before in
     let start = c.before.entries-start in
-    entries-bytes s.args.goals start.result s.args.graph.now c.loop.graph
+    entries_bytes s.args.goals start.result s.args.graph.now c.loop.graph
     (entries_from s.args.goals start.result s.args.graph.now s.requires.0 start.ensures.0)
     c.loop.invariant.0.same_length
 
@@ -37,8 +37,8 @@ loop-holds : tie.Need-loop-init invariant-loop decreases-loop
 loop-holds c =
     let s = c.before.before in
     let base : ℕ = c.entries-start.result in (
-      compact-start base s.args.entries s.args.graph.now 0 (omega arith),
-      whole-start (survivors s.args.rerun) s.args.goals base s.args.entries s.args.graph.now,
+      compact_start base s.args.entries s.args.graph.now 0 (omega arith),
+      whole_start (survivors s.args.rerun) s.args.goals base s.args.entries s.args.graph.now,
     )
 
 entry-from-requires : tie.Need-entry-from-requires invariant-loop decreases-loop
@@ -53,7 +53,7 @@ survives-rerun-requires c κs =
     let lt : l.i < 2 * s.args.goals = let most = s.requires.1.1 in let t = c.before.before.loop-test.true in
     omega arith in
     let entry-from = c.entry-from in (
-      entry-bytes s.args.goals c.before.before.before.before.entries-start.result l.graph
+      entry_bytes_lem s.args.goals c.before.before.before.before.entries-start.result l.graph
           entry-from.result.now l.i (bytes c.before.before.before) lt entry-from.ensures,
       s.requires.1.0,
     )
@@ -64,7 +64,7 @@ keep-if-requires c κs =
     let l = c.before.before.before.before.before.loop in
     let most = s.requires.1.1 in
     let t = c.before.before.before.before.loop-test.true in
-    (bytes c.before.before.before.before.before, (l.invariant.0.kept-few, omega arith))
+    (bytes c.before.before.before.before.before, (l.invariant.0.kept_few, omega arith))
 
 add-i : tie.Need-overflow-add-i invariant-loop decreases-loop
 add-i c = omega arith
@@ -81,15 +81,15 @@ loop-again c =
     let entry-from = c.before.before.before.before.before.entry-from in
     let survives-rerun = c.before.before.before.before.survives-rerun in
     let k = c.before.before.keep-if in
-    let is : survives-rerun.result ≡ survivesRerun a.rerun (entryFrom a.goals base l.i l.graph) =
-    survives-rerun.ensures ∙ ap (λ b. survivesRerun a.rerun (entry_of a.goals b)) entry-from.ensures in (
-      compact-next base a.entries a.graph.now a.goals l.graph l.graph k.new.0 l.auto l.i
+    let is : survives-rerun.result ≡ survives_rerun a.rerun (entry_from a.goals base l.i l.graph) =
+    survives-rerun.ensures ∙ ap (λ b. survives_rerun a.rerun (entry_of a.goals b)) entry-from.ensures in (
+      compact_next base a.entries a.graph.now a.goals l.graph l.graph k.new.0 l.auto l.i
           k.result
           survives-rerun.result l.invariant.0 t refl refl k.ensures k.auto.0,
-      whole-next (survivors a.rerun) a.goals base a.entries a.graph.now l.graph l.graph
+      whole_next (survivors a.rerun) a.goals base a.entries a.graph.now l.graph l.graph
           k.new.0 l.auto l.i
           k.result survives-rerun.result l.invariant.1 t refl refl
-          (survivor-first a.rerun (entryFrom a.goals base l.i l.graph) survives-rerun.result is)
+          (survivor_first a.rerun (entry_from a.goals base l.i l.graph) survives-rerun.result is)
           k.ensures,
     )
 

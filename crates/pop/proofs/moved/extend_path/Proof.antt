@@ -1,4 +1,4 @@
-use Rattle.provisional_cache.specs.Entries.{withLongerPath}
+use Rattle.provisional_cache.specs.Entries.{with_longer_path}
 use Rattle.definition.specs.Graph.{Entry}
 use Rattle.provisional_cache.proofs.Entries.{part_room}
 use Rattle.pop.proofs.Writes.{written}
@@ -45,7 +45,7 @@ returns c =
     let entry-size = c.before.before.before.before.entry-size in
     written a.goals a.base a.rest.now a.k entry-start.result entry-size.result s.requires.0
     s.requires.1 entry-start.ensures.0
-    entry-size.ensures b.new.0 b.auto.0 (λ (e : Entry). withLongerPath e a.kind) b.ensures
+    entry-size.ensures b.new.0 b.auto.0 (λ (e : Entry). with_longer_path e a.kind) b.ensures
 
 pub extend-path-spec : {M : Type 1} → statement M
 extend-path-spec =

@@ -1,6 +1,6 @@
 use Prim.Native.Nat.{◌-◌, ◌^◌, ◌<◌}
-use Rattle.pop.proofs.Writes.{frame-first, rest-bytes}
-use Rattle.pop.proofs.Loops.{Gaining, gaining-start, gaining-small, gaining-next, gaining-done}
+use Rattle.pop.proofs.Writes.{frame_first, rest_bytes}
+use Rattle.pop.proofs.Loops.{Gaining, gaining_start, gaining_small, gaining_next, gaining_done}
 use borrow.Author.Rules.{rules}
 use Rattle.pop.proofs.moved.gain_heads.Statement.{statement}
 use Rattle.pop.proofs.moved.gain_heads.Tie as tie
@@ -16,14 +16,14 @@ small c = search rules
 
 popped-mask-requires : tie.Need-popped-mask-requires invariant-loop decreases-loop
 popped-mask-requires c κs =
-    let s = c.before.before in frame-first s.args.goals s.args.base s.args.rest.now s.requires.0
+    let s = c.before.before in frame_first s.args.goals s.args.base s.args.rest.now s.requires.0
 
 loop-holds : tie.Need-loop-init invariant-loop decreases-loop
 loop-holds c =
     let s = c.before.before.before in
     let a = s.args in
     let popped-mask = c.popped-mask in
-    gaining-start a.goals a.base a.k a.used a.eps.bits a.rest.now popped-mask.result
+    gaining_start a.goals a.base a.k a.used a.eps.bits a.rest.now popped-mask.result
     (64 - a.goals) (small c)
     popped-mask.ensures
 
@@ -36,9 +36,9 @@ popped-head-requires c κs =
     let a = s.args in
     let l = c.before.before.before.loop in
     let lowest = c.before.lowest in (
-      frame-first a.goals a.base l.rest
-          (rest-bytes a.goals a.base a.rest.now s.requires.0 l.rest l.invariant.same_length),
-      gaining-small a.goals a.base a.k a.used a.eps.bits a.rest.now l.rest l.left
+      frame_first a.goals a.base l.rest
+          (rest_bytes a.goals a.base a.rest.now s.requires.0 l.rest l.invariant.same_length),
+      gaining_small a.goals a.base a.k a.used a.eps.bits a.rest.now l.rest l.left
           lowest.result l.invariant c.before.before.loop-test.true lowest.ensures,
     )
 
@@ -53,10 +53,10 @@ join-head-requires c κs =
     let l = c6.loop in
     let loop-test = c5.loop-test in
     let lowest = c4.lowest in (
-      (rest-bytes a.goals a.base a.rest.now s.requires.0 l.rest l.invariant.same_length).entries,
+      (rest_bytes a.goals a.base a.rest.now s.requires.0 l.rest l.invariant.same_length).entries,
       (
         s.requires.1.0,
-        gaining-small a.goals a.base a.k a.used a.eps.bits a.rest.now l.rest l.left
+        gaining_small a.goals a.base a.k a.used a.eps.bits a.rest.now l.rest l.left
             lowest.result l.invariant loop-test.true lowest.ensures,
       ),
     )
@@ -80,7 +80,7 @@ loop-again c =
     let popped-head = c6.popped-head in
     let gained = c5.gained in
     let without-lowest = c.without-lowest in
-    gaining-next a.goals a.base a.k a.used a.eps.bits a.rest.now l.rest l.left
+    gaining_next a.goals a.base a.k a.used a.eps.bits a.rest.now l.rest l.left
     lowest.result l.invariant
     loop-test.true lowest.ensures s.requires.0.wide popped-head.result gained.result
     popped-head.ensures gained.ensures
@@ -95,7 +95,7 @@ returns c =
     let s = c.before.before.before.before.before in
     let a = s.args in
     let l = c.before.loop in
-    gaining-done a.goals a.base a.k a.used a.eps.bits a.rest.now l.rest l.left l.invariant
+    gaining_done a.goals a.base a.k a.used a.eps.bits a.rest.now l.rest l.left l.invariant
     c.loop-test.false
 
 pub gain-heads-spec : {M : Type 1} → statement M

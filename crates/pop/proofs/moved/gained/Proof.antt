@@ -1,4 +1,4 @@
-use Rattle.pop.proofs.Entries.{gained-through, gained-unused}
+use Rattle.pop.proofs.Entries.{gained_through, gained_unused}
 use borrow.Author.Rules.{rules}
 use Rattle.pop.proofs.moved.gained.Statement.{statement}
 use Rattle.pop.proofs.moved.gained.Tie as tie
@@ -10,7 +10,7 @@ returns : tie.Need-returns
 returns c =
     let a = c.before.before.before.args in
     let extend-with-paths = c.before.extend-with-paths in
-    gained-through a.used a.eps.bits a.head extend-with-paths.result.bits c.before.before.if1.true
+    gained_through a.used a.eps.bits a.head extend-with-paths.result.bits c.before.before.if1.true
     extend-with-paths.ensures
 
 empty-path-requires : tie.Need-empty-path-requires
@@ -24,7 +24,7 @@ returns-2 c =
     let a = c.before.before.before.args in
     let empty-path = c.before.empty-path in
     let none = c.none in
-    gained-unused a.used a.eps.bits a.head empty-path.result.bits c.before.before.if1.false
+    gained_unused a.used a.eps.bits a.head empty-path.result.bits c.before.before.if1.false
     empty-path.ensures
     none.result none.ensures
 

@@ -1,6 +1,6 @@
 use mathlib.Core.Path.{ap, ◌∙◌}
-use Rattle.definition.specs.Heads.{CycleHeads, pathsAt}
-use Rattle.pop.proofs.Writes.{entry-heads-at, entry-block}
+use Rattle.definition.specs.Heads.{CycleHeads, paths_at}
+use Rattle.pop.proofs.Writes.{entry_heads_at, entry_block}
 use borrow.Author.Rules.{rules}
 use Rattle.pop.proofs.moved.head_paths.Statement.{statement}
 use Rattle.pop.proofs.moved.head_paths.Tie as tie
@@ -11,20 +11,20 @@ entry-heads-requires c κs = search rules
 paths-requires : tie.Need-paths-requires
 paths-requires c κs =
     let s = c.before.before in
-    let entry-heads = c.entry-heads in (
-      entry-heads-at s.args.goals s.args.base s.args.k s.args.rest.now entry-heads.result.now
+    let entry_heads_lem = c.entry_heads_lem in (
+      entry_heads_at s.args.goals s.args.base s.args.k s.args.rest.now entry_heads_lem.result.now
           s.requires.0 s.requires.1.0
-          entry-heads.ensures,
+          entry_heads_lem.ensures,
       s.requires.1.1,
     )
 
 returns : tie.Need-returns
 returns c =
     let a = c.before.before.before.args in
-    let entry-heads = c.before.entry-heads in
+    let entry_heads_lem = c.before.entry_heads_lem in
     c.paths.ensures
-    ∙ ap (λ (hs : CycleHeads). pathsAt hs a.i)
-    (entry-block a.goals a.base a.k a.rest.now entry-heads.result.now entry-heads.ensures)
+    ∙ ap (λ (hs : CycleHeads). paths_at hs a.i)
+    (entry_block a.goals a.base a.k a.rest.now entry_heads_lem.result.now entry_heads_lem.ensures)
 
 pub head-paths-spec : {M : Type 1} → statement M
 head-paths-spec = tie.close (tie.spec entry-heads-requires paths-requires returns)

@@ -1,4 +1,4 @@
-use Rattle.provisional_cache.specs.Entries.{withJoinedHead}
+use Rattle.provisional_cache.specs.Entries.{with_joined_head}
 use Rattle.definition.specs.Graph.{Entry}
 use Rattle.provisional_cache.proofs.Entries.{part_room}
 use Rattle.pop.proofs.Writes.{written}
@@ -46,7 +46,7 @@ returns c =
     written a.goals a.base a.rest.now a.k entry-start.result entry-size.result s.requires.0
     s.requires.1.0
     entry-start.ensures.0 entry-size.ensures b.new.0 b.auto.0
-    (λ (e : Entry). withJoinedHead e a.i a.head)
+    (λ (e : Entry). with_joined_head e a.i a.head)
     b.ensures
 
 pub join-head-spec : {M : Type 1} → statement M

@@ -1,14 +1,14 @@
 use mathlib.Core.Path.{ap, ◌∙◌}
 use mathlib.Core.List.{List}
 use Prim.Native.Nat.{ℕ}
-use Rattle.definition.specs.Heads.{highestIndex}
+use Rattle.definition.specs.Heads.{highest_index}
 use Rattle.layout.specs.Entry.{entry_of}
-use Rattle.layout.specs.Work.{entryFrom}
-use Rattle.provisional_cache.proofs.Entries.{entry-bytes}
-use Rattle.pop.specs.Popped.{poppedFrame}
-use Rattle.pop.specs.Rebased.{keptEntry}
-use Rattle.pop.proofs.Writes.{rest-bytes, others_same, others-then, frame-after}
-use Rattle.pop.proofs.Entries.{entry_other, entry-dropped, entry-under}
+use Rattle.layout.specs.Work.{entry_from}
+use Rattle.provisional_cache.proofs.Entries.{entry_bytes_lem}
+use Rattle.pop.specs.Popped.{popped_frame}
+use Rattle.pop.specs.Rebased.{kept_entry}
+use Rattle.pop.proofs.Writes.{rest_bytes, others_same, others_then, frame_after}
+use Rattle.pop.proofs.Entries.{entry_other, entry_dropped, entry_under}
 use borrow.Author.Rules.{rules}
 use Rattle.pop.proofs.moved.rebase_entry.Statement.{statement}
 use Rattle.pop.proofs.moved.rebase_entry.Tie as tie
@@ -20,7 +20,7 @@ highest-head-requires : tie.Need-highest-head-requires
 highest-head-requires c κs =
     let s = c.before.before.before in
     let entry-from = c.entry-from in
-    entry-bytes s.args.goals s.args.base s.args.rest.now entry-from.result.now s.args.k
+    entry_bytes_lem s.args.goals s.args.base s.args.rest.now entry-from.result.now s.args.k
     s.requires.0.entries s.requires.1.1.0 entry-from.ensures
 
 same_length : tie.Need-same-length
@@ -33,11 +33,11 @@ returns c =
     let highest-head = c.before.highest-head in
     record {
       entry = λ s m.
-          entry_other s (poppedFrame a.goals a.rest.now) a.reason
-          (entryFrom a.goals a.base a.k a.rest.now) a.popped m.height
+          entry_other s (popped_frame a.goals a.rest.now) a.reason
+          (entry_from a.goals a.base a.k a.rest.now) a.popped m.height
           highest-head.result
           (highest-head.ensures
-          ∙ ap (λ (l : List ℕ). highestIndex (entry_of a.goals l).heads) entry-from.ensures)
+          ∙ ap (λ (l : List ℕ). highest_index (entry_of a.goals l).heads) entry-from.ensures)
           c.if1.true;
       others = others_same a.goals a.base a.k a.rest.now;
     }
@@ -59,12 +59,12 @@ returns-2 c =
     let if1 = c5.if1 in
     record {
       entry = λ s m.
-          entry-dropped s (poppedFrame a.goals a.rest.now) a.reason
-          (entryFrom a.goals a.base a.k a.rest.now) a.popped m.height
+          entry_dropped s (popped_frame a.goals a.rest.now) a.reason
+          (entry_from a.goals a.base a.k a.rest.now) a.popped m.height
           highest-head.result
           (highest-head.ensures
-          ∙ ap (λ (l : List ℕ). highestIndex (entry_of a.goals l).heads) entry-from.ensures)
-          if1.false x.result (entryFrom a.goals a.base a.k x.new.0) (x.ensures.entry s m)
+          ∙ ap (λ (l : List ℕ). highest_index (entry_of a.goals l).heads) entry-from.ensures)
+          if1.false x.result (entry_from a.goals a.base a.k x.new.0) (x.ensures.entry s m)
           c.if2.true;
       others = x.ensures.others;
     }
@@ -73,7 +73,7 @@ rebase-path-requires : tie.Need-rebase-path-requires
 rebase-path-requires c κs =
     let c4 = c.before.before.before.before in let s = c4.before.before.before.before.before.before.before in
     let rebase-heads = c4.rebase-heads in (
-      rest-bytes s.args.goals s.args.base s.args.rest.now s.requires.0 rebase-heads.new.0
+      rest_bytes s.args.goals s.args.base s.args.rest.now s.requires.0 rebase-heads.new.0
           rebase-heads.auto.0,
       s.requires.1.1.0,
     )
@@ -94,21 +94,21 @@ returns-3 c =
     let if1 = c9.if1 in
     let if2 = c4.if2 in
     let is-p =
-    frame-after a.goals a.base a.rest.now x.new.0 s.requires.0.wide x.ensures.others.below in
+    frame_after a.goals a.base a.rest.now x.new.0 s.requires.0.wide x.ensures.others.below in
     record {
       entry = λ s m.
-          entry-under s (poppedFrame a.goals a.rest.now) a.reason
-          (entryFrom a.goals a.base a.k a.rest.now) a.popped m.height
+          entry_under s (popped_frame a.goals a.rest.now) a.reason
+          (entry_from a.goals a.base a.k a.rest.now) a.popped m.height
           highest-head.result
           (highest-head.ensures
-          ∙ ap (λ (l : List ℕ). highestIndex (entry_of a.goals l).heads) entry-from.ensures)
-          if1.false x.result (entryFrom a.goals a.base a.k x.new.0) (x.ensures.entry s m)
+          ∙ ap (λ (l : List ℕ). highest_index (entry_of a.goals l).heads) entry-from.ensures)
+          if1.false x.result (entry_from a.goals a.base a.k x.new.0) (x.ensures.entry s m)
           if2.false
-          (keptEntry y.result (entryFrom a.goals a.base a.k y.new.0))
-          (poppedFrame a.goals x.new.0) is-p
+          (kept_entry y.result (entry_from a.goals a.base a.k y.new.0))
+          (popped_frame a.goals x.new.0) is-p
           (y.ensures.entry s (rw is-p m.from));
       others =
-          others-then a.goals a.base a.k a.rest.now x.new.0 y.new.0 x.ensures.others
+          others_then a.goals a.base a.k a.rest.now x.new.0 y.new.0 x.ensures.others
           y.ensures.others;
     }
 

@@ -1,8 +1,8 @@
-use Rattle.definition.specs.Heads.{usagesAt, pathsAt}
-use Rattle.layout.specs.Work.{entryFrom}
-use Rattle.pop.specs.Popped.{poppedFrame}
+use Rattle.definition.specs.Heads.{usages_at, paths_at}
+use Rattle.layout.specs.Work.{entry_from}
+use Rattle.pop.specs.Popped.{popped_frame}
 use Rattle.pop.proofs.Writes.{others_same}
-use Rattle.pop.proofs.Entries.{heads-unused, heads-dropped, heads-through}
+use Rattle.pop.proofs.Entries.{heads_unused, heads_dropped, heads_through}
 use borrow.Author.Rules.{rules}
 use Rattle.pop.proofs.moved.rebase_heads.Statement.{statement}
 use Rattle.pop.proofs.moved.rebase_heads.Tie as tie
@@ -34,13 +34,13 @@ returns c =
     let if1 = c4.if1 in
     record {
       entry = λ s m.
-          heads-unused s (poppedFrame a.goals a.rest.now) a.reason
-          (entryFrom a.goals a.base a.k a.rest.now) a.popped m.height
+          heads_unused s (popped_frame a.goals a.rest.now) a.reason
+          (entry_from a.goals a.base a.k a.rest.now) a.popped m.height
           head-usages.result head-paths.result.bits
-          (usagesAt (entryFrom a.goals a.base a.k a.rest.now).heads a.popped)
-          (pathsAt (entryFrom a.goals a.base a.k a.rest.now).heads a.popped) head-usages.ensures
+          (usages_at (entry_from a.goals a.base a.k a.rest.now).heads a.popped)
+          (paths_at (entry_from a.goals a.base a.k a.rest.now).heads a.popped) head-usages.ensures
           head-paths.ensures
-          is-empty.result is-empty.ensures if1.true (entryFrom a.goals a.base a.k x.new.0)
+          is-empty.result is-empty.ensures if1.true (entry_from a.goals a.base a.k x.new.0)
           x.ensures.entry;
       others = x.ensures.others;
     }
@@ -64,11 +64,11 @@ returns-2 c =
     let stays = c1.stays in
     record {
       entry = λ s m.
-          heads-dropped s (poppedFrame a.goals a.rest.now) a.reason
-          (entryFrom a.goals a.base a.k a.rest.now) a.popped m.height
+          heads_dropped s (popped_frame a.goals a.rest.now) a.reason
+          (entry_from a.goals a.base a.k a.rest.now) a.popped m.height
           head-usages.result head-paths.result.bits
-          (usagesAt (entryFrom a.goals a.base a.k a.rest.now).heads a.popped)
-          (pathsAt (entryFrom a.goals a.base a.k a.rest.now).heads a.popped) head-usages.ensures
+          (usages_at (entry_from a.goals a.base a.k a.rest.now).heads a.popped)
+          (paths_at (entry_from a.goals a.base a.k a.rest.now).heads a.popped) head-usages.ensures
           head-paths.ensures
           is-empty.result is-empty.ensures if1.false stays.result (stays.ensures s m.keeps)
           c.if2.true;
@@ -96,14 +96,14 @@ returns-3 c =
     let if2 = c4.if2 in
     record {
       entry = λ s m.
-          heads-through s (poppedFrame a.goals a.rest.now) a.reason
-          (entryFrom a.goals a.base a.k a.rest.now) a.popped m.height
+          heads_through s (popped_frame a.goals a.rest.now) a.reason
+          (entry_from a.goals a.base a.k a.rest.now) a.popped m.height
           head-usages.result head-paths.result.bits
-          (usagesAt (entryFrom a.goals a.base a.k a.rest.now).heads a.popped)
-          (pathsAt (entryFrom a.goals a.base a.k a.rest.now).heads a.popped) head-usages.ensures
+          (usages_at (entry_from a.goals a.base a.k a.rest.now).heads a.popped)
+          (paths_at (entry_from a.goals a.base a.k a.rest.now).heads a.popped) head-usages.ensures
           head-paths.ensures
           is-empty.result is-empty.ensures if1.false stays.result (stays.ensures s m.keeps) if2.false
-          (entryFrom a.goals a.base a.k x.new.0) x.ensures.entry;
+          (entry_from a.goals a.base a.k x.new.0) x.ensures.entry;
       others = x.ensures.others;
     }
 

@@ -2,14 +2,14 @@ use mathlib.Core.Path.{ap, ◌∙◌}
 use Prim.Native.Nat.{◌<◌}
 use native.Mathlib.Omega.{arith}
 use Rattle.definition.specs.Paths.{kind_of}
-use Rattle.definition.specs.Stack.{cyclePathKind}
-use Rattle.definition.proofs.Numbers.{kind-back}
-use Rattle.layout.specs.Blocks.{headsOf}
-use Rattle.layout.specs.Work.{entryFrom}
-use Rattle.layout.proofs.Frames.{length-heads}
-use Rattle.pop.specs.Popped.{poppedFrame}
-use Rattle.pop.proofs.Writes.{entry-heads-at, entry-block, others_same}
-use Rattle.pop.proofs.Entries.{highest-small, path-none, path-some}
+use Rattle.definition.specs.Stack.{cycle_path_kind}
+use Rattle.definition.proofs.Numbers.{kind_back}
+use Rattle.layout.specs.Blocks.{heads_of}
+use Rattle.layout.specs.Work.{entry_from}
+use Rattle.layout.proofs.Frames.{length_heads}
+use Rattle.pop.specs.Popped.{popped_frame}
+use Rattle.pop.proofs.Writes.{entry_heads_at, entry_block, others_same}
+use Rattle.pop.proofs.Entries.{highest_small, path_none, path_some}
 use borrow.Author.Rules.{rules}
 use Rattle.pop.proofs.moved.rebase_path.Statement.{statement}
 use Rattle.pop.proofs.moved.rebase_path.Tie as tie
@@ -20,10 +20,10 @@ entry-heads-requires c κs = let s = c.before.before in (s.requires.0.entries, s
 is-empty-requires : tie.Need-is-empty-requires
 is-empty-requires c κs =
     let s = c.before.before.before in
-    let entry-heads = c.entry-heads in
-    entry-heads-at s.args.goals s.args.base s.args.k s.args.rest.now entry-heads.result.now
+    let entry_heads_lem = c.entry_heads_lem in
+    entry_heads_at s.args.goals s.args.base s.args.k s.args.rest.now entry_heads_lem.result.now
     s.requires.0.entries s.requires.1
-    entry-heads.ensures
+    entry_heads_lem.ensures
 
 same_length : tie.Need-same-length
 same_length c = search rules
@@ -31,13 +31,13 @@ same_length c = search rules
 returns : tie.Need-returns
 returns c =
     let a = c.before.before.before.before.before.args in
-    let entry-heads = c.before.before.entry-heads in
+    let entry_heads_lem = c.before.before.entry_heads_lem in
     let is-empty = c.before.is-empty in
     record {
       entry = λ s are.
-          path-none s (poppedFrame a.goals a.rest.now) (entryFrom a.goals a.base a.k a.rest.now)
-          (headsOf a.goals entry-heads.result.now)
-          (entry-block a.goals a.base a.k a.rest.now entry-heads.result.now entry-heads.ensures)
+          path_none s (popped_frame a.goals a.rest.now) (entry_from a.goals a.base a.k a.rest.now)
+          (heads_of a.goals entry_heads_lem.result.now)
+          (entry_block a.goals a.base a.k a.rest.now entry_heads_lem.result.now entry_heads_lem.ensures)
           is-empty.result
           is-empty.ensures c.if1.true;
       others = others_same a.goals a.base a.k a.rest.now;
@@ -46,19 +46,19 @@ returns c =
 highest-requires : tie.Need-highest-requires
 highest-requires c κs =
     let s = c.before.before.before.before.before in
-    let entry-heads = c.before.before.entry-heads in
-    entry-heads-at s.args.goals s.args.base s.args.k s.args.rest.now entry-heads.result.now
+    let entry_heads_lem = c.before.before.entry_heads_lem in
+    entry_heads_at s.args.goals s.args.base s.args.k s.args.rest.now entry_heads_lem.result.now
     s.requires.0.entries s.requires.1
-    entry-heads.ensures
+    entry_heads_lem.ensures
 
 -- the array has room for every head
 room : (c : tie.After-highest) → c.highest.result < 64
 room c =
     let s = c.before.before.before.before.before.before in
-    let hs = c.before.before.before.entry-heads.result.now in
+    let hs = c.before.before.before.entry_heads_lem.result.now in
     let highest = c.highest in
     let few = s.requires.0.entries.few in
-    let lt = highest-small (headsOf s.args.goals hs) (omega (arith, length-heads s.args.goals hs)) in
+    let lt = highest_small (heads_of s.args.goals hs) (omega (arith, length_heads s.args.goals hs)) in
     omega (arith, highest.ensures)
 
 element-copy-out-from-number : tie.Need-element-copy-out-from-number
@@ -82,18 +82,18 @@ returns-2 c =
     let highest = c.before.before.before.before.before.before.highest in
     let if1 = c.before.before.before.before.before.before.before.if1 in
     let is-empty = c.before.before.before.before.before.before.before.before.is-empty in
-    let entry-heads = c.before.before.before.before.before.before.before.before.before.entry-heads in
+    let entry_heads_lem = c.before.before.before.before.before.before.before.before.before.entry_heads_lem in
     record {
       entry = λ s are.
-          path-some s (poppedFrame a.goals a.rest.now) (entryFrom a.goals a.base a.k a.rest.now)
-          (headsOf a.goals entry-heads.result.now)
-          (entry-block a.goals a.base a.k a.rest.now entry-heads.result.now entry-heads.ensures)
+          path_some s (popped_frame a.goals a.rest.now) (entry_from a.goals a.base a.k a.rest.now)
+          (heads_of a.goals entry_heads_lem.result.now)
+          (entry_block a.goals a.base a.k a.rest.now entry_heads_lem.result.now entry_heads_lem.ensures)
           is-empty.result
           is-empty.ensures if1.false highest.result highest.ensures from-number.result
           (from-number.ensures
           ∙ ap kind_of (are highest.result (room c.before.before.before.before.before.before))
-          ∙ kind-back (cyclePathKind s (poppedFrame a.goals a.rest.now).stepKindFromParent highest.result))
-          (entryFrom a.goals a.base a.k x.new.0) x.ensures.entry;
+          ∙ kind_back (cycle_path_kind s (popped_frame a.goals a.rest.now).step_kind_from_parent highest.result))
+          (entry_from a.goals a.base a.k x.new.0) x.ensures.entry;
       others = x.ensures.others;
     }
 

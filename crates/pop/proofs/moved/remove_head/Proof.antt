@@ -1,4 +1,4 @@
-use Rattle.provisional_cache.specs.Entries.{withoutHead}
+use Rattle.provisional_cache.specs.Entries.{without_head}
 use Rattle.definition.specs.Graph.{Entry}
 use Rattle.provisional_cache.proofs.Entries.{part_room}
 use Rattle.pop.proofs.Writes.{written}
@@ -45,7 +45,7 @@ returns c =
     let entry-size = c.before.before.before.before.entry-size in
     written a.goals a.base a.rest.now a.k entry-start.result entry-size.result s.requires.0
     s.requires.1.0
-    entry-start.ensures.0 entry-size.ensures b.new.0 b.auto.0 (λ (e : Entry). withoutHead e a.i)
+    entry-start.ensures.0 entry-size.ensures b.new.0 b.auto.0 (λ (e : Entry). without_head e a.i)
     b.ensures
 
 pub remove-head-spec : {M : Type 1} → statement M

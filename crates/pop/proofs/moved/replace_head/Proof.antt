@@ -1,4 +1,4 @@
-use Rattle.pop.proofs.Writes.{rest-bytes}
+use Rattle.pop.proofs.Writes.{rest_bytes}
 use Rattle.pop.proofs.Entries.{replaced}
 use borrow.Author.Rules.{rules}
 use Rattle.pop.proofs.moved.replace_head.Statement.{statement}
@@ -13,7 +13,7 @@ gain-heads-requires : tie.Need-gain-heads-requires
 gain-heads-requires c κs =
     let s = c.before.before.before.before.before.before in
     let remove-head = c.before.before.before.remove-head in (
-      rest-bytes s.args.goals s.args.base s.args.rest.now s.requires.0 remove-head.new.0
+      rest_bytes s.args.goals s.args.base s.args.rest.now s.requires.0 remove-head.new.0
           remove-head.auto.0,
       s.requires.1.1,
     )

@@ -3,15 +3,15 @@ use mathlib.Core.List.{List}
 use Prim.Native.Nat.{ℕ, ◌-◌, ◌<◌}
 use native.Mathlib.Omega.{arith}
 use Rattle.definition.specs.declared.paths.PathKind.{PathKind}
-use Rattle.definition.specs.Paths.{kindNumber}
-use Rattle.definition.specs.Stack.{cyclePathKind}
+use Rattle.definition.specs.Paths.{kind_number}
+use Rattle.definition.specs.Stack.{cycle_path_kind}
 use Rattle.layout.specs.Frame.{frame_of}
 use Rattle.layout.specs.Work.{stack_of}
-use Rattle.layout.proofs.Graphs.{length-stack}
-use Rattle.stack.specs.Bytes.{frameAt}
-use Rattle.stack.proofs.Counts.{path-outside}
-use Rattle.stack.proofs.Graph.{frame-bytes}
-use Rattle.pop.proofs.Filled.{Filling, filling-start, filling-next, filling-done}
+use Rattle.layout.proofs.Graphs.{length_stack}
+use Rattle.stack.specs.Bytes.{frame_at}
+use Rattle.stack.proofs.Counts.{path_outside}
+use Rattle.stack.proofs.Graph.{frame_bytes_lem}
+use Rattle.pop.proofs.Filled.{Filling, filling_start, filling_next, filling_done}
 use borrow.Author.Rules.{rules}
 use Rattle.pop.proofs.popped.paths_to_popped.Statement.{statement}
 use Rattle.pop.proofs.popped.paths_to_popped.Tie as tie
@@ -29,7 +29,7 @@ step-kind-requires : tie.Need-step-kind-requires invariant-loop decreases-loop
 step-kind-requires c κs =
     let s = c.before.before in
     let frame_at = c.frame_at in
-    frame-bytes s.args.goals s.args.graph.now frame_at.result.now s.args.popped s.requires.0.bytes
+    frame_bytes_lem s.args.goals s.args.graph.now frame_at.result.now s.args.popped s.requires.0.bytes
     s.requires.1
     frame_at.ensures
 
@@ -41,7 +41,7 @@ loop-holds c =
     let a = c.before.before.before.before.args in
     let step = c.before.step-kind in
     let number = c.number in
-    filling-start (stack_of a.goals a.popped a.graph.now) step.result a.popped number.result
+    filling_start (stack_of a.goals a.popped a.graph.now) step.result a.popped number.result
     number.ensures
 
 cycle-path-kind-requires : tie.Need-cycle-path-kind-requires invariant-loop decreases-loop
@@ -75,7 +75,7 @@ loop-again c =
     let l = c.before.before.before.loop in
     let kind = c.before.cycle-path-kind in
     let number = c.number2 in
-    filling-next (stack_of a.goals a.popped a.graph.now) step.result a.popped l.paths l.i
+    filling_next (stack_of a.goals a.popped a.graph.now) step.result a.popped l.paths l.i
     number.result kind.result
     l.invariant c.before.before.loop-test.true (room c.before.before) kind.ensures number.ensures
 
@@ -85,13 +85,13 @@ returns c i lt =
     let frame_at = c.before.before.before.before.frame_at in
     let step = c.before.before.before.step-kind in
     let l = c.before.loop in
-    let is : step.result ≡ (frameAt a.goals a.popped a.graph.now).stepKindFromParent =
-    step.ensures ∙ ap (λ (b : List ℕ). (frame_of a.goals b).stepKindFromParent) frame_at.ensures in
-    filling-done (stack_of a.goals a.popped a.graph.now) step.result a.popped
-    (λ j up. path-outside (stack_of a.goals a.popped a.graph.now) step.result j (rw length-stack up))
+    let is : step.result ≡ (frame_at a.goals a.popped a.graph.now).step_kind_from_parent =
+    step.ensures ∙ ap (λ (b : List ℕ). (frame_of a.goals b).step_kind_from_parent) frame_at.ensures in
+    filling_done (stack_of a.goals a.popped a.graph.now) step.result a.popped
+    (λ j up. path_outside (stack_of a.goals a.popped a.graph.now) step.result j (rw length_stack up))
     l.paths l.i l.invariant
     c.loop-test.false i lt
-    ∙ ap (λ (k : PathKind). kindNumber (cyclePathKind (stack_of a.goals a.popped a.graph.now) k i)) is
+    ∙ ap (λ (k : PathKind). kind_number (cycle_path_kind (stack_of a.goals a.popped a.graph.now) k i)) is
 
 pub paths-to-popped-spec : {M : Type 1} → statement M
 paths-to-popped-spec =

@@ -3,7 +3,7 @@ use mathlib.Core.Option.{none}
 use lib.ListN.{get_or}
 use Rattle.definition.specs.Heads.{CycleHeads}
 use Rattle.layout.proofs.Present.{head_bytes}
-use Rattle.pop.proofs.Writes.{popped-heads-block, popped-block}
+use Rattle.pop.proofs.Writes.{popped_heads_block, popped_block}
 use borrow.Author.Rules.{rules}
 use Rattle.pop.proofs.popped.popped_head.Statement.{statement}
 use Rattle.pop.proofs.popped.popped_head.Tie as tie
@@ -15,7 +15,7 @@ record-requires : tie.Need-record-requires
 record-requires c κs =
     let s = c.before.before in
     let popped-heads = c.popped-heads in (
-      popped-heads-block s.args.goals s.args.rest.now popped-heads.result.now s.requires.0
+      popped_heads_block s.args.goals s.args.rest.now popped-heads.result.now s.requires.0
           popped-heads.ensures,
       s.requires.1,
     )
@@ -28,7 +28,7 @@ returns c h e =
     c.«record».ensures
     ∙ head_bytes a.goals popped-heads.result.now a.i s.requires.1 h
     (ap (λ (hs : CycleHeads). get_or hs a.i none)
-    (popped-block a.goals a.rest.now popped-heads.result.now popped-heads.ensures)
+    (popped_block a.goals a.rest.now popped-heads.result.now popped-heads.ensures)
     ∙ e)
 
 pub popped-head-spec : {M : Type 1} → statement M

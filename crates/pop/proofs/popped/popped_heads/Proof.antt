@@ -1,10 +1,10 @@
 use mathlib.Core.Path.{ap, ◌∙◌}
 use native.Mathlib.Omega.{arith}
 use Rattle.buffer.specs.Regions.{region}
-use Rattle.layout.specs.Blocks.{headsSize}
-use Rattle.layout.specs.Frame.{headsStart}
+use Rattle.layout.specs.Blocks.{heads_size}
+use Rattle.layout.specs.Frame.{heads_start}
 use Rattle.stack.proofs.Parts.{part}
-use Rattle.pop.proofs.Writes.{popped-part, popped-bytes}
+use Rattle.pop.proofs.Writes.{popped_part, popped_bytes_lem}
 use borrow.Author.Rules.{rules}
 use Rattle.pop.proofs.popped.popped_heads.Statement.{statement}
 use Rattle.pop.proofs.popped.popped_heads.Tie as tie
@@ -29,16 +29,16 @@ heads-requires c κs =
     let s = c.before.before.before in
     let size = c.before.frame-size in
     let bs = s.args.rest.now in
-    popped-bytes s.args.goals bs s.requires (part bs 0 size.result)
-    (popped-part s.args.goals bs s.requires size.result size.ensures)
+    popped_bytes_lem s.args.goals bs s.requires (part bs 0 size.result)
+    (popped_part s.args.goals bs s.requires size.result size.ensures)
 
 returns : tie.Need-returns
 returns c =
     let s = c.before.before.before.before in
     let size = c.before.before.frame-size in
     c.heads.ensures
-    ∙ ap (region headsStart (headsSize s.args.goals))
-    (popped-part s.args.goals s.args.rest.now s.requires size.result size.ensures)
+    ∙ ap (region heads_start (heads_size s.args.goals))
+    (popped_part s.args.goals s.args.rest.now s.requires size.result size.ensures)
 
 pub popped-heads-spec : {M : Type 1} → statement M
 popped-heads-spec =

@@ -5,7 +5,7 @@ use Prim.Native.Nat.{◌-◌}
 use lib.ListN.{replicate}
 use Rattle.definition.specs.Heads.{CycleHeads}
 use Rattle.layout.specs.Blocks.{present}
-use Rattle.pop.proofs.Writes.{popped-heads-block, popped-block}
+use Rattle.pop.proofs.Writes.{popped_heads_block, popped_block}
 use borrow.Author.Rules.{rules}
 use Rattle.pop.proofs.popped.popped_mask.Statement.{statement}
 use Rattle.pop.proofs.popped.popped_mask.Tie as tie
@@ -17,7 +17,7 @@ mask-requires : tie.Need-mask-requires
 mask-requires c κs =
     let s = c.before.before in
     let popped-heads = c.popped-heads in
-    popped-heads-block s.args.goals s.args.rest.now popped-heads.result.now s.requires
+    popped_heads_block s.args.goals s.args.rest.now popped-heads.result.now s.requires
     popped-heads.ensures
 
 returns : tie.Need-returns
@@ -26,7 +26,7 @@ returns c =
     let popped-heads = c.before.popped-heads in
     c.mask.ensures
     ∙ ap (λ (hs : CycleHeads). present hs ++ replicate (64 - a.goals) false)
-    (popped-block a.goals a.rest.now popped-heads.result.now popped-heads.ensures)
+    (popped_block a.goals a.rest.now popped-heads.result.now popped-heads.ensures)
 
 pub popped-mask-spec : {M : Type 1} → statement M
 popped-mask-spec = tie.close (tie.spec popped-heads-requires mask-requires returns)

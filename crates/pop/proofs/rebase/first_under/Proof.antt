@@ -2,11 +2,11 @@ use mathlib.Core.Path.{ap, subst, ◌∙◌}
 use mathlib.Core.List.{List}
 use Prim.Native.Nat.{ℕ, ◌-◌}
 use native.Mathlib.Omega.{arith}
-use Rattle.definition.specs.Heads.{highestIndex}
+use Rattle.definition.specs.Heads.{highest_index}
 use Rattle.layout.specs.Entry.{entry_of}
-use Rattle.provisional_cache.proofs.Entries.{entry-bytes}
+use Rattle.provisional_cache.proofs.Entries.{entry_bytes_lem}
 use Rattle.pop.specs.Rebased.{StayBefore}
-use Rattle.pop.proofs.Rounds.{stay-start, stay-next}
+use Rattle.pop.proofs.Rounds.{stay_start, stay_next}
 use Rattle.pop.proofs.rebase.first_under.Statement.{statement}
 use Rattle.pop.proofs.rebase.first_under.Tie as tie
 
@@ -17,7 +17,7 @@ abbrev decreases-loop : tie.decreases-loop
 decreases-loop bytes goals base popped entries k₀ k = entries - k
 
 loop-holds : tie.Need-loop-init invariant-loop decreases-loop
-loop-holds c = let a = c.before.args in stay-start a.goals a.base a.popped a.entries a.bytes.now
+loop-holds c = let a = c.before.args in stay_start a.goals a.base a.popped a.entries a.bytes.now
 
 entry-from-requires : tie.Need-entry-from-requires invariant-loop decreases-loop
 entry-from-requires c κs =
@@ -30,7 +30,7 @@ highest-head-requires c κs =
     let lt = c.before.loop-test.true in
     let most = s.requires.1 in
     let entry-from = c.entry-from in
-    entry-bytes s.args.goals s.args.base s.args.bytes.now entry-from.result.now
+    entry_bytes_lem s.args.goals s.args.base s.args.bytes.now entry-from.result.now
     c.before.before.loop.k s.requires.0 (omega arith)
     entry-from.ensures
 
@@ -49,9 +49,9 @@ loop-again c =
     let l = c.before.before.before.before.loop in
     let entry-from = c.before.before.entry-from in
     let highest-head = c.before.highest-head in
-    stay-next a.goals a.base a.popped a.entries a.bytes.now l.k l.invariant
+    stay_next a.goals a.base a.popped a.entries a.bytes.now l.k l.invariant
     c.before.before.before.loop-test.true highest-head.result
-    (highest-head.ensures ∙ ap (λ (b : List ℕ). highestIndex (entry_of a.goals b).heads) entry-from.ensures)
+    (highest-head.ensures ∙ ap (λ (b : List ℕ). highest_index (entry_of a.goals b).heads) entry-from.ensures)
     c.if1.false
 
 returns-2 : tie.Need-returns-2 invariant-loop decreases-loop

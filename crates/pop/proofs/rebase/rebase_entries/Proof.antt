@@ -1,8 +1,8 @@
 use native.Mathlib.Omega.{arith}
 use Prim.Native.Nat.{◌-◌}
 use Rattle.pop.specs.Popped.{RestBytes}
-use Rattle.pop.proofs.Writes.{rest-bytes, frame-after}
-use Rattle.pop.proofs.Rounds.{Rebasing, rebasing-start, rebasing-next, rebasing-done}
+use Rattle.pop.proofs.Writes.{rest_bytes, frame_after}
+use Rattle.pop.proofs.Rounds.{Rebasing, rebasing_start, rebasing_next, rebasing_done}
 use Rattle.pop.proofs.rebase.rebase_entries.Statement.{statement}
 use Rattle.pop.proofs.rebase.rebase_entries.Tie as tie
 
@@ -17,14 +17,14 @@ bytes : (c : tie.At-loop invariant-loop decreases-loop)
     → RestBytes c.before.before.args.goals c.before.before.args.base c.loop.rest
 bytes c =
     let s = c.before.before in
-    rest-bytes s.args.goals s.args.base s.args.rest.now s.requires.0 c.loop.rest
+    rest_bytes s.args.goals s.args.base s.args.rest.now s.requires.0 c.loop.rest
     c.loop.invariant.compacting.same_length
 
 loop-holds : tie.Need-loop-init invariant-loop decreases-loop
 loop-holds c =
     let s = c.before in
     let a = s.args in
-    rebasing-start a.goals a.base a.popped a.paths.now a.lowest a.reason a.entries a.rest.now a.first
+    rebasing_start a.goals a.base a.popped a.paths.now a.lowest a.reason a.entries a.rest.now a.first
     s.requires.1.1.1.0
 
 rebase-entry-requires : tie.Need-rebase-entry-requires invariant-loop decreases-loop
@@ -42,9 +42,9 @@ keep-if-requires c κs =
     let lt = c.before.before.before.before.before.loop-test.true in
     let most = s.requires.1.1.0 in
     let x = c.before.before.before.rebase-entry in (
-      (rest-bytes a.goals a.base l.rest (bytes c.before.before.before.before.before.before)
+      (rest_bytes a.goals a.base l.rest (bytes c.before.before.before.before.before.before)
           x.new.0 x.auto.0).entries,
-      (l.invariant.compacting.kept-few, omega arith),
+      (l.invariant.compacting.kept_few, omega arith),
     )
 
 add-k : tie.Need-overflow-add-k invariant-loop decreases-loop
@@ -60,11 +60,11 @@ loop-again c =
     let l = c.before.before.before.before.before.before.before.before.before.loop in
     let x = c.before.before.before.before.before.before.rebase-entry in
     let y = c.before.before.keep-if in
-    rebasing-next a.goals a.base a.popped a.paths.now a.lowest a.reason a.entries a.rest.now l.rest
+    rebasing_next a.goals a.base a.popped a.paths.now a.lowest a.reason a.entries a.rest.now l.rest
     x.new.0 y.new.0
     l.auto l.k y.result x.result l.invariant
     c.before.before.before.before.before.before.before.before.loop-test.true
-    (frame-after a.goals a.base a.rest.now l.rest s.requires.0.wide l.invariant.compacting.below)
+    (frame_after a.goals a.base a.rest.now l.rest s.requires.0.wide l.invariant.compacting.below)
     x.ensures x.auto.0
     y.ensures y.auto.0
 
@@ -75,7 +75,7 @@ returns : tie.Need-returns invariant-loop decreases-loop
 returns c =
     let a = c.before.before.before.args in
     let l = c.before.loop in
-    rebasing-done a.goals a.base a.popped a.paths.now a.lowest a.reason a.entries a.rest.now l.rest
+    rebasing_done a.goals a.base a.popped a.paths.now a.lowest a.reason a.entries a.rest.now l.rest
     l.auto l.k l.invariant
     c.loop-test.false
 

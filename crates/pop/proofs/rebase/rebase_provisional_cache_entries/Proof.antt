@@ -2,13 +2,13 @@ use mathlib.Core.Path.{refl, subst}
 use Prim.Native.Nat.{◌-◌, ◌≤◌}
 use native.Mathlib.Omega.{arith}
 use lib.ListN.{length}
-use Rattle.definition.proofs.Extensions.{table-rule}
+use Rattle.definition.proofs.Extensions.{table_rule}
 use Rattle.stack.proofs.Parts.{part}
 use Rattle.definition.specs.declared.endings.RebaseReason.{RebaseReason}
 use Rattle.pop.specs.Popped.{RestBytes}
-use Rattle.pop.specs.Rebased.{RestRebased, reasonOf}
-use Rattle.pop.proofs.Writes.{frame-first}
-use Rattle.pop.proofs.Rounds.{rebased-none, start-in, ends, lent, rebased}
+use Rattle.pop.specs.Rebased.{RestRebased, reason_of}
+use Rattle.pop.proofs.Writes.{frame_first}
+use Rattle.pop.proofs.Rounds.{rebased_none, start_in, ends, lent, rebased}
 use borrow.Author.Rules.{rules}
 use Rattle.pop.proofs.rebase.rebase_provisional_cache_entries.Statement.{statement}
 use Rattle.pop.proofs.rebase.rebase_provisional_cache_entries.Tie as tie
@@ -38,7 +38,7 @@ below c =
     let s = c.before.before.before in
     let start = c.before.frame-start in
     let end = c.entries-start in
-    start-in s.args.goals s.args.popped s.args.graph.now s.requires.0 s.requires.1.0 start.result
+    start_in s.args.goals s.args.popped s.args.graph.now s.requires.0 s.requires.1.0 start.result
     end.result
     start.ensures.0 end.ensures.0 end.ensures.1
 
@@ -77,9 +77,9 @@ returns c =
     let start = c.before.before.before.before.before.frame-start in
     let end = c.before.before.before.before.entries-start in
     let first = c.before.first_under in
-    rebased-none a.goals a.popped a.graph.now s.requires.0 s.requires.1.0 start.result end.result
+    rebased_none a.goals a.popped a.graph.now s.requires.0 s.requires.1.0 start.result end.result
     start.ensures.0
-    end.ensures.0 end.ensures.1 (reasonOf a.ending) a.entries first.result first.ensures c.if1.true
+    end.ensures.0 end.ensures.1 (reason_of a.ending) a.entries first.result first.ensures c.if1.true
 
 paths-to-popped-requires : tie.Need-paths-to-popped-requires
 paths-to-popped-requires c κs =
@@ -98,7 +98,7 @@ lowest-cycle-requires : tie.Need-lowest-cycle-requires
 lowest-cycle-requires c κs =
     let c9 = c.before.before.before.before.before.before.before.before.before in
     let a = c9.before.before.before.args in
-    frame-first a.goals (c9.entries-start.result - c9.before.frame-start.result)
+    frame_first a.goals (c9.entries-start.result - c9.before.frame-start.result)
     (part a.graph.now c9.before.frame-start.result (length a.graph.now)) (are c9)
 
 reason-of-requires : tie.Need-reason-of-requires
@@ -120,7 +120,7 @@ rebase-entries-requires c κs =
     let c14 = c11.before.before.before in
     let s = c14.before.before.before in (
       are c14,
-      (s.requires.1.0, (s.requires.1.1, (c11.first_under.ensures, table-rule _ refl tt))),
+      (s.requires.1.0, (s.requires.1.1, (c11.first_under.ensures, table_rule _ refl tt))),
     )
 
 same-length-2 : tie.Need-same-length-2
@@ -141,7 +141,7 @@ returns-2 c =
     let end = c17.entries-start in
     rebased a.goals a.popped a.graph.now s.requires.0 s.requires.1.0 start.result end.result
     start.ensures.0
-    end.ensures.0 end.ensures.1 x.new.0 x.auto.0 paths.result lowest.result (reasonOf a.ending)
+    end.ensures.0 end.ensures.1 x.new.0 x.auto.0 paths.result lowest.result (reason_of a.ending)
     a.entries x.result paths.ensures lowest.ensures
     (subst
     (λ (y : RebaseReason). RestRebased a.goals (end.result - start.result) a.popped paths.result lowest.result y a.entries

@@ -1,8 +1,8 @@
 use mathlib.Core.Path.{refl}
 use mathlib.Core.List.{List}
 use Rattle.definition.specs.declared.paths.PathKind.{PathKind}
-use Rattle.pop.specs.Popped.{boundKeeps}
-use Rattle.pop.proofs.Tests.{absent, ep-there}
+use Rattle.pop.specs.Popped.{bound_keeps}
+use Rattle.pop.proofs.Tests.{absent, ep_there}
 use borrow.Author.Rules.{rules}
 use Rattle.pop.proofs.stays.ep_keeps.Statement.{statement}
 use Rattle.pop.proofs.stays.ep_keeps.Tie as tie
@@ -14,7 +14,7 @@ returns : tie.Need-returns
 returns c ks =
     let a = c.before.before.args in
     let contains = c.before.contains in
-    absent a.eps.bits a.ep ks (λ (l : List PathKind). boundKeeps a.lowest a.path l) contains.result
+    absent a.eps.bits a.ep ks (λ (l : List PathKind). bound_keeps a.lowest a.path l) contains.result
     contains.ensures c.if1.true
 
 extend-requires : tie.Need-extend-requires
@@ -30,7 +30,7 @@ returns-2 c ks =
     let if1 = c.before.before.if1 in
     let extend = c.before.extend in
     let number = c.number in
-    ep-there a.eps.bits a.ep ks contains.result contains.ensures if1.false _ a.lowest a.path
+    ep_there a.eps.bits a.ep ks contains.result contains.ensures if1.false _ a.lowest a.path
     extend.result number.result extend.ensures number.ensures refl
 
 pub ep-keeps-spec : {M : Type 1} → statement M

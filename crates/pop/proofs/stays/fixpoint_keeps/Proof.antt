@@ -1,4 +1,4 @@
-use Rattle.pop.proofs.Entries.{fixpoint-first}
+use Rattle.pop.proofs.Entries.{fixpoint_first}
 use borrow.Author.Rules.{rules}
 use Rattle.pop.proofs.stays.fixpoint_keeps.Statement.{statement}
 use Rattle.pop.proofs.stays.fixpoint_keeps.Tie as tie
@@ -16,9 +16,9 @@ returns : tie.Need-returns
 returns c =
     let a = c.before.before.before.before.args in
     let fixpoint = c.before.before.fixpoint in
-    let is-single = c.is-single in
-    fixpoint-first a.fixpoint fixpoint.given.0.0 a.usages fixpoint.given.1 is-single.result
-    is-single.ensures
+    let is_single_lem = c.is_single_lem in
+    fixpoint_first a.fixpoint fixpoint.given.0.0 a.usages fixpoint.given.1 is_single_lem.result
+    is_single_lem.ensures
 
 returns-2 : tie.Need-returns-2
 returns-2 c = search rules

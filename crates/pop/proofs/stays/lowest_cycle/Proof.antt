@@ -2,18 +2,18 @@ use mathlib.Core.Path.{ap, ◌∙◌}
 use Prim.Native.Nat.{ℕ, ◌-◌, ◌^◌, ◌<◌, min, max}
 use native.Mathlib.Omega.{arith}
 use lib.ListN.{get_or}
-use Rattle.pop.specs.Popped.{poppedFrame, PathsFrom}
+use Rattle.pop.specs.Popped.{popped_frame, PathsFrom}
 use Rattle.layout.proofs.Marks.{turn_small}
-use Rattle.pop.proofs.Writes.{popped-length}
-use Rattle.pop.proofs.Loops.{Lowering, lowering-start, lowering-next, lowering-done}
+use Rattle.pop.proofs.Writes.{popped_length}
+use Rattle.pop.proofs.Loops.{Lowering, lowering_start, lowering_next, lowering_done}
 use borrow.Author.Rules.{rules}
 use Rattle.pop.proofs.stays.lowest_cycle.Statement.{statement}
 use Rattle.pop.proofs.stays.lowest_cycle.Tie as tie
 
 abbrev invariant-loop : tie.invariant-loop
 invariant-loop rest goals paths lowest₀ left₀ lowest left =
-    Lowering (λ s. PathsFrom s (poppedFrame goals rest) paths) (poppedFrame goals rest).stepKindFromParent
-    (poppedFrame goals rest).heads lowest left
+    Lowering (λ s. PathsFrom s (popped_frame goals rest) paths) (popped_frame goals rest).step_kind_from_parent
+    (popped_frame goals rest).heads lowest left
 
 abbrev decreases-loop : tie.decreases-loop
 decreases-loop rest goals paths lowest₀ left₀ lowest left = left
@@ -26,9 +26,9 @@ under : (c : tie.After-lowest invariant-loop decreases-loop) → c.lowest.result
 under c =
     let a = c.before.before.before.before.before.args in
     let l = c.before.before.loop in
-    turn_small (poppedFrame a.goals a.rest.now).heads l.left c.lowest.result
+    turn_small (popped_frame a.goals a.rest.now).heads l.left c.lowest.result
     c.before.loop-test.true l.invariant.small l.invariant.within c.lowest.ensures a.goals
-    (popped-length a.goals a.rest.now)
+    (popped_length a.goals a.rest.now)
 
 room : (c : tie.After-lowest invariant-loop decreases-loop) → c.lowest.result < 64
 room c =
@@ -43,8 +43,8 @@ loop-holds : tie.Need-loop-init invariant-loop decreases-loop
 loop-holds c =
     let a = c.before.before.args in
     let popped-mask = c.popped-mask in
-    lowering-start (λ s. PathsFrom s (poppedFrame a.goals a.rest.now) a.paths.now)
-    (poppedFrame a.goals a.rest.now).stepKindFromParent (poppedFrame a.goals a.rest.now).heads popped-mask.result
+    lowering_start (λ s. PathsFrom s (popped_frame a.goals a.rest.now) a.paths.now)
+    (popped_frame a.goals a.rest.now).step_kind_from_parent (popped_frame a.goals a.rest.now).heads popped-mask.result
     (64 - a.goals) (small c) popped-mask.ensures
 
 lowest-requires : tie.Need-lowest-requires invariant-loop decreases-loop
@@ -81,8 +81,8 @@ loop-again c =
     let popped-head = c.before.before.before.before.before.popped-head in
     let lesser = c.before.lesser in
     let without-lowest = c.without-lowest in
-    lowering-next (λ s. PathsFrom s (poppedFrame a.goals a.rest.now) a.paths.now)
-    (poppedFrame a.goals a.rest.now).stepKindFromParent (poppedFrame a.goals a.rest.now).heads
+    lowering_next (λ s. PathsFrom s (popped_frame a.goals a.rest.now) a.paths.now)
+    (popped_frame a.goals a.rest.now).step_kind_from_parent (popped_frame a.goals a.rest.now).heads
     l.lowest l.left c6.lowest.result l.invariant c6.before.loop-test.true c6.lowest.ensures
     (get_or a.paths.now c6.lowest.result 0) (λ s are. are c6.lowest.result (room c6)) popped-head.result
     popped-head.ensures lesser.result
@@ -96,8 +96,8 @@ returns : tie.Need-returns invariant-loop decreases-loop
 returns c =
     let a = c.before.before.before.before.args in
     let l = c.before.loop in
-    lowering-done (λ s. PathsFrom s (poppedFrame a.goals a.rest.now) a.paths.now)
-    (poppedFrame a.goals a.rest.now).stepKindFromParent (poppedFrame a.goals a.rest.now).heads
+    lowering_done (λ s. PathsFrom s (popped_frame a.goals a.rest.now) a.paths.now)
+    (popped_frame a.goals a.rest.now).step_kind_from_parent (popped_frame a.goals a.rest.now).heads
     l.lowest l.left l.invariant c.loop-test.false
 
 pub lowest-cycle-spec : {M : Type 1} → statement M

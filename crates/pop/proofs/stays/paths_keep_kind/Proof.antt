@@ -1,9 +1,9 @@
 use mathlib.Core.Path.{refl}
 use mathlib.Core.List.{List}
 use Rattle.definition.specs.declared.paths.PathKind.{PathKind}
-use Rattle.definition.specs.Paths.{containedIn}
-use Rattle.pop.specs.Popped.{boundKeeps}
-use Rattle.pop.proofs.Tests.{fails-1, fails-2, fails-3, last-4}
+use Rattle.definition.specs.Paths.{contained_in}
+use Rattle.pop.specs.Popped.{bound_keeps}
+use Rattle.pop.proofs.Tests.{fails_1, fails_2, fails_3, last_4}
 use borrow.Author.Rules.{rules}
 use Rattle.pop.proofs.stays.paths_keep_kind.Statement.{statement}
 use Rattle.pop.proofs.stays.paths_keep_kind.Tie as tie
@@ -15,7 +15,7 @@ returns : tie.Need-returns
 returns c =
     let a = c.before.before.args in
     let ep-keeps = c.before.ep-keeps in
-    fails-1 (λ (ks : List PathKind). boundKeeps a.lowest a.path (containedIn a.eps.bits ks)) refl ep-keeps.result
+    fails_1 (λ (ks : List PathKind). bound_keeps a.lowest a.path (contained_in a.eps.bits ks)) refl ep-keeps.result
     ep-keeps.ensures c.if1.true
 
 ep-keeps-requires-2 : tie.Need-ep-keeps-requires-2
@@ -26,7 +26,7 @@ returns-2 c =
     let a = c.before.before.before.before.args in
     let ep-keeps = c.before.before.before.ep-keeps in
     let ep-keeps2 = c.before.ep-keeps2 in
-    fails-2 (λ (ks : List PathKind). boundKeeps a.lowest a.path (containedIn a.eps.bits ks)) refl ep-keeps.result
+    fails_2 (λ (ks : List PathKind). bound_keeps a.lowest a.path (contained_in a.eps.bits ks)) refl ep-keeps.result
     ep-keeps.ensures c.before.before.if1.false ep-keeps2.result ep-keeps2.ensures c.if2.true
 
 ep-keeps-requires-3 : tie.Need-ep-keeps-requires-3
@@ -39,7 +39,7 @@ returns-3 c =
     let if1 = c.before.before.before.before.if1 in
     let ep-keeps2 = c.before.before.before.ep-keeps2 in
     let ep-keeps3 = c.before.ep-keeps3 in
-    fails-3 (λ (ks : List PathKind). boundKeeps a.lowest a.path (containedIn a.eps.bits ks)) refl ep-keeps.result
+    fails_3 (λ (ks : List PathKind). bound_keeps a.lowest a.path (contained_in a.eps.bits ks)) refl ep-keeps.result
     ep-keeps.ensures if1.false ep-keeps2.result ep-keeps2.ensures c.before.before.if2.false ep-keeps3.result
     ep-keeps3.ensures c.if3.true
 
@@ -55,7 +55,7 @@ returns-4 c =
     let if2 = c.before.before.before.if2 in
     let ep-keeps3 = c.before.before.ep-keeps3 in
     let ep-keeps4 = c.ep-keeps4 in
-    last-4 (λ (ks : List PathKind). boundKeeps a.lowest a.path (containedIn a.eps.bits ks)) refl ep-keeps.result
+    last_4 (λ (ks : List PathKind). bound_keeps a.lowest a.path (contained_in a.eps.bits ks)) refl ep-keeps.result
     ep-keeps.ensures if1.false ep-keeps2.result ep-keeps2.ensures if2.false ep-keeps3.result ep-keeps3.ensures
     c.before.if3.false ep-keeps4.result ep-keeps4.ensures
 

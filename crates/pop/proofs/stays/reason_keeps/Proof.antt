@@ -1,4 +1,4 @@
-use Rattle.pop.proofs.Entries.{reason-same, reason-fixpoint}
+use Rattle.pop.proofs.Entries.{reason_same, reason_fixpoint}
 use borrow.Author.Rules.{rules}
 use Rattle.pop.proofs.stays.reason_keeps.Statement.{statement}
 use Rattle.pop.proofs.stays.reason_keeps.Tie as tie
@@ -21,7 +21,7 @@ returns c =
     let reason = c.before.before.before.before.reason in
     let is-ambiguous = c.before.before.is-ambiguous in
     let same = c.same in
-    reason-same a.reason reason.given.0.0 a.result a.usages reason.given.1 is-ambiguous.result
+    reason_same a.reason reason.given.0.0 a.result a.usages reason.given.1 is-ambiguous.result
     is-ambiguous.ensures c.before.if1.true same.result same.ensures
 
 enum-known-reason-2 : tie.Need-enum-known-reason-2
@@ -41,7 +41,7 @@ returns-4 c =
     let a = c.before.before.before.before.args in
     let reason2 = c.before.before.reason2 in
     let fixpoint-keeps = c.fixpoint-keeps in
-    reason-fixpoint a.reason reason2.given.0.0 a.result a.usages reason2.given.1
+    reason_fixpoint a.reason reason2.given.0.0 a.result a.usages reason2.given.1
     fixpoint-keeps.result fixpoint-keeps.ensures
 
 pub reason-keeps-spec : {M : Type 1} → statement M

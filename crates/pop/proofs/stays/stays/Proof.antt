@@ -1,9 +1,9 @@
 use mathlib.Core.Path.{sym, ap, ◌∙◌}
 use Rattle.layout.specs.Entry.{entry_of}
-use Rattle.layout.specs.Work.{entryFrom}
-use Rattle.pop.specs.Popped.{poppedFrame}
-use Rattle.provisional_cache.proofs.Entries.{entry-bytes}
-use Rattle.pop.proofs.Entries.{stays-not, stays_by}
+use Rattle.layout.specs.Work.{entry_from}
+use Rattle.pop.specs.Popped.{popped_frame}
+use Rattle.provisional_cache.proofs.Entries.{entry_bytes_lem}
+use Rattle.pop.proofs.Entries.{stays_not, stays_by}
 use borrow.Author.Rules.{rules}
 use Rattle.pop.proofs.stays.stays.Statement.{statement}
 use Rattle.pop.proofs.stays.stays.Tie as tie
@@ -15,7 +15,7 @@ path-from-head-requires : tie.Need-path-from-head-requires
 path-from-head-requires c κs =
     let s = c.before.before in
     let entry-from = c.entry-from in
-    entry-bytes s.args.goals s.args.base s.args.rest.now entry-from.result.now s.args.k
+    entry_bytes_lem s.args.goals s.args.base s.args.rest.now entry-from.result.now s.args.k
     s.requires.0.entries s.requires.1 entry-from.ensures
 
 paths-keep-kind-requires : tie.Need-paths-keep-kind-requires
@@ -27,8 +27,8 @@ returns c s keeps =
     let entry-from = c.before.before.before.entry-from in
     let path-from-head = c.before.before.path-from-head in
     let paths-keep-kind = c.before.paths-keep-kind in
-    stays-not s (poppedFrame a.goals a.rest.now) a.reason a.usages
-    a.eps.bits (entry_of a.goals entry-from.result.now) (entryFrom a.goals a.base a.k a.rest.now)
+    stays_not s (popped_frame a.goals a.rest.now) a.reason a.usages
+    a.eps.bits (entry_of a.goals entry-from.result.now) (entry_from a.goals a.base a.k a.rest.now)
     (ap (entry_of a.goals) entry-from.ensures) path-from-head.result path-from-head.ensures
     paths-keep-kind.result
     (paths-keep-kind.ensures ∙ sym (keeps path-from-head.result a.eps.bits)) c.if1.true
@@ -37,7 +37,7 @@ result-requires : tie.Need-result-requires
 result-requires c κs =
     let s = c.before.before.before.before.before in
     let entry-from = c.before.before.before.entry-from in
-    entry-bytes s.args.goals s.args.base s.args.rest.now entry-from.result.now s.args.k
+    entry_bytes_lem s.args.goals s.args.base s.args.rest.now entry-from.result.now s.args.k
     s.requires.0.entries s.requires.1 entry-from.ensures
 
 reason-keeps-requires : tie.Need-reason-keeps-requires
@@ -51,8 +51,8 @@ returns-2 c s keeps =
     let paths-keep-kind = c.before.before.before.paths-keep-kind in
     let result = c.before.result in
     let reason-keeps = c.reason-keeps in
-    stays_by s (poppedFrame a.goals a.rest.now) a.reason a.usages
-    a.eps.bits (entry_of a.goals entry-from.result.now) (entryFrom a.goals a.base a.k a.rest.now)
+    stays_by s (popped_frame a.goals a.rest.now) a.reason a.usages
+    a.eps.bits (entry_of a.goals entry-from.result.now) (entry_from a.goals a.base a.k a.rest.now)
     (ap (entry_of a.goals) entry-from.ensures) path-from-head.result path-from-head.ensures
     paths-keep-kind.result
     (paths-keep-kind.ensures ∙ sym (keeps path-from-head.result a.eps.bits)) c.before.before.if1.false result.result result.ensures

@@ -1,5 +1,5 @@
 use Rattle.layout.specs.Entry.{entry_of}
-use Rattle.provisional_cache.proofs.Entries.{path-extended}
+use Rattle.provisional_cache.proofs.Entries.{path_extended}
 use borrow.Author.Rules.{rules}
 use Rattle.provisional_cache.proofs.entry.extend_path.Statement.{statement}
 use Rattle.provisional_cache.proofs.entry.extend_path.Tie as tie
@@ -22,7 +22,7 @@ returns c =
     let path-from-head = c.before.before.before.before.before.path-from-head in
     let extend = c.before.before.before.extend in
     let set-path = c.before.before.set-path in
-    path-extended (entry_of a.goals a.entry.now) (entry_of a.goals set-path.new.0) path-from-head.result extend.result
+    path_extended (entry_of a.goals a.entry.now) (entry_of a.goals set-path.new.0) path-from-head.result extend.result
     a.kind set-path.ensures extend.ensures path-from-head.ensures
 
 pub extend-path-spec : {M : Type 1} → statement M

@@ -1,6 +1,6 @@
-use Rattle.layout.specs.Entry.{entryHeadsStart}
-use Rattle.layout.specs.Blocks.{headsSize}
-use Rattle.provisional_cache.proofs.Entries.{heads-part}
+use Rattle.layout.specs.Entry.{entry_heads_start}
+use Rattle.layout.specs.Blocks.{heads_size}
+use Rattle.provisional_cache.proofs.Entries.{heads_part}
 use borrow.Author.Rules.{rules}
 use Rattle.provisional_cache.proofs.entry.heads.Statement.{statement}
 use Rattle.provisional_cache.proofs.entry.heads.Tie as tie
@@ -24,7 +24,7 @@ returns : tie.Need-returns
 returns c =
     let a = c.before.before.before.args in
     let heads-size = c.before.heads-size in
-    heads-part a.entry.now entryHeadsStart heads-size.result (headsSize a.goals) heads-size.ensures
+    heads_part a.entry.now entry_heads_start heads-size.result (heads_size a.goals) heads-size.ensures
 
 pub heads-spec : {M : Type 1} → statement M
 heads-spec =

@@ -1,5 +1,5 @@
-use Rattle.definition.specs.Heads.{CycleHeads, insertHead}
-use Rattle.provisional_cache.proofs.Entries.{heads-written}
+use Rattle.definition.specs.Heads.{CycleHeads, insert_head}
+use Rattle.provisional_cache.proofs.Entries.{heads_written}
 use borrow.Author.Rules.{rules}
 use Rattle.provisional_cache.proofs.entry.join_head.Statement.{statement}
 use Rattle.provisional_cache.proofs.entry.join_head.Tie as tie
@@ -30,8 +30,8 @@ returns c =
     let a = c.before.before.before.before.before.before.before.args in
     let heads-size = c.before.before.before.before.heads-size in
     let insert = c.before.before.insert in
-    heads-written a.goals a.entry.now heads-size.result insert.new.0
-    (λ (hs : CycleHeads). insertHead hs a.i a.head.paths a.head.usages)
+    heads_written a.goals a.entry.now heads-size.result insert.new.0
+    (λ (hs : CycleHeads). insert_head hs a.i a.head.paths a.head.usages)
     c.before.before.before.before.before.before.before.requires.0 heads-size.ensures insert.auto.0 insert.ensures
 
 pub join-head-spec : {M : Type 1} → statement M

@@ -1,5 +1,5 @@
-use Rattle.definition.specs.Heads.{CycleHeads, removeHead}
-use Rattle.provisional_cache.proofs.Entries.{heads-written}
+use Rattle.definition.specs.Heads.{CycleHeads, remove_head}
+use Rattle.provisional_cache.proofs.Entries.{heads_written}
 use borrow.Author.Rules.{rules}
 use Rattle.provisional_cache.proofs.entry.remove_head.Statement.{statement}
 use Rattle.provisional_cache.proofs.entry.remove_head.Tie as tie
@@ -30,7 +30,7 @@ returns c =
     let a = c.before.before.before.before.before.before.args in
     let heads-size = c.before.before.before.before.heads-size in
     let remove = c.before.before.remove in
-    heads-written a.goals a.entry.now heads-size.result remove.new.0 (λ (hs : CycleHeads). removeHead hs a.i)
+    heads_written a.goals a.entry.now heads-size.result remove.new.0 (λ (hs : CycleHeads). remove_head hs a.i)
     c.before.before.before.before.before.before.requires.0 heads-size.ensures remove.auto.0 remove.ensures
 
 pub remove-head-spec : {M : Type 1} → statement M

@@ -1,4 +1,4 @@
-use Rattle.provisional_cache.proofs.Entries.{path-written}
+use Rattle.provisional_cache.proofs.Entries.{path_written}
 use borrow.Author.Rules.{rules}
 use Rattle.provisional_cache.proofs.entry.set_path.Statement.{statement}
 use Rattle.provisional_cache.proofs.entry.set_path.Tie as tie
@@ -16,7 +16,7 @@ returns : tie.Need-returns
 returns c =
     let s = c.before.before in
     let number = c.number in
-    path-written s.args.goals s.args.entry.now s.requires.long s.args.kind number.result number.ensures
+    path_written s.args.goals s.args.entry.now s.requires.long s.args.kind number.result number.ensures
 
 pub set-path-spec : {M : Type 1} → statement M
 set-path-spec = tie.close (tie.spec number-requires slice-write-entry same_length returns)

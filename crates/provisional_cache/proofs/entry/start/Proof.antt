@@ -1,6 +1,6 @@
 use native.Mathlib.Omega.{arith}
 use lib.ListN.{length-set}
-use Rattle.provisional_cache.proofs.Entries.{fields-written}
+use Rattle.provisional_cache.proofs.Entries.{fields_written}
 use borrow.Author.Rules.{rules}
 use Rattle.provisional_cache.proofs.entry.start.Statement.{statement}
 use Rattle.provisional_cache.proofs.entry.start.Tie as tie
@@ -39,7 +39,7 @@ returns c =
     let flag = c.before.before.flag in
     let number = c.before.number in
     let number2 = c.number2 in
-    fields-written s.args.goals s.args.entry.now s.requires.0.long s.args.goal s.args.overflow s.args.path
+    fields_written s.args.goals s.args.entry.now s.requires.0.long s.args.goal s.args.overflow s.args.path
     s.args.answer low.result flag.result number.result number2.result low.ensures flag.ensures number.ensures
     number2.ensures
 

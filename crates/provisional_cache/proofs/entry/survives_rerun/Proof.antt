@@ -1,10 +1,10 @@
 use mathlib.Core.Path.{ap}
 use Prim.Native.Nat.{ℕ}
 use mathlib.Core.List.{List}
-use Rattle.layout.specs.Blocks.{headsOf}
+use Rattle.layout.specs.Blocks.{heads_of}
 use Rattle.layout.specs.Entry.{entry_of}
-use Rattle.provisional_cache.proofs.Entries.{entry-heads-block}
-use Rattle.provisional_cache.proofs.Tests.{survives-other, survives-unused}
+use Rattle.provisional_cache.proofs.Entries.{entry_heads_block}
+use Rattle.provisional_cache.proofs.Tests.{survives_other, survives_unused}
 use borrow.Author.Rules.{rules}
 use Rattle.provisional_cache.proofs.entry.survives_rerun.Statement.{statement}
 use Rattle.provisional_cache.proofs.entry.survives_rerun.Tie as tie
@@ -16,7 +16,7 @@ returns : tie.Need-returns
 returns c =
     let s = c.before.before.before in
     let highest-head = c.before.highest-head in
-    survives-other (entry_of s.args.goals s.args.entry.now) s.args.rerun highest-head.result highest-head.ensures
+    survives_other (entry_of s.args.goals s.args.entry.now) s.args.rerun highest-head.result highest-head.ensures
     c.if1.true
 
 heads-requires : tie.Need-heads-requires
@@ -26,7 +26,7 @@ usages-requires : tie.Need-usages-requires
 usages-requires c κs =
     let s = c.before.before.before.before in
     let heads = c.heads in
-    (entry-heads-block s.args.goals s.args.entry.now heads.result.now s.requires.0 heads.ensures, s.requires.1)
+    (entry_heads_block s.args.goals s.args.entry.now heads.result.now s.requires.0 heads.ensures, s.requires.1)
 
 is-empty-requires : tie.Need-is-empty-requires
 is-empty-requires c κs = search rules
@@ -40,8 +40,8 @@ returns-2 c =
     let heads = c.before.before.heads in
     let usages = c.before.usages in
     let is-empty = c.is-empty in
-    survives-unused (entry_of s.args.goals s.args.entry.now) s.args.rerun highest-head.result highest-head.ensures
-    if1.false (headsOf s.args.goals heads.result.now) (ap (λ (l : List ℕ). headsOf s.args.goals l) heads.ensures)
+    survives_unused (entry_of s.args.goals s.args.entry.now) s.args.rerun highest-head.result highest-head.ensures
+    if1.false (heads_of s.args.goals heads.result.now) (ap (λ (l : List ℕ). heads_of s.args.goals l) heads.ensures)
     usages.result usages.ensures is-empty.result is-empty.ensures
 
 pub survives-rerun-spec : {M : Type 1} → statement M

@@ -1,6 +1,6 @@
 use mathlib.Core.Path.{sym, ◌∙◌}
-use Rattle.book.proofs.Books.{is-book}
-use Rattle.query.proofs.Counted.{no-book, by-book}
+use Rattle.book.proofs.Books.{is_book}
+use Rattle.query.proofs.Counted.{no_book, by_book}
 use borrow.Author.Rules.{rules}
 use Rattle.query.proofs.passes.of_answer.Statement.{statement}
 use Rattle.query.proofs.passes.of_answer.Tie as tie
@@ -21,14 +21,14 @@ of-goal-requires : tie.Need-of-goal-requires
 of-goal-requires c κs =
     let x = c.before.read2 in
     let r = c.before.before.before.before in
-    (is-book r.before.before.before.before.args.book.now r.read.new.1.0 x.given.0.0
-    (sym x.given.1 ∙ r.read.ensures.0) r.read.ensures.1).in-range
+    (is_book r.before.before.before.before.args.book.now r.read.new.1.0 x.given.0.0
+    (sym x.given.1 ∙ r.read.ensures.0) r.read.ensures.1).in_range
 
 returns : tie.Need-returns
 returns c =
     let r = c.before.before.before in
     let a = r.before.before.before.before.args in
-    no-book a.book.now a.cache.now a.goal a.depth c.enum_told.given.0.0
+    no_book a.book.now a.cache.now a.goal a.depth c.enum_told.given.0.0
     (sym c.enum_told.given.1 ∙ r.read.ensures.0)
 
 returns-2 : tie.Need-returns-2
@@ -36,7 +36,7 @@ returns-2 c =
     let x = c.before.before.read2 in
     let r = c.before.before.before.before.before in
     let a = r.before.before.before.before.args in
-    by-book a.book.now a.cache.now a.goal a.depth x.given.0.0
+    by_book a.book.now a.cache.now a.goal a.depth x.given.0.0
     (sym x.given.1 ∙ r.read.ensures.0) c.of-goal.result c.of-goal.ensures
 
 pub of-answer-spec : {M : Type 1} → statement M

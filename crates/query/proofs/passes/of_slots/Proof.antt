@@ -1,4 +1,4 @@
-use Rattle.query.proofs.Counted.{from-success, from-overflow, from-none}
+use Rattle.query.proofs.Counted.{from_success, from_overflow, from_none}
 use borrow.Author.Rules.{rules}
 use Rattle.query.proofs.passes.of_slots.Statement.{statement}
 use Rattle.query.proofs.passes.of_slots.Tie as tie
@@ -13,7 +13,7 @@ returns : tie.Need-returns
 returns c =
     let s = c.before.before in
     let a = s.before.before.before.args in
-    from-success a.depth a.success.now a.overflow.now s.succeeds.result s.succeeds.ensures
+    from_success a.depth a.success.now a.overflow.now s.succeeds.result s.succeeds.ensures
     c.before.if1.true c.passes_of.result c.passes_of.ensures
 
 is-held-requires : tie.Need-is-held-requires
@@ -27,7 +27,7 @@ returns-2 c =
     let held = c.before.before in
     let s = held.before.before in
     let a = s.before.before.before.args in
-    from-overflow a.depth a.success.now a.overflow.now s.succeeds.result s.succeeds.ensures
+    from_overflow a.depth a.success.now a.overflow.now s.succeeds.result s.succeeds.ensures
     held.before.if1.false held.is_held.result held.is_held.ensures c.before.if2.true c.passes-of2.result
     c.passes-of2.ensures
 
@@ -36,7 +36,7 @@ returns-3 c =
     let held = c.before in
     let s = held.before.before in
     let a = s.before.before.before.args in
-    from-none a.depth a.success.now a.overflow.now s.succeeds.result s.succeeds.ensures
+    from_none a.depth a.success.now a.overflow.now s.succeeds.result s.succeeds.ensures
     held.before.if1.false held.is_held.result held.is_held.ensures c.if2.false
 
 pub of-slots-spec : {M : Type 1} → statement M

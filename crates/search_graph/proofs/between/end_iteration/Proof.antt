@@ -1,6 +1,6 @@
 use Rattle.evaluation.specs.Outcomes.{CountsIn}
-use Rattle.evaluation.proofs.Lent.{lent-bytes}
-use Rattle.search_graph.proofs.Lending.{lent-stack, iteration-ended}
+use Rattle.evaluation.proofs.Lent.{lent_bytes}
+use Rattle.search_graph.proofs.Lending.{lent_stack, iteration_ended}
 use borrow.Author.Rules.{rules}
 use Rattle.search_graph.proofs.between.end_iteration.Statement.{statement}
 use Rattle.search_graph.proofs.between.end_iteration.Tie as tie
@@ -22,12 +22,12 @@ end-iteration-requires c κs =
     let s = c.before.before.before in
     let graph-length = c.before.graph-length in
     record {
-      bytes = lent-bytes s.args.goals s.args.work.now s.requires.0.0 graph-length.result graph-length.ensures.0;
+      bytes = lent_bytes s.args.goals s.args.work.now s.requires.0.0 graph-length.result graph-length.ensures.0;
       low = s.requires.1.0;
       high = s.requires.1.1.0;
       few = s.requires.1.1.1;
       counts =
-          lent-stack s.args.goals s.args.work.now graph-length.result s.requires.0.0 graph-length.ensures.0
+          lent_stack s.args.goals s.args.work.now graph-length.result s.requires.0.0 graph-length.ensures.0
           (λ st. CountsIn st s.args.o) s.args.height s.requires.0.1;
     }
 
@@ -39,7 +39,7 @@ returns c =
     let s = c.before.before.before.before.before.before in
     let l = c.before.before.end-iteration in
     let graph-length = c.before.before.before.before.graph-length in
-    iteration-ended s.args.goals s.args.work.now graph-length.result s.requires.0.0 graph-length.ensures.0 l.new.1.0
+    iteration_ended s.args.goals s.args.work.now graph-length.result s.requires.0.0 graph-length.ensures.0 l.new.1.0
     l.auto.1.0 s.args.height s.args.left s.args.overflow s.args.o l.result l.ensures
 
 pub end-iteration-spec : {M : Type 1} → statement M

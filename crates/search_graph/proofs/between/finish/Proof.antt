@@ -1,6 +1,6 @@
 use Rattle.evaluation.specs.Outcomes.{TaskCountsIn}
-use Rattle.evaluation.proofs.Lent.{lent-bytes}
-use Rattle.search_graph.proofs.Lending.{lent-stack, finished}
+use Rattle.evaluation.proofs.Lent.{lent_bytes}
+use Rattle.search_graph.proofs.Lending.{lent_stack, finished}
 use borrow.Author.Rules.{rules}
 use Rattle.search_graph.proofs.between.finish.Statement.{statement}
 use Rattle.search_graph.proofs.between.finish.Tie as tie
@@ -22,14 +22,14 @@ finish-requires c κs =
     let s = c.before.before.before.before.before in
     let graph-length = c.before.before.graph-length in
     record {
-      bytes = lent-bytes s.args.h.goals s.args.work.now s.requires.bytes graph-length.result graph-length.ensures.0;
-      cache-bytes = s.requires.slots;
+      bytes = lent_bytes s.args.h.goals s.args.work.now s.requires.bytes graph-length.result graph-length.ensures.0;
+      cache_bytes = s.requires.slots;
       under = s.requires.stack;
       known = s.requires.known;
       few = s.requires.few;
       passes = s.requires.passes;
       counts =
-          lent-stack s.args.h.goals s.args.work.now graph-length.result s.requires.bytes graph-length.ensures.0
+          lent_stack s.args.h.goals s.args.work.now graph-length.result s.requires.bytes graph-length.ensures.0
           (λ st. TaskCountsIn st s.args.ran.outcome) s.args.height s.requires.counts;
     }
 

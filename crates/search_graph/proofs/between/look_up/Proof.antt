@@ -1,4 +1,4 @@
-use Rattle.search_graph.proofs.Lending.{lent-stack, lent-frames, looked-up}
+use Rattle.search_graph.proofs.Lending.{lent_stack, lent_frames, looked_up}
 use Rattle.definition.specs.Stack.{Stack}
 use Rattle.stack.specs.Places.{Placed}
 use borrow.Author.Rules.{rules}
@@ -25,7 +25,7 @@ lookup-requires c κs =
         graph =
             record {
               stack =
-                  lent-frames s.args.h.goals s.args.work.now graph-length.result s.requires.bytes graph-length.ensures.0
+                  lent_frames s.args.h.goals s.args.work.now graph-length.result s.requires.bytes graph-length.ensures.0
                   s.args.height s.requires.stack s.requires.counts;
               entries = s.requires.entries;
             };
@@ -34,7 +34,7 @@ lookup-requires c κs =
         divisor = s.requires.divides;
         root = s.requires.shallow;
       },
-      lent-stack s.args.h.goals s.args.work.now graph-length.result s.requires.bytes graph-length.ensures.0
+      lent_stack s.args.h.goals s.args.work.now graph-length.result s.requires.bytes graph-length.ensures.0
           (λ (l : Stack). Placed l s.args.places.now) s.args.height s.requires.placed,
     )
 
@@ -46,7 +46,7 @@ returns c =
     let s = c.before.before.before.before.before.before.before in
     let l = c.before.before.lookup in
     let graph-length = c.before.before.before.before.graph-length in
-    looked-up s.args.h s.args.work.now graph-length.result s.requires.bytes graph-length.ensures.0 l.new.1.0
+    looked_up s.args.h s.args.work.now graph-length.result s.requires.bytes graph-length.ensures.0 l.new.1.0
     l.auto.1.0 s.args.root s.args.height s.args.entries s.args.goal s.args.step s.args.lower
     s.args.cache.now l.result l.ensures
 

@@ -1,5 +1,5 @@
 use native.Mathlib.Omega.{arith}
-use Rattle.search_graph.proofs.Lending.{lent-frames, pushed}
+use Rattle.search_graph.proofs.Lending.{lent_frames, pushed}
 use borrow.Author.Rules.{rules}
 use Rattle.search_graph.proofs.between.push.Statement.{statement}
 use Rattle.search_graph.proofs.between.push.Tie as tie
@@ -21,7 +21,7 @@ push-requires c κs =
     let s = c.before.before.before in
     let graph-length = c.before.graph-length in
     let lt = s.requires.1.0 in (
-      lent-frames s.args.goals s.args.work.now graph-length.result s.requires.0.0 graph-length.ensures.0
+      lent_frames s.args.goals s.args.work.now graph-length.result s.requires.0.0 graph-length.ensures.0
           s.args.height (omega arith) s.requires.0.1,
       s.requires.1,
     )

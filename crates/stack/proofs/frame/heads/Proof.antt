@@ -1,4 +1,4 @@
-use Rattle.stack.proofs.Blocks.{head-part}
+use Rattle.stack.proofs.Blocks.{head_part}
 use borrow.Author.Rules.{rules}
 use Rattle.stack.proofs.frame.heads.Statement.{statement}
 use Rattle.stack.proofs.frame.heads.Tie as tie
@@ -16,7 +16,7 @@ part-result-end : tie.Need-slice-bounds-result-end
 part-result-end c = search rules
 
 returns : tie.Need-returns
-returns c = let a = c.before.before.before.args in head-part a.goals a.frame.now c.before.candidate-start.result c.before.candidate-start.ensures
+returns c = let a = c.before.before.before.args in head_part a.goals a.frame.now c.before.candidate-start.result c.before.candidate-start.ensures
 
 pub heads-spec : {M : Type 1} → statement M
 heads-spec =

@@ -1,5 +1,5 @@
-use Rattle.stack.proofs.Fields.{mark-frame}
-use Rattle.stack.proofs.Records.{mark-returned}
+use Rattle.stack.proofs.Fields.{mark_frame}
+use Rattle.stack.proofs.Records.{mark_returned}
 use Rattle.stack.proofs.Parts.{returned}
 use borrow.Author.Rules.{rules}
 use Rattle.stack.proofs.frame.mark_overflow.Statement.{statement}
@@ -42,7 +42,7 @@ same_length : tie.Need-same-length
 same_length c = search rules
 
 returns : tie.Need-returns
-returns c = let s = c.before.before.before.before.before.before.before.before.before.before.before.before in let bs = s.args.frame.now in let m = c.before.before.before.before.before.before.before.before.before.mark-bytes in let a = c.before.before.before.before in let p = c.before.before.insert in mark-frame s.args.goals bs (returned bs 0 8 m.new.0) p.new.0 a.nested-start.result s.requires.long (mark-returned bs m.new.0 m.ensures) a.nested-start.ensures p.auto.0 a.before.input.result a.before.input.ensures.0 p.ensures
+returns c = let s = c.before.before.before.before.before.before.before.before.before.before.before.before in let bs = s.args.frame.now in let m = c.before.before.before.before.before.before.before.before.before.mark-bytes in let a = c.before.before.before.before in let p = c.before.before.insert in mark_frame s.args.goals bs (returned bs 0 8 m.new.0) p.new.0 a.nested-start.result s.requires.long (mark_returned bs m.new.0 m.ensures) a.nested-start.ensures p.auto.0 a.before.input.result a.before.input.ensures.0 p.ensures
 
 pub mark-overflow-spec : {M : Type 1} → statement M
 mark-overflow-spec =

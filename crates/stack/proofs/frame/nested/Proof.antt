@@ -1,4 +1,4 @@
-use Rattle.stack.proofs.Blocks.{nested-part}
+use Rattle.stack.proofs.Blocks.{nested_part}
 use borrow.Author.Rules.{rules}
 use Rattle.stack.proofs.frame.nested.Statement.{statement}
 use Rattle.stack.proofs.frame.nested.Tie as tie
@@ -19,7 +19,7 @@ part-result-end : tie.Need-slice-bounds-result-end
 part-result-end c = search rules
 
 returns : tie.Need-returns
-returns c = let a = c.before.before.before.args in nested-part a.goals a.frame.now c.before.nested-start.result c.before.nested-start.ensures
+returns c = let a = c.before.before.before.args in nested_part a.goals a.frame.now c.before.nested-start.result c.before.nested-start.ensures
 
 pub nested_spec : {M : Type 1} → statement M
 nested_spec =

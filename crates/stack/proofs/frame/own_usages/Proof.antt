@@ -1,8 +1,8 @@
 use lib.ListN.{get_or}
 use Rattle.buffer.specs.Regions.{region}
-use Rattle.layout.specs.Blocks.{usagesSize, usagesOf}
-use Rattle.layout.specs.Frame.{usagesStart, frame_of}
-use Rattle.stack.proofs.Values.{usages-absent, usages-present}
+use Rattle.layout.specs.Blocks.{usages_size, usages_of}
+use Rattle.layout.specs.Frame.{usages_start, frame_of}
+use Rattle.stack.proofs.Values.{usages_absent, usages_present}
 use borrow.Author.Rules.{rules}
 use Rattle.stack.proofs.frame.own_usages.Statement.{statement}
 use Rattle.stack.proofs.frame.own_usages.Tie as tie
@@ -15,7 +15,7 @@ none-requires c κs = search rules
 
 returns : tie.Need-returns
 unfolding frame_of
-returns c = let a = c.before.before.before.before.args in usages-absent (get_or a.frame.now 6 0) (usagesOf (region usagesStart usagesSize a.frame.now)) c.none.result c.before.if1.true c.none.ensures
+returns c = let a = c.before.before.before.before.args in usages_absent (get_or a.frame.now 6 0) (usages_of (region usages_start usages_size a.frame.now)) c.none.result c.before.if1.true c.none.ensures
 
 sub-read-usages : tie.Need-overflow-sub-read-usages
 sub-read-usages c = search rules
@@ -31,7 +31,7 @@ read-usages-requires c κs = search rules
 
 returns-2 : tie.Need-returns-2
 unfolding frame_of
-returns-2 c = let a = c.before.before.before.before.before.args in usages-present (get_or a.frame.now 6 0) (usagesOf (region usagesStart usagesSize a.frame.now)) c.read-usages.result c.before.before.if1.false c.read-usages.ensures
+returns-2 c = let a = c.before.before.before.before.before.args in usages_present (get_or a.frame.now 6 0) (usages_of (region usages_start usages_size a.frame.now)) c.read-usages.result c.before.before.if1.false c.read-usages.ensures
 
 pub own-usages-spec : {M : Type 1} → statement M
 own-usages-spec =

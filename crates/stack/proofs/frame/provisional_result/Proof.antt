@@ -1,6 +1,6 @@
 use lib.ListN.{get_or}
 use Rattle.layout.specs.Frame.{frame_of}
-use Rattle.stack.proofs.Values.{result-absent, result-present}
+use Rattle.stack.proofs.Values.{result_absent, result_present}
 use borrow.Author.Rules.{rules}
 use Rattle.stack.proofs.frame.provisional_result.Statement.{statement}
 use Rattle.stack.proofs.frame.provisional_result.Tie as tie
@@ -10,7 +10,7 @@ shared-slice-read-n c = search rules
 
 returns : tie.Need-returns
 unfolding frame_of
-returns c = result-absent (get_or c.before.before.before.args.frame.now 4 0) c.if1.true
+returns c = result_absent (get_or c.before.before.before.args.frame.now 4 0) c.if1.true
 
 sub-from-number : tie.Need-overflow-sub-from-number
 sub-from-number c = search rules
@@ -20,7 +20,7 @@ from-number-requires c κs = search rules
 
 returns-2 : tie.Need-returns-2
 unfolding frame_of
-returns-2 c = result-present (get_or c.before.before.before.before.args.frame.now 4 0) c.from-number.result c.before.if1.false c.from-number.ensures
+returns-2 c = result_present (get_or c.before.before.before.before.args.frame.now 4 0) c.from-number.result c.before.if1.false c.from-number.ensures
 
 pub provisional-result-spec : {M : Type 1} → statement M
 provisional-result-spec =

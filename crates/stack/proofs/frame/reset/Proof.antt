@@ -1,7 +1,7 @@
 use native.Mathlib.Omega.{arith}
 use mathlib.Core.Path.{◌∙◌}
 use lib.ListN.{length-set}
-use Rattle.stack.proofs.Fields.{answer-small, reset-length, reset-frame}
+use Rattle.stack.proofs.Fields.{answer_small, reset_length, reset_frame}
 use borrow.Author.Rules.{rules}
 use Rattle.stack.proofs.frame.reset.Statement.{statement}
 use Rattle.stack.proofs.frame.reset.Tie as tie
@@ -10,7 +10,7 @@ number-requires : tie.Need-number-requires
 number-requires c κs = search rules
 
 add-frame : tie.Need-overflow-add-frame
-add-frame c = omega (arith, c.number.ensures, answer-small c.before.before.args.answer)
+add-frame c = omega (arith, c.number.ensures, answer_small c.before.before.args.answer)
 
 slice-write-frame : tie.Need-slice-write-frame
 slice-write-frame c = search rules
@@ -40,10 +40,10 @@ write-usages-requires : tie.Need-write-usages-requires
 write-usages-requires c κs = search rules
 
 same_length : tie.Need-same-length
-same_length c = let s = c.before.before.before.before.before.before.before in let n = c.before.before.before.before.before.number in let w = c.before.before.write-usages in reset-length s.args.goals n.result s.args.frame.now s.args.answer s.requires.long n.ensures w.new.0 w.auto.0
+same_length c = let s = c.before.before.before.before.before.before.before in let n = c.before.before.before.before.before.number in let w = c.before.before.write-usages in reset_length s.args.goals n.result s.args.frame.now s.args.answer s.requires.long n.ensures w.new.0 w.auto.0
 
 returns : tie.Need-returns
-returns c = let s = c.before.before.before.before.before.before.before in let n = c.before.before.before.before.before.number in let w = c.before.before.write-usages in reset-frame s.args.goals n.result s.args.frame.now s.args.answer s.requires.long n.ensures w.new.0 w.auto.0 (w.ensures ∙ c.before.before.before.none.ensures)
+returns c = let s = c.before.before.before.before.before.before.before in let n = c.before.before.before.before.before.number in let w = c.before.before.write-usages in reset_frame s.args.goals n.result s.args.frame.now s.args.answer s.requires.long n.ensures w.new.0 w.auto.0 (w.ensures ∙ c.before.before.before.none.ensures)
 
 pub reset-spec : {M : Type 1} → statement M
 reset-spec =

@@ -1,4 +1,4 @@
-use Rattle.stack.proofs.Fields.{start-frame}
+use Rattle.stack.proofs.Fields.{start_frame}
 use borrow.Author.Rules.{rules}
 use Rattle.stack.proofs.frame.start.Statement.{statement}
 use Rattle.stack.proofs.frame.start.Tie as tie
@@ -60,10 +60,10 @@ same_length c = search rules
 returns : tie.Need-returns
 returns c =
     let s = c.before.before.before.before.before.before.before.before.before.before.before.before.before.before.before.before.before.before.before.before in
-    start-frame s.args.goals s.args.goal s.args.available s.args.step s.args.frame.now
-    c.before.before.before.before.before.before.before.before.before.before.before.before.before.before.before.before.before.start-fields.new.0 c.before.before.before.before.before.before.before.before.before.before.before.before.clear.new.0 c.before.before.before.before.before.before.before.fill-zero.new.0 c.before.before.before.before.before.before.before.before.before.before.before.before.before.before.candidate-start.result
+    start_frame s.args.goals s.args.goal s.args.available s.args.step s.args.frame.now
+    c.before.before.before.before.before.before.before.before.before.before.before.before.before.before.before.before.before.start_fields_lem.new.0 c.before.before.before.before.before.before.before.before.before.before.before.before.clear.new.0 c.before.before.before.before.before.before.before.fill-zero.new.0 c.before.before.before.before.before.before.before.before.before.before.before.before.before.before.candidate-start.result
     c.before.before.before.before.before.before.before.before.before.nested-start.result s.requires.0.long c.before.before.before.before.before.before.before.before.before.before.before.before.before.before.candidate-start.ensures c.before.before.before.before.before.before.before.before.before.nested-start.ensures
-    c.before.before.before.before.before.before.before.before.before.before.before.before.before.before.before.before.before.start-fields.ensures c.before.before.before.before.before.before.before.before.before.before.before.before.clear.auto.0 c.before.before.before.before.before.before.before.before.before.before.before.before.clear.ensures c.before.before.before.before.before.before.before.fill-zero.auto.0
+    c.before.before.before.before.before.before.before.before.before.before.before.before.before.before.before.before.before.start_fields_lem.ensures c.before.before.before.before.before.before.before.before.before.before.before.before.clear.auto.0 c.before.before.before.before.before.before.before.before.before.before.before.before.clear.ensures c.before.before.before.before.before.before.before.fill-zero.auto.0
     c.before.before.before.before.before.before.before.fill-zero.ensures c.before.before.write-u64.new.0 c.before.before.before.Counts-start.result s.args.steps
     c.before.before.before.Counts-start.ensures (search rules) c.before.before.write-u64.ensures
 

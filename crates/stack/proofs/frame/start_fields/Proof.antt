@@ -1,6 +1,6 @@
 use native.Mathlib.Omega.{arith}
 use lib.ListN.{length-set}
-use Rattle.stack.proofs.Fields.{start-fields}
+use Rattle.stack.proofs.Fields.{start_fields_lem}
 use borrow.Author.Rules.{rules}
 use Rattle.stack.proofs.frame.start_fields.Statement.{statement}
 use Rattle.stack.proofs.frame.start_fields.Tie as tie
@@ -45,7 +45,7 @@ same_length : tie.Need-same-length
 same_length c = search rules
 
 returns : tie.Need-returns
-returns c = let a = c.before.before.before.before.before.args in start-fields a.b.now c.before.before.before.before.before.requires.0 a.goal a.available a.step c.before.before.before.low.result c.before.before.number.result c.before.low2.result c.low3.result c.before.before.before.low.ensures c.before.before.number.ensures c.before.low2.ensures c.low3.ensures
+returns c = let a = c.before.before.before.before.before.args in start_fields_lem a.b.now c.before.before.before.before.before.requires.0 a.goal a.available a.step c.before.before.before.low.result c.before.before.number.result c.before.low2.result c.low3.result c.before.before.before.low.ensures c.before.before.number.ensures c.before.low2.ensures c.low3.ensures
 
 pub start-fields-spec : {M : Type 1} → statement M
 start-fields-spec =

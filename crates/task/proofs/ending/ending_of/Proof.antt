@@ -1,7 +1,7 @@
 use mathlib.Core.Path.{◌∙◌}
 use borrow.Author.Tests.{not-true, not-false}
 use Rattle.layout.specs.Frame.{frame_of}
-use Rattle.task.proofs.Endings.{ending-nothing, ending-head}
+use Rattle.task.proofs.Endings.{ending_nothing, ending_head}
 use borrow.Author.Rules.{rules}
 use Rattle.task.proofs.ending.ending_of.Statement.{statement}
 use Rattle.task.proofs.ending.ending_of.Tie as tie
@@ -12,9 +12,9 @@ is-head-requires c κs = search rules
 returns : tie.Need-returns
 returns c =
     let a = c.before.before.before.args in
-    let is-head = c.before.is-head in
-    ending-nothing a.left (frame_of a.goals a.f.now) a.answer is-head.result is-head.ensures
-    (not-true is-head.result c.if1.true)
+    let is_head = c.before.is_head in
+    ending_nothing a.left (frame_of a.goals a.f.now) a.answer is_head.result is_head.ensures
+    (not-true is_head.result c.if1.true)
 
 provisional-result-requires : tie.Need-provisional-result-requires
 provisional-result-requires c κs = search rules
@@ -28,13 +28,13 @@ ending-of-head-requires c κs = search rules
 returns-2 : tie.Need-returns-2
 returns-2 c =
     let a = c.before.before.before.before.before.before.args in
-    let is-head = c.before.before.before.before.is-head in
+    let is_head = c.before.before.before.before.is_head in
     let if1 = c.before.before.before.if1 in
     let provisional-result = c.before.before.provisional-result in
     let own-usages = c.before.own-usages in
     c.ending-of-head.ensures
-    ∙ ending-head a.left (frame_of a.goals a.f.now) a.answer is-head.result is-head.ensures
-    (not-false is-head.result if1.false) provisional-result.result provisional-result.ensures own-usages.result
+    ∙ ending_head a.left (frame_of a.goals a.f.now) a.answer is_head.result is_head.ensures
+    (not-false is_head.result if1.false) provisional-result.result provisional-result.ensures own-usages.result
     own-usages.ensures
 
 pub ending-of-spec : {M : Type 1} → statement M

@@ -1,4 +1,4 @@
-use Rattle.task.proofs.Endings.{head-reached, head-missed}
+use Rattle.task.proofs.Endings.{head_reached, head_missed}
 use borrow.Author.Rules.{rules}
 use Rattle.task.proofs.ending.ending_of_head.Statement.{statement}
 use Rattle.task.proofs.ending.ending_of_head.Tie as tie
@@ -20,7 +20,7 @@ returns c =
     let a = c.before.before.before.before.args in
     let reached-fixpoint = c.before.before.before.reached-fixpoint in
     let searched = c.before.searched in
-    head-reached a.left a.provisional a.usages a.answer reached-fixpoint.result
+    head_reached a.left a.provisional a.usages a.answer reached-fixpoint.result
     reached-fixpoint.ensures searched.given.0.0
     searched.given.1
 
@@ -29,7 +29,7 @@ returns-2 c =
     let a = c.before.before.before.before.args in
     let reached-fixpoint = c.before.before.before.reached-fixpoint in
     let without-fixpoint = c.without-fixpoint in
-    head-missed a.left a.provisional a.usages a.answer reached-fixpoint.result
+    head_missed a.left a.provisional a.usages a.answer reached-fixpoint.result
     reached-fixpoint.ensures
     c.before.enum_told.given.1 without-fixpoint.result without-fixpoint.ensures
 

@@ -1,4 +1,4 @@
-use Rattle.task.proofs.Endings.{later-reached, later-missed, first-reached, first-missed}
+use Rattle.task.proofs.Endings.{later_reached, later_missed, first_reached, first_missed}
 use borrow.Author.Rules.{rules}
 use Rattle.task.proofs.ending.reached_fixpoint.Statement.{statement}
 use Rattle.task.proofs.ending.reached_fixpoint.Tie as tie
@@ -14,7 +14,7 @@ returns c =
     let a = c.before.before.before.before.before.args in
     let provisional = c.before.before.before.provisional in
     let same = c.before.same in
-    later-reached a.provisional a.usages a.answer same.result provisional.given.0.0 provisional.given.1
+    later_reached a.provisional a.usages a.answer same.result provisional.given.0.0 provisional.given.1
     same.ensures c.if1.true
 
 enum_told : tie.Need-enum-told
@@ -30,27 +30,27 @@ returns-2 : tie.Need-returns-2
 returns-2 c =
     let a = c.before.before.before.before.before.args in
     let enum_told = c.before.before.before.enum_told in
-    let initial-kind = c.before.before.initial-kind in
-    let is-single = c.before.is-single in
-    first-reached a.provisional a.usages a.answer is-single.result initial-kind.result enum_told.given.1
-    initial-kind.ensures is-single.ensures c.if2.true
+    let initial_kind_lem = c.before.before.initial_kind_lem in
+    let is_single_lem = c.before.is_single_lem in
+    first_reached a.provisional a.usages a.answer is_single_lem.result initial_kind_lem.result enum_told.given.1
+    initial_kind_lem.ensures is_single_lem.ensures c.if2.true
 
 returns-3 : tie.Need-returns-3
 returns-3 c =
     let a = c.before.before.before.before.before.args in
     let provisional = c.before.before.before.provisional in
     let same = c.before.same in
-    later-missed a.provisional a.usages a.answer same.result provisional.given.0.0 provisional.given.1
+    later_missed a.provisional a.usages a.answer same.result provisional.given.0.0 provisional.given.1
     same.ensures c.if1.false
 
 returns-4 : tie.Need-returns-4
 returns-4 c =
     let a = c.before.before.before.before.before.args in
     let enum_told = c.before.before.before.enum_told in
-    let initial-kind = c.before.before.initial-kind in
-    let is-single = c.before.is-single in
-    first-missed a.provisional a.usages a.answer is-single.result initial-kind.result enum_told.given.1
-    initial-kind.ensures is-single.ensures c.if2.false
+    let initial_kind_lem = c.before.before.initial_kind_lem in
+    let is_single_lem = c.before.is_single_lem in
+    first_missed a.provisional a.usages a.answer is_single_lem.result initial_kind_lem.result enum_told.given.1
+    initial_kind_lem.ensures is_single_lem.ensures c.if2.false
 
 pub reached-fixpoint-spec : {M : Type 1} → statement M
 reached-fixpoint-spec =

@@ -1,4 +1,4 @@
-use Rattle.task.proofs.Endings.{without-usages, without-ambiguous, without-rerun}
+use Rattle.task.proofs.Endings.{without_usages, without_ambiguous, without_rerun}
 use borrow.Author.Rules.{rules}
 use Rattle.task.proofs.ending.without_fixpoint.Statement.{statement}
 use Rattle.task.proofs.ending.without_fixpoint.Tie as tie
@@ -10,7 +10,7 @@ returns : tie.Need-returns
 returns c =
     let a = c.before.before.args in
     let is-empty = c.before.is-empty in
-    without-usages a.left a.usages a.answer is-empty.result is-empty.ensures c.if1.true
+    without_usages a.left a.usages a.answer is-empty.result is-empty.ensures c.if1.true
 
 is-ambiguous-requires : tie.Need-is-ambiguous-requires
 is-ambiguous-requires c κs = search rules
@@ -20,7 +20,7 @@ returns-2 c =
     let a = c.before.before.before.before.args in
     let is-empty = c.before.before.before.is-empty in
     let is-ambiguous = c.before.is-ambiguous in
-    without-ambiguous a.left a.usages a.answer is-empty.result is-empty.ensures
+    without_ambiguous a.left a.usages a.answer is-empty.result is-empty.ensures
     c.before.before.if1.false is-ambiguous.result
     is-ambiguous.ensures c.if2.true
 
@@ -33,7 +33,7 @@ returns-3 c =
     let is-empty = c.before.before.before.before.is-empty in
     let is-ambiguous = c.before.before.is-ambiguous in
     let run-again = c.run-again in
-    without-rerun a.left a.usages a.answer is-empty.result is-empty.ensures
+    without_rerun a.left a.usages a.answer is-empty.result is-empty.ensures
     c.before.before.before.if1.false
     is-ambiguous.result is-ambiguous.ensures c.before.if2.false run-again.result run-again.ensures
 

@@ -1,9 +1,9 @@
 use mathlib.Core.Path.{◌∙◌, ap}
 use native.Mathlib.Omega.{arith}
 use lib.ListN.{length}
-use Rattle.stack.proofs.Graph.{frame-bytes}
-use Rattle.task.proofs.Nested.{nested-length, required-is}
-use Rattle.task.proofs.Insertions.{global-past, global-kept, global-conflict}
+use Rattle.stack.proofs.Graph.{frame_bytes_lem}
+use Rattle.task.proofs.Nested.{nested_length, required_is}
+use Rattle.task.proofs.Insertions.{global_past, global_kept, global_conflict}
 use borrow.Author.Rules.{rules}
 use Rattle.task.proofs.insert.in_global_cache.Statement.{statement}
 use Rattle.task.proofs.insert.in_global_cache.Tie as tie
@@ -15,7 +15,7 @@ required-depth-requires : tie.Need-required-depth-requires
 required-depth-requires c κs =
     let s = c.before.before.before in
     let frame_at = c.frame_at in
-    frame-bytes s.args.h.goals s.args.graph.now frame_at.result.now s.args.height s.requires.0.room.stack.bytes
+    frame_bytes_lem s.args.h.goals s.args.graph.now frame_at.result.now s.args.height s.requires.0.room.stack.bytes
     s.requires.0.room.under frame_at.ensures
 
 returns : tie.Need-returns
@@ -26,9 +26,9 @@ returns c =
     let frame_at = c.before.before.frame_at in
     record {
       is =
-          λ root. global-past a.h root a.height a.entries a.goal a.overflow a.answer a.passes a.graph.now a.cache.now
+          λ root. global_past a.h root a.height a.entries a.goal a.overflow a.answer a.passes a.graph.now a.cache.now
           d.result
-          (required-is a.h.goals a.height a.graph.now frame_at.result.now d.result frame_at.ensures d.ensures.0)
+          (required_is a.h.goals a.height a.graph.now frame_at.result.now d.result frame_at.ensures d.ensures.0)
           c.if1.true;
       few = tt;
     }
@@ -39,12 +39,12 @@ nested-at-requires c κs = search rules
 insert-requires : tie.Need-insert-requires
 insert-requires c κs =
     let s = c.before.before.before.before.before.before.before in (
-      s.requires.0.cache-bytes,
+      s.requires.0.cache_bytes,
       s.requires.0.room.known,
       omega arith,
       s.requires.1,
-      ap length c.before.nested-at.ensures
-          ∙ nested-length s.args.h.goals s.args.graph.now s.args.height s.requires.0.room.stack.bytes s.requires.0.room.under,
+      ap length c.before.nested_at_lem.ensures
+          ∙ nested_length s.args.h.goals s.args.graph.now s.args.height s.requires.0.room.stack.bytes s.requires.0.room.under,
     )
 
 enum_told : tie.Need-enum-told
@@ -65,13 +65,13 @@ returns-2 c =
     let y = c4.insert in
     let frame_at = c9.frame_at in
     let if1 = c7.if1 in
-    let nested-at = c6.nested-at in
+    let nested_at_lem = c6.nested_at_lem in
     record {
       is =
-          λ root. global-kept a.h root a.height a.entries a.goal a.overflow a.answer a.passes a.graph.now a.cache.now
+          λ root. global_kept a.h root a.height a.entries a.goal a.overflow a.answer a.passes a.graph.now a.cache.now
           d.result
-          (required-is a.h.goals a.height a.graph.now frame_at.result.now d.result frame_at.ensures d.ensures.0)
-          if1.false nested-at.result.now nested-at.ensures y.result y.new.0 y.ensures.0 c.enum_told.given.1;
+          (required_is a.h.goals a.height a.graph.now frame_at.result.now d.result frame_at.ensures d.ensures.0)
+          if1.false nested_at_lem.result.now nested_at_lem.ensures y.result y.new.0 y.ensures.0 c.enum_told.given.1;
       few = s.requires.0.room.few;
     }
 
@@ -87,13 +87,13 @@ returns-3 c =
     let y = c4.insert in
     let frame_at = c9.frame_at in
     let if1 = c7.if1 in
-    let nested-at = c6.nested-at in
+    let nested_at_lem = c6.nested_at_lem in
     record {
       is =
-          λ root. global-conflict a.h root a.height a.entries a.goal a.overflow a.answer a.passes a.graph.now a.cache.now
+          λ root. global_conflict a.h root a.height a.entries a.goal a.overflow a.answer a.passes a.graph.now a.cache.now
           d.result
-          (required-is a.h.goals a.height a.graph.now frame_at.result.now d.result frame_at.ensures d.ensures.0)
-          if1.false nested-at.result.now nested-at.ensures y.result y.new.0 y.ensures.0 c.enum-told2.given.1;
+          (required_is a.h.goals a.height a.graph.now frame_at.result.now d.result frame_at.ensures d.ensures.0)
+          if1.false nested_at_lem.result.now nested_at_lem.ensures y.result y.new.0 y.ensures.0 c.enum-told2.given.1;
       few = tt;
     }
 

@@ -1,4 +1,4 @@
-use Rattle.task.proofs.Insertions.{provisional-kept, provisional-full, provisional-few}
+use Rattle.task.proofs.Insertions.{provisional_kept, provisional_full, provisional_few}
 use borrow.Author.Rules.{rules}
 use Rattle.task.proofs.insert.in_provisional_cache.Statement.{statement}
 use Rattle.task.proofs.insert.in_provisional_cache.Tie as tie
@@ -26,10 +26,10 @@ returns c =
     let enum_told = c.enum_told in
     record {
       is =
-          λ root cache passes. provisional-kept a.h root a.height a.entries a.goal a.overflow a.answer passes a.graph.now cache
+          λ root cache passes. provisional_kept a.h root a.height a.entries a.goal a.overflow a.answer passes a.graph.now cache
           a.step y.new.0 y.result y.ensures s.requires.under enum_told.given.1;
       few =
-          provisional-few a.h.goals a.height a.entries a.goal a.step a.overflow a.answer a.graph.now
+          provisional_few a.h.goals a.height a.entries a.goal a.step a.overflow a.answer a.graph.now
           y.new.0 y.result y.ensures enum_told.given.1;
     }
 
@@ -43,7 +43,7 @@ returns-2 c =
     let y = c.before.before.before.before.insert in
     record {
       is =
-          λ root cache passes. provisional-full a.h root a.height a.entries a.goal a.overflow a.answer passes a.graph.now cache
+          λ root cache passes. provisional_full a.h root a.height a.entries a.goal a.overflow a.answer passes a.graph.now cache
           a.step y.new.0 y.result y.ensures c.enum-told2.given.1;
       few = tt;
     }

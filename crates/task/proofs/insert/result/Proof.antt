@@ -1,5 +1,5 @@
-use Rattle.evaluation.specs.Outcomes.{outcomeOf}
-use Rattle.task.proofs.Insertions.{result-global, result-provisional, result-alone}
+use Rattle.evaluation.specs.Outcomes.{outcome_of}
+use Rattle.task.proofs.Insertions.{result_global, result_provisional, result_alone}
 use borrow.Author.Rules.{rules}
 use Rattle.task.proofs.insert.result.Statement.{statement}
 use Rattle.task.proofs.insert.result.Tie as tie
@@ -26,9 +26,9 @@ returns c =
     let if1 = c5.if1 in
     record {
       is =
-          λ root. result-global a.h root a.height a.entries a.goal a.overflow a.answer a.passes a.graph.now a.cache.now
+          λ root. result_global a.h root a.height a.entries a.goal a.overflow a.answer a.passes a.graph.now a.cache.now
           a.step is-headless.result is-headless.ensures if1.true
-          (outcomeOf a.h.goals root a.height a.graph.now y.new.0 y.result) (y.ensures.is root);
+          (outcome_of a.h.goals root a.height a.graph.now y.new.0 y.result) (y.ensures.is root);
       few = y.ensures.few;
     }
 
@@ -49,9 +49,9 @@ returns-2 c =
     let if2 = c4.if2 in
     record {
       is =
-          λ root. result-provisional a.h root a.height a.entries a.goal a.overflow a.answer a.passes a.graph.now
+          λ root. result_provisional a.h root a.height a.entries a.goal a.overflow a.answer a.passes a.graph.now
           a.cache.now a.step is-headless.result is-headless.ensures if1.false if2.true
-          (outcomeOf a.h.goals root a.height y.new.0 a.cache.now y.result) (y.ensures.is root a.cache.now a.passes);
+          (outcome_of a.h.goals root a.height y.new.0 a.cache.now y.result) (y.ensures.is root a.cache.now a.passes);
       few = y.ensures.few;
     }
 
@@ -65,7 +65,7 @@ returns-3 c =
     let is-headless = c.before.before.is-headless in
     record {
       is =
-          λ root. result-alone a.h root a.height a.entries a.goal a.overflow a.answer a.passes a.graph.now a.cache.now
+          λ root. result_alone a.h root a.height a.entries a.goal a.overflow a.answer a.passes a.graph.now a.cache.now
           a.step is-headless.result is-headless.ensures c.before.if1.false c.if2.false;
       few = s.requires.0.room.few;
     }

@@ -4,18 +4,18 @@ use Prim.Native.Nat.{ℕ}
 use lib.ListN.{length, set}
 use Rattle.definition.specs.declared.format.Line.{Line}
 use Rattle.buffer.proofs.Sized.{sized}
-use Rattle.tidy.specs.Write.{writeLine}
-use Rattle.tidy.specs.Engine.{putColumns}
+use Rattle.tidy.specs.Write.{write_line}
+use Rattle.tidy.specs.Engine.{put_columns}
 use borrow.Author.Rules.{rules}
 use Rattle.tidy.proofs.line.fill.Statement.{statement}
 use Rattle.tidy.proofs.line.fill.Tie as tie
 
 filled : (bs : List ℕ) → length bs ≡ 16 → (l : Line)
-    → set (putColumns (putColumns (putColumns (putColumns (putColumns bs 0 l.code) 3 l.first) 6 l.second) 9 l.third) 12 l.fourth) 15 10
-    ≡ writeLine l
+    → set (put_columns (put_columns (put_columns (put_columns (put_columns bs 0 l.code) 3 l.first) 6 l.second) 9 l.third) 12 l.fourth) 15 10
+    ≡ write_line l
 filled bs h l =
     sized 16
-    (λ bs. set (putColumns (putColumns (putColumns (putColumns (putColumns bs 0 l.code) 3 l.first) 6 l.second) 9 l.third) 12 l.fourth) 15 10 ≡ writeLine l)
+    (λ bs. set (put_columns (put_columns (put_columns (put_columns (put_columns bs 0 l.code) 3 l.first) 6 l.second) 9 l.third) 12 l.fourth) 15 10 ≡ write_line l)
     (λ b0 b1 b2 b3 b4 b5 b6 b7 b8 b9 b10 b11 b12 b13 b14 b15. refl) bs h
 
 put-requires : tie.Need-put-requires
@@ -39,7 +39,7 @@ slice-write-s c = search rules
 abbrev start : tie.After-slice-known6 → tie.Start
 start c = c.before.before.before.before.before.before.before.before.before.before.before.before.before.before.before.before.before.before.before.before.before
 
-all : (c : tie.After-slice-known6) → set c.before.before.put5.new.0 15 10 ≡ writeLine (start c).args.l
+all : (c : tie.After-slice-known6) → set c.before.before.put5.new.0 15 10 ≡ write_line (start c).args.l
 all c =
     let p5 = c.before.before in
     let p4 = p5.before.before.before.before in
@@ -50,10 +50,10 @@ all c =
     let l = a.args.l in
     ap (λ s. set s 15 10)
     (p5.put5.ensures
-    ∙ ap (λ s. putColumns s 12 l.fourth) (p4.put4.ensures
-    ∙ ap (λ s. putColumns s 9 l.third) (p3.put3.ensures
-    ∙ ap (λ s. putColumns s 6 l.second) (p2.put2.ensures
-    ∙ ap (λ s. putColumns s 3 l.first) p1.put.ensures))))
+    ∙ ap (λ s. put_columns s 12 l.fourth) (p4.put4.ensures
+    ∙ ap (λ s. put_columns s 9 l.third) (p3.put3.ensures
+    ∙ ap (λ s. put_columns s 6 l.second) (p2.put2.ensures
+    ∙ ap (λ s. put_columns s 3 l.first) p1.put.ensures))))
     ∙ filled a.args.s.now a.pre l
 
 same_length : tie.Need-same-length

@@ -4,8 +4,8 @@ use native.Mathlib.Omega.{arith}
 use lib.ListN.{length}
 use Rattle.tidy.proofs.Places.{Back, lent_length}
 use Rattle.book.proofs.Tests.{held, refused}
-use Rattle.tidy.proofs.Reading.{starts-line, starts-nest}
-use Rattle.tidy.proofs.Turns.{PartWritten, Turn, TurnTaken, Turned, first-turn, last-length, last_turn, line-length, only-line, part-starts, part-written, turn-taken, turned}
+use Rattle.tidy.proofs.Reading.{starts_line, starts_nest}
+use Rattle.tidy.proofs.Turns.{PartWritten, Turn, TurnTaken, Turned, first_turn, last_length, last_turn, line_length, only_line, part_starts, part_written, turn_taken, turned}
 use Prim.Native.Nat.{ℕ, ◌+◌, ◌-◌, ◌<◌, ◌≤◌}
 use borrow.Fn.Kinds.{In}
 use borrow.Fn.PlainCycle.{Measures, is, falls, and}
@@ -16,7 +16,7 @@ use Rattle.book.proofs.line.first.Reads as first_reads
 use Rattle.tidy.proofs.line.write.Reads as write-reads
 use Rattle.tidy.proofs.part.head.Reads as head-reads
 use Rattle.tidy.proofs.part.is_node.Reads as is-node-reads
-use Rattle.tidy.proofs.part.join.Reads as join-reads
+use Rattle.tidy.proofs.part.join.Reads as join_reads
 use Rattle.tidy.proofs.part.+write.{statement}
 use Rattle.tidy.proofs.part.+write.Tie.{close}
 
@@ -37,7 +37,7 @@ abbrev write-μ-loop : write-lts.decreases-loop
 write-μ-loop part out₀ nest code read₀ wrote₀ count₀ left₀ out read wrote count left = left
 
 abbrev write-claims : ℕ → write-lts.Claims
-write-claims t = (first_reads.Asked, first_reads.Learnt, is-node-reads.Asked, is-node-reads.Learnt, write-reads.Asked, write-reads.Learnt, write-below t, write.Post, join-reads.Asked, join-reads.Learnt, head-reads.Asked, head-reads.Learnt)
+write-claims t = (first_reads.Asked, first_reads.Learnt, is-node-reads.Asked, is-node-reads.Learnt, write-reads.Asked, write-reads.Learnt, write-below t, write.Post, join_reads.Asked, join_reads.Learnt, head-reads.Asked, head-reads.Learnt)
 
 -- ---- the places in the loop: a turn, its part written, and joined with those before it; and after the loop
 abbrev Turning : ℕ → Type 0
@@ -67,7 +67,7 @@ written_at t w =
     let x = w.before.before.before in
     let l = x.before.loop in
     let b = x.before.before.before.before.before.before.before in
-    part-written b.args.nest b.args.part.now _ l.out l.read l.wrote l.count l.left b.pre.1.0 (long-enough t x) l.inv.1
+    part_written b.args.nest b.args.part.now _ l.out l.read l.wrote l.count l.left b.pre.1.0 (long-enough t x) l.inv.1
     x.loop-test.taken b.pre.1.1.1 w.write2.last.1.0 w.write2.result w.write2.ensures
 
 taken_at : (t : ℕ) (j : Joint t)
@@ -80,7 +80,7 @@ taken_at t j =
     let x = w.before.before.before in
     let l = x.before.loop in
     let b = x.before.before.before.before.before.before.before in
-    turn-taken b.args.nest b.args.part.now _ l.out l.read l.wrote l.count l.left b.pre.1.0 (long-enough t x) l.inv.1
+    turn_taken b.args.nest b.args.part.now _ l.out l.read l.wrote l.count l.left b.pre.1.0 (long-enough t x) l.inv.1
     x.loop-test.taken b.pre.1.1.1 w.write2.last.1.0 w.write2.result w.write2.ensures
     (held x.before.before.before.is-node.ensures x.before.before.if1.left) j.join.last.0 j.join.result j.join.ensures
 
@@ -92,31 +92,31 @@ over-at t x =
     (omega (arith, l.inv.0, b.pre.1.1.0)) l.inv.1
 
 write-first-requires : (t : ℕ) → write-lts.Need-first-requires (write-claims t) (write-at t) write.Post write-Inv-loop write-μ-loop
-write-first-requires t c κs = let a = c.before.before in starts-line a.args.nest a.args.part.now a.requires.1.0
+write-first-requires t c κs = let a = c.before.before in starts_line a.args.nest a.args.part.now a.requires.1.0
 
 write-is-node-requires : (t : ℕ) → write-lts.Need-is-node-requires (write-claims t) (write-at t) write.Post write-Inv-loop write-μ-loop
 write-is-node-requires t c κs = search rules
 
 write-write-requires : (t : ℕ) → write-lts.Need-write-requires (write-claims t) (write-at t) write.Post write-Inv-loop write-μ-loop
-write-write-requires t c κs = let a = c.before.before.before.before.before.before in omega (arith, starts-line a.args.nest a.args.part.now a.requires.1.0, a.requires.1.1.0)
+write-write-requires t c κs = let a = c.before.before.before.before.before.before in omega (arith, starts_line a.args.nest a.args.part.now a.requires.1.0, a.requires.1.1.0)
 
 write-same-length : (t : ℕ) → write-lts.Need-same-length (write-claims t) (write-at t) write.Post write-Inv-loop write-μ-loop
 write-same-length t c =
     let a = c.before.before.before.before.before.before.before.before.before in
     ap length c.before.before.write.ensures
-    ∙ line-length c.before.before.before.before.before.before.first.result a.args.out.now (omega (arith, starts-line a.args.nest a.args.part.now a.requires.1.0, a.requires.1.1.0))
+    ∙ line_length c.before.before.before.before.before.before.first.result a.args.out.now (omega (arith, starts_line a.args.nest a.args.part.now a.requires.1.0, a.requires.1.1.0))
 
 write-returns : (t : ℕ) → write-lts.Need-returns (write-claims t) (write-at t) write.Post write-Inv-loop write-μ-loop
 write-returns t c =
     let a = c.before.before.before.before.before.before.before.before.before in
     let f = c.before.before.before.before.before.before in
-    only-line a.args.nest a.args.part.now f.first.result f.first.ensures (refused c.before.before.before.before.before.is-node.ensures c.before.before.before.before.if1.true)
-    a.args.out.now c.before.before.write.new.0 (omega (arith, starts-line a.args.nest a.args.part.now a.requires.1.0, a.requires.1.1.0)) c.before.before.write.ensures
+    only_line a.args.nest a.args.part.now f.first.result f.first.ensures (refused c.before.before.before.before.before.is-node.ensures c.before.before.before.before.if1.true)
+    a.args.out.now c.before.before.write.new.0 (omega (arith, starts_line a.args.nest a.args.part.now a.requires.1.0, a.requires.1.1.0)) c.before.before.write.ensures
 
 write-loop-holds : (t : ℕ) → write-lts.Need-loop-init (write-claims t) (write-at t) write.Post write-Inv-loop write-μ-loop
 write-loop-holds t c =
     let a = c.before.before.before.before.before.args in
-    (refl, first-turn a.nest a.part.now c.before.before.first.result c.before.before.first.ensures (held c.before.is-node.ensures c.if1.false) a.out.now)
+    (refl, first_turn a.nest a.part.now c.before.before.first.result c.before.before.first.ensures (held c.before.is-node.ensures c.if1.false) a.out.now)
 
 write-sub-write : (t : ℕ) → write-lts.Need-overflow-sub-write (write-claims t) (write-at t) write.Post write-Inv-loop write-μ-loop
 write-sub-write t c = (turn_at t c).within
@@ -137,7 +137,7 @@ write-part-write-end-2 : (t : ℕ) → write-lts.Need-slice-bounds-write-end-2 (
 write-part-write-end-2 t c = search rules
 
 write-sub-write-3 : (t : ℕ) → write-lts.Need-overflow-sub-write-3 (write-claims t) (write-at t) write.Post write-Inv-loop write-μ-loop
-write-sub-write-3 t c = let b = c.before.before.before.before.before.before.before.before.before in starts-nest b.args.nest b.args.part.now b.requires.1.0
+write-sub-write-3 t c = let b = c.before.before.before.before.before.before.before.before.before in starts_nest b.args.nest b.args.part.now b.requires.1.0
 
 write-write-requires-2 : (t : ℕ) → write-lts.Need-write-requires-2 (write-claims t) (write-at t) write.Post write-Inv-loop write-μ-loop
 write-write-requires-2 t c κs =
@@ -146,9 +146,9 @@ write-write-requires-2 t c κs =
     let b = x.before.before.before.before.before.before.before in
     let h = turn_at t x in
     let part-long = lent_length b.args.part.now l.read h.within in (
-      omega (arith, b.requires.0, starts-nest b.args.nest b.args.part.now b.requires.1.0),
+      omega (arith, b.requires.0, starts_nest b.args.nest b.args.part.now b.requires.1.0),
       (
-        part-starts b.args.nest b.args.part.now _ l.out l.read l.wrote l.count l.left b.requires.1.0 (long-enough t x) l.invariant.1 x.loop-test.true,
+        part_starts b.args.nest b.args.part.now _ l.out l.read l.wrote l.count l.left b.requires.1.0 (long-enough t x) l.invariant.1 x.loop-test.true,
         (
           omega (arith, part-long, lent_length l.out l.wrote h.fits, long-enough t x, h.less),
           omega (arith, part-long, b.requires.1.1.1),
@@ -175,7 +175,7 @@ write-add-wrote : (t : ℕ) → write-lts.Need-overflow-add-wrote (write-claims 
 write-add-wrote t c = omega (arith, (taken_at t c.before.before.before.before).few_bytes)
 
 write-add-count : (t : ℕ) → write-lts.Need-overflow-add-count (write-claims t) (write-at t) write.Post write-Inv-loop write-μ-loop
-write-add-count t c = omega (arith, (taken_at t c.before.before.before.before.before).few-parts)
+write-add-count t c = omega (arith, (taken_at t c.before.before.before.before.before).few_parts)
 
 write-sub-left : (t : ℕ) → write-lts.Need-overflow-sub-left (write-claims t) (write-at t) write.Post write-Inv-loop write-μ-loop
 write-sub-left t c = search rules
@@ -195,7 +195,7 @@ write-same-length-2 t c =
     let l = x.before.loop in
     let b = x.before.before.before.before.before.before.before in
     let h = c.before.before.head in
-    last-length b.args.nest b.args.part.now _ l.out l.read l.wrote l.count l.left b.requires.1.0 (omega (arith, l.invariant.0, b.requires.1.1.0)) l.invariant.1 x.loop-test.false (held x.before.before.before.is-node.ensures x.before.before.if1.false) h.new.0 h.ensures.1 ∙ l.invariant.0
+    last_length b.args.nest b.args.part.now _ l.out l.read l.wrote l.count l.left b.requires.1.0 (omega (arith, l.invariant.0, b.requires.1.1.0)) l.invariant.1 x.loop-test.false (held x.before.before.before.is-node.ensures x.before.before.if1.false) h.new.0 h.ensures.1 ∙ l.invariant.0
 
 write-returns-2 : (t : ℕ) → write-lts.Need-returns-2 (write-claims t) (write-at t) write.Post write-Inv-loop write-μ-loop
 write-returns-2 t c =

@@ -1,4 +1,4 @@
-use Rattle.tidy.proofs.Joins.{line-stands, only_part}
+use Rattle.tidy.proofs.Joins.{line_stands, only_part}
 use borrow.Author.Rules.{rules}
 use Rattle.tidy.proofs.part.head.Statement.{statement}
 use Rattle.tidy.proofs.part.head.Tie as tie
@@ -19,7 +19,7 @@ returns : tie.Need-returns
 returns c =
     let o = c.before.before.before.before.before in
     let a = o.before.before.args in
-    only_part a.code a.count a.n a.out.now _ o.is-only.result o.is-only.ensures c.before.before.before.before.if1.true c.before.before.drop-line.ensures
+    only_part a.code a.count a.n a.out.now _ o.is_only_lem.result o.is_only_lem.ensures c.before.before.before.before.if1.true c.before.before.drop-line.ensures
 
 write-with-requires : tie.Need-write-with-requires
 write-with-requires c κs = search rules
@@ -31,7 +31,7 @@ returns-2 : tie.Need-returns-2
 returns-2 c =
     let o = c.before.before.before.before.before in
     let a = o.before.before.args in
-    line-stands a.code a.count a.n a.out.now _ o.is-only.result o.is-only.ensures c.before.before.before.before.if1.false c.before.before.write-with.ensures
+    line_stands a.code a.count a.n a.out.now _ o.is_only_lem.result o.is_only_lem.ensures c.before.before.before.before.if1.false c.before.before.write-with.ensures
 
 pub head_spec : {M : Type 1} → statement M
 head_spec =

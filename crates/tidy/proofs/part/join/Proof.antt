@@ -1,6 +1,6 @@
 use borrow.Author.Rules.{rules}
 use Rattle.book.proofs.Tests.{held, refused}
-use Rattle.tidy.proofs.Joins.{no-group, other-code, same_code}
+use Rattle.tidy.proofs.Joins.{no_group, other_code, same_code}
 use Rattle.tidy.proofs.part.join.Statement.{statement}
 use Rattle.tidy.proofs.part.join.Tie as tie
 
@@ -10,7 +10,7 @@ is-group-requires c κs = search rules
 returns : tie.Need-returns
 returns c =
     let a = c.before.before.before.args in
-    no-group a.code a.n a.out.now (refused c.before.is-group.ensures c.if1.true)
+    no_group a.code a.n a.out.now (refused c.before.is_group_lem.ensures c.if1.true)
 
 field-at-requires : tie.Need-field-at-requires
 field-at-requires c κs = search rules
@@ -21,7 +21,7 @@ same_length c = search rules
 returns-2 : tie.Need-returns-2
 returns-2 c =
     let a = c.before.before.before.before.before.before.args in
-    other-code a.code a.n a.out.now c.before.field_at.result c.before.field_at.ensures c.if2.true
+    other_code a.code a.n a.out.now c.before.field_at.result c.before.field_at.ensures c.if2.true
 
 field-at-requires-2 : tie.Need-field-at-requires-2
 field-at-requires-2 c κs = search rules
@@ -40,7 +40,7 @@ returns-3 c =
     let f = c.before.before.before.before.before.before.before in
     let g = f.before.before.before in
     let a = g.before.before.args in
-    same_code a.code a.n a.out.now (held g.is-group.ensures c.before.before.before.before.before.before.before.before.before.if1.false)
+    same_code a.code a.n a.out.now (held g.is_group_lem.ensures c.before.before.before.before.before.before.before.before.before.if1.false)
     f.field_at.result f.field_at.ensures c.before.before.before.before.before.before.if2.false
     c.before.before.before.before.field-at2.result c.before.before.before.before.field-at2.ensures _ c.before.before.drop-line.ensures
 

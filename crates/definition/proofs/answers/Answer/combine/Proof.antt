@@ -1,7 +1,7 @@
 use mathlib.Core.Path.{◌≡◌, refl, ◌∙◌}
 use mathlib.Core.Bool.{true, false}
 use Rattle.definition.specs.declared.answers.Answer.TheVariants.{Undecided}
-use Rattle.definition.specs.Answers.{answerNumber, combine, sameAnswer}
+use Rattle.definition.specs.Answers.{answer_number, combine, same_answer}
 use Rattle.definition.proofs.Combined.{by, by_tests}
 use Rattle.definition.proofs.Numbers.{later_second, later_first}
 use borrow.Author.Rules.{rules}
@@ -15,7 +15,7 @@ returns : tie.Need-returns
 returns c =
     let a = c.before.before.args in
     let s = c.before.same in
-    by_tests a.self a.other s.result _ true (sameAnswer a.other Undecided) s.ensures refl c.if1.true refl
+    by_tests a.self a.other s.result _ true (same_answer a.other Undecided) s.ensures refl c.if1.true refl
 
 same-requires-2 : tie.Need-same-requires-2
 same-requires-2 c κs = search rules
@@ -51,7 +51,7 @@ returns-3 c =
     let a = e.before.before.before.before.args in
     let m = c.before.before.number in
     let n = c.before.number2 in
-    later_second answerNumber a.self a.other m.result n.result m.ensures n.ensures c.if3.true
+    later_second answer_number a.self a.other m.result n.result m.ensures n.ensures c.if3.true
     ∙ numbered e
 
 returns-4 : tie.Need-returns-4
@@ -60,7 +60,7 @@ returns-4 c =
     let a = e.before.before.before.before.args in
     let m = c.before.before.number in
     let n = c.before.number2 in
-    later_first answerNumber a.self a.other m.result n.result m.ensures n.ensures c.if3.false
+    later_first answer_number a.self a.other m.result n.result m.ensures n.ensures c.if3.false
     ∙ numbered e
 
 pub combine-spec : {M : Type 1} → statement M

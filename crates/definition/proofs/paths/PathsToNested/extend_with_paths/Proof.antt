@@ -1,4 +1,4 @@
-use Rattle.definition.proofs.Extensions.{of-sets, of-no-kind, of-beyond}
+use Rattle.definition.proofs.Extensions.{of_sets, of_no_kind, of_beyond}
 use borrow.Author.Rules.{rules}
 use Rattle.definition.proofs.paths.PathsToNested.extend_with_paths.Statement.{statement}
 use Rattle.definition.proofs.paths.PathsToNested.extend_with_paths.Tie as tie
@@ -22,19 +22,19 @@ returns : tie.Need-returns
 returns c =
     let s = c.before.before.before.before.before in
     let a = s.args in
-    of-sets a.table.now s.requires a.self.bits a.rest.bits (search rules) (search rules) c.if1.true
+    of_sets a.table.now s.requires a.self.bits a.rest.bits (search rules) (search rules) c.if1.true
 
 returns-2 : tie.Need-returns-2
 returns-2 c =
     let s = c.before.before.before.before.before.before in
     let a = s.args in
-    of-no-kind a.table.now s.requires a.self.bits a.rest.bits (search rules) (search rules) c.if2.true
+    of_no_kind a.table.now s.requires a.self.bits a.rest.bits (search rules) (search rules) c.if2.true
 
 returns-3 : tie.Need-returns-3
 returns-3 c =
     let s = c.before.before.before.before.before.before.before in
     let a = s.args in
-    of-beyond a.table.now s.requires a.self.bits a.rest.bits (search rules) (search rules)
+    of_beyond a.table.now s.requires a.self.bits a.rest.bits (search rules) (search rules)
     c.before.if2.false
 
 pub extend-with-paths-spec : {M : Type 1} → statement M

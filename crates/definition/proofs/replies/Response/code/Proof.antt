@@ -1,14 +1,14 @@
 use Prim.Native.Nat.{◌<◌}
 use native.Mathlib.Omega.{arith}
 use lib.Dec.{lit<}
-use Rattle.definition.specs.Answers.{refusalNumber}
+use Rattle.definition.specs.Answers.{refusal_number}
 use Rattle.definition.specs.declared.replies.Refusal.{Refusal}
 use Rattle.definition.specs.declared.replies.Refusal.TheVariants.{BookLength, BookLine, BookHeader, BookBody, UnknownGoal, DepthAboveTop, CacheLength, CacheForm, WorkLength, ProvisionalCacheFull, CacheConflict, Unreachable}
 use borrow.Author.Rules.{rules}
 use Rattle.definition.proofs.replies.Response.code.Statement.{statement}
 use Rattle.definition.proofs.replies.Response.code.Tie as tie
 
-small : (r : Refusal) → refusalNumber r < 256
+small : (r : Refusal) → refusal_number r < 256
 small BookLength = lit< tt
 small BookLine = lit< tt
 small BookHeader = lit< tt

@@ -21,7 +21,7 @@ same_length : tie.Need-same-length
 same_length c = search rules
 
 returns : tie.Need-returns
-returns c = let s = c.before.before.before.before.before.before.before.before.before.before.before.before.before.before in frames.cycle-added s.args.step false s.args.reached (frame_of s.args.goals s.args.frame.now) (frame_of s.args.goals c.before.before.before.before.before.before.before.before.before.before.before.reach.new.0) c.before.before.before.before.before.before.before.before.before.before.before.reach.ensures s.args.goal c.before.before.before.before.before.before.before.before.from-kind.result.bits (frame_of s.args.goals c.before.before.before.before.before.before.insert-nested.new.0) (frame_of s.args.goals c.before.before.insert-itself.new.0) c.before.before.before.before.before.before.before.before.from-kind.ensures c.before.before.before.before.before.before.insert-nested.ensures c.before.before.insert-itself.ensures
+returns c = let s = c.before.before.before.before.before.before.before.before.before.before.before.before.before.before in frames.cycle_added s.args.step false s.args.reached (frame_of s.args.goals s.args.frame.now) (frame_of s.args.goals c.before.before.before.before.before.before.before.before.before.before.before.reach.new.0) c.before.before.before.before.before.before.before.before.before.before.before.reach.ensures s.args.goal c.before.before.before.before.before.before.before.before.from-kind.result.bits (frame_of s.args.goals c.before.before.before.before.before.before.insert-nested.new.0) (frame_of s.args.goals c.before.before.insert-itself.new.0) c.before.before.before.before.before.before.before.before.from-kind.ensures c.before.before.before.before.before.before.insert-nested.ensures c.before.before.insert-itself.ensures
 
 pub add-cycle-spec : {M : Type 1} → statement M
 add-cycle-spec =

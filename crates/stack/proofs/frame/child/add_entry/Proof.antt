@@ -14,7 +14,7 @@ same_length : tie.Need-same-length
 same_length c = search rules
 
 returns : tie.Need-returns
-returns c = let s = c.before.before.before.before.before.before.before.before.before in frames.entry-added s.args.step s.args.overflow s.args.reached (frame_of s.args.goals s.args.frame.now) (frame_of s.args.goals c.before.before.before.before.before.before.reach.new.0) c.before.before.before.before.before.before.reach.ensures (frame_of s.args.goals c.before.before.insert-itself.new.0) c.before.before.insert-itself.ensures
+returns c = let s = c.before.before.before.before.before.before.before.before.before in frames.entry_added s.args.step s.args.overflow s.args.reached (frame_of s.args.goals s.args.frame.now) (frame_of s.args.goals c.before.before.before.before.before.before.reach.new.0) c.before.before.before.before.before.before.reach.ensures (frame_of s.args.goals c.before.before.insert-itself.new.0) c.before.before.insert-itself.ensures
 
 pub add-entry-spec : {M : Type 1} → statement M
 add-entry-spec = tie.close (tie.spec reach-requires insert-itself-requires same_length returns)

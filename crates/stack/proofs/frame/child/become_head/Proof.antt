@@ -10,7 +10,7 @@ same_length : tie.Need-same-length
 same_length c = search rules
 
 returns : tie.Need-returns
-returns c = let s = c.before.before.before.before in frames.head-already s.args.goals s.args.frame.now c.before.is-head.result c.before.is-head.ensures c.if1.true
+returns c = let s = c.before.before.before.before in frames.head_already s.args.goals s.args.frame.now c.before.is_head.result c.before.is_head.ensures c.if1.true
 
 sub-write-usages : tie.Need-overflow-sub-write-usages
 sub-write-usages c = search rules
@@ -34,7 +34,7 @@ same-length-2 : tie.Need-same-length-2
 same-length-2 c = search rules
 
 returns-2 : tie.Need-returns-2
-returns-2 c = let s = c.before.before.before.before.before.before.before.before.before in let y = c.before.before.write-usages in frames.head-new s.args.goals s.args.frame.now y.new.0 c.before.before.before.before.before.before.is-head.result c.before.before.before.none.result s.requires.long c.before.before.before.before.before.before.is-head.ensures c.before.before.before.before.before.if1.false c.before.before.before.none.ensures y.auto.0 y.ensures
+returns-2 c = let s = c.before.before.before.before.before.before.before.before.before in let y = c.before.before.write-usages in frames.head_new s.args.goals s.args.frame.now y.new.0 c.before.before.before.before.before.before.is_head.result c.before.before.before.none.result s.requires.long c.before.before.before.before.before.before.is_head.ensures c.before.before.before.before.before.if1.false c.before.before.before.none.ensures y.auto.0 y.ensures
 
 pub become-head-spec : {M : Type 1} → statement M
 become-head-spec =

@@ -1,6 +1,6 @@
 use mathlib.Core.Path.{sym, ◌∙◌}
-use Rattle.definition.specs.Usages.{oneUsage}
-use Rattle.layout.specs.Blocks.{usagesOf}
+use Rattle.definition.specs.Usages.{one_usage}
+use Rattle.layout.specs.Blocks.{usages_of}
 use Rattle.layout.proofs.Counted.{one_more}
 use Rattle.stack.proofs.Parts.{part}
 use Rattle.stack.proofs.Child as frames
@@ -31,7 +31,7 @@ returns c =
     let s = c.before.before.before.before.before.before.before.before.before in
     let b = c.before.before.before.before.before.before.become-head in
     let y = c.before.before.count-usage in
-    frames.use-frame s.args.goals s.args.frame.now b.new.0 y.new.0 (oneUsage s.args.kind) (b.auto.0 ∙ s.requires.long) b.ensures y.auto.0 (y.ensures ∙ sym (one_more (usagesOf (part b.new.0 8 40)) s.args.kind))
+    frames.use_frame s.args.goals s.args.frame.now b.new.0 y.new.0 (one_usage s.args.kind) (b.auto.0 ∙ s.requires.long) b.ensures y.auto.0 (y.ensures ∙ sym (one_more (usages_of (part b.new.0 8 40)) s.args.kind))
 
 pub count-itself-spec : {M : Type 1} → statement M
 count-itself-spec =

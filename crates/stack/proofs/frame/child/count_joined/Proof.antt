@@ -1,5 +1,5 @@
 use mathlib.Core.Path.{◌∙◌}
-use Rattle.stack.specs.Child.{cycleHead}
+use Rattle.stack.specs.Child.{cycle_head}
 use Rattle.stack.proofs.Child as frames
 use borrow.Author.Rules.{rules}
 use Rattle.stack.proofs.frame.child.count_joined.Statement.{statement}
@@ -27,7 +27,7 @@ same_length : tie.Need-same-length
 same_length c = search rules
 
 returns : tie.Need-returns
-returns c = let s = c.before.before.before.before.before.before.before in let y = c.before.before.insert-used in frames.join-frame s.args.goals s.args.frame.now y.new.0 c.before.before.before.before.before.candidate-start.result s.args.i c.before.before.before.flag.result s.args.step (cycleHead s.args.step s.args.kind) s.requires.0.long c.before.before.before.before.before.candidate-start.ensures (c.before.before.before.flag.ensures ∙ frames.flag-extended s.args.step) y.auto.0 y.ensures
+returns c = let s = c.before.before.before.before.before.before.before in let y = c.before.before.insert-used in frames.join_frame s.args.goals s.args.frame.now y.new.0 c.before.before.before.before.before.candidate-start.result s.args.i c.before.before.before.flag.result s.args.step (cycle_head s.args.step s.args.kind) s.requires.0.long c.before.before.before.before.before.candidate-start.ensures (c.before.before.before.flag.ensures ∙ frames.flag_extended s.args.step) y.auto.0 y.ensures
 
 pub count-joined-spec : {M : Type 1} → statement M
 count-joined-spec =

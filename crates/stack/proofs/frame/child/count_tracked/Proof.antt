@@ -1,5 +1,5 @@
 use borrow.Author.Tests.{not-true}
-use Rattle.definition.specs.Usages.{oneUsage}
+use Rattle.definition.specs.Usages.{one_usage}
 use Rattle.layout.specs.Frame.{frame_of}
 use Rattle.stack.proofs.Child as frames
 use borrow.Author.Rules.{rules}
@@ -13,7 +13,7 @@ same_length : tie.Need-same-length
 same_length c = search rules
 
 returns : tie.Need-returns
-returns c = let s = c.before.before.before.before in frames.track-none (frame_of s.args.goals s.args.frame.now) s.args.i (oneUsage s.args.kind) c.before.tracks.result c.before.tracks.ensures (not-true c.before.tracks.result c.if1.true)
+returns c = let s = c.before.before.before.before in frames.track_none (frame_of s.args.goals s.args.frame.now) s.args.i (one_usage s.args.kind) c.before.tracks.result c.before.tracks.ensures (not-true c.before.tracks.result c.if1.true)
 
 candidate-start-requires : tie.Need-candidate-start-requires
 candidate-start-requires c κs = search rules
@@ -37,7 +37,7 @@ same-length-2 : tie.Need-same-length-2
 same-length-2 c = search rules
 
 returns-2 : tie.Need-returns-2
-returns-2 c = let s = c.before.before.before.before.before.before.before.before.before.before in let y = c.before.before.count in frames.track-frame s.args.goals s.args.frame.now y.new.0 c.before.before.before.before.before.candidate-start.result c.before.before.before.before.nested-start.result s.args.i (oneUsage s.args.kind) s.requires.0.long c.before.before.before.before.before.candidate-start.ensures c.before.before.before.before.nested-start.ensures y.auto.0 y.ensures
+returns-2 c = let s = c.before.before.before.before.before.before.before.before.before.before in let y = c.before.before.count in frames.track_frame s.args.goals s.args.frame.now y.new.0 c.before.before.before.before.before.candidate-start.result c.before.before.before.before.nested-start.result s.args.i (one_usage s.args.kind) s.requires.0.long c.before.before.before.before.before.candidate-start.ensures c.before.before.before.before.nested-start.ensures y.auto.0 y.ensures
 
 pub count-tracked-spec : {M : Type 1} → statement M
 count-tracked-spec =

@@ -1,6 +1,6 @@
 use Prim.Native.Nat.{ℕ}
 use mathlib.Core.List.{List}
-use Rattle.definition.specs.Nested.{extendFromChild}
+use Rattle.definition.specs.Nested.{extend_from_child}
 use Rattle.stack.proofs.Child as frames
 use borrow.Author.Rules.{rules}
 use Rattle.stack.proofs.frame.child.extend.Statement.{statement}
@@ -28,7 +28,7 @@ same_length : tie.Need-same-length
 same_length c = search rules
 
 returns : tie.Need-returns
-returns c = let s = c.before.before.before.before.before.before.before in let y = c.before.before.extend-from-child in frames.nested-frame (λ (l : List ℕ). extendFromChild l s.args.step s.args.child.now) s.args.goals s.args.frame.now y.new.0 c.before.before.before.before.nested-start.result s.requires.long c.before.before.before.before.nested-start.ensures y.auto.0 y.ensures
+returns c = let s = c.before.before.before.before.before.before.before in let y = c.before.before.extend-from-child in frames.nested_frame (λ (l : List ℕ). extend_from_child l s.args.step s.args.child.now) s.args.goals s.args.frame.now y.new.0 c.before.before.before.before.nested-start.result s.requires.long c.before.before.before.before.nested-start.ensures y.auto.0 y.ensures
 
 pub extend-spec : {M : Type 1} → statement M
 extend-spec =

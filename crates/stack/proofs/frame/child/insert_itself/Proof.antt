@@ -14,7 +14,7 @@ same_length : tie.Need-same-length
 same_length c = search rules
 
 returns : tie.Need-returns
-returns c = let s = c.before.before.before.before.before.before.before in let y = c.before.before.insert-nested in frames.itself-frame (frame_of s.args.goals s.args.frame.now) (frame_of s.args.goals y.new.0) c.before.before.before.before.input.result c.before.before.before.before.input.ensures.0 y.ensures
+returns c = let s = c.before.before.before.before.before.before.before in let y = c.before.before.insert-nested in frames.itself_frame (frame_of s.args.goals s.args.frame.now) (frame_of s.args.goals y.new.0) c.before.before.before.before.input.result c.before.before.before.before.input.ensures.0 y.ensures
 
 pub insert-itself-spec : {M : Type 1} → statement M
 insert-itself-spec = tie.close (tie.spec input-requires insert-nested-requires same_length returns)

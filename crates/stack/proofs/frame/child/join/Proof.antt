@@ -25,7 +25,7 @@ same_length : tie.Need-same-length
 same_length c = search rules
 
 returns : tie.Need-returns
-returns c = let s = c.before.before.before.before.before.before.before.before in let y = c.before.before.insert in frames.join-frame s.args.goals s.args.frame.now y.new.0 c.before.before.before.before.candidate-start.result s.args.i c.before.before.before.before.before.before.extend-with.result.bits s.args.step s.args.head s.requires.0.long c.before.before.before.before.candidate-start.ensures c.before.before.before.before.before.before.extend-with.ensures y.auto.0 y.ensures
+returns c = let s = c.before.before.before.before.before.before.before.before in let y = c.before.before.insert in frames.join_frame s.args.goals s.args.frame.now y.new.0 c.before.before.before.before.candidate-start.result s.args.i c.before.before.before.before.before.before.extend-with.result.bits s.args.step s.args.head s.requires.0.long c.before.before.before.before.candidate-start.ensures c.before.before.before.before.before.before.extend-with.ensures y.auto.0 y.ensures
 
 pub join-spec : {M : Type 1} → statement M
 join-spec =

@@ -27,7 +27,7 @@ same_length : tie.Need-same-length
 same_length c = search rules
 
 returns : tie.Need-returns
-returns c = let s = c.before.before.before.before.before in frames.reach-frame s.args.goals s.args.frame.now c.before.before.marked.result c.lesser.result s.args.overflow s.args.reached s.requires.long c.before.before.marked.ensures c.lesser.ensures
+returns c = let s = c.before.before.before.before.before in frames.reach_frame_lem s.args.goals s.args.frame.now c.before.before.marked.result c.lesser.result s.args.overflow s.args.reached s.requires.long c.before.before.marked.ensures c.lesser.ensures
 
 pub reach-spec : {M : Type 1} → statement M
 reach-spec =

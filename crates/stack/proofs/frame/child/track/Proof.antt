@@ -12,7 +12,7 @@ same_length : tie.Need-same-length
 same_length c = search rules
 
 returns : tie.Need-returns
-returns c = let s = c.before.before.before.before in frames.track-none (frame_of s.args.goals s.args.frame.now) s.args.i s.args.usages c.before.tracks.result c.before.tracks.ensures (not-true c.before.tracks.result c.if1.true)
+returns c = let s = c.before.before.before.before in frames.track_none (frame_of s.args.goals s.args.frame.now) s.args.i s.args.usages c.before.tracks.result c.before.tracks.ensures (not-true c.before.tracks.result c.if1.true)
 
 candidate-start-requires : tie.Need-candidate-start-requires
 candidate-start-requires c κs = search rules
@@ -36,7 +36,7 @@ same-length-2 : tie.Need-same-length-2
 same-length-2 c = search rules
 
 returns-2 : tie.Need-returns-2
-returns-2 c = let s = c.before.before.before.before.before.before.before.before.before.before in let y = c.before.before.add-from-nested in frames.track-frame s.args.goals s.args.frame.now y.new.0 c.before.before.before.before.before.candidate-start.result c.before.before.before.before.nested-start.result s.args.i s.args.usages s.requires.0.long c.before.before.before.before.before.candidate-start.ensures c.before.before.before.before.nested-start.ensures y.auto.0 y.ensures
+returns-2 c = let s = c.before.before.before.before.before.before.before.before.before.before in let y = c.before.before.add-from-nested in frames.track_frame s.args.goals s.args.frame.now y.new.0 c.before.before.before.before.before.candidate-start.result c.before.before.before.before.nested-start.result s.args.i s.args.usages s.requires.0.long c.before.before.before.before.before.candidate-start.ensures c.before.before.before.before.nested-start.ensures y.auto.0 y.ensures
 
 pub track-spec : {M : Type 1} → statement M
 track-spec =

@@ -27,7 +27,7 @@ returns c =
     let s = c.before.before.before.before.before.before.before.before.before in
     let b = c.before.before.before.before.before.before.become-head in
     let y = c.before.before.count-nested in
-    frames.use-frame s.args.goals s.args.frame.now b.new.0 y.new.0 s.args.usages (b.auto.0 ∙ s.requires.long) b.ensures y.auto.0 y.ensures
+    frames.use_frame s.args.goals s.args.frame.now b.new.0 y.new.0 s.args.usages (b.auto.0 ∙ s.requires.long) b.ensures y.auto.0 y.ensures
 
 pub use-itself-spec : {M : Type 1} → statement M
 use-itself-spec =

@@ -1,4 +1,4 @@
-use Rattle.stack.proofs.Records.{mark-stored}
+use Rattle.stack.proofs.Records.{mark_stored}
 use borrow.Author.Rules.{rules}
 use Rattle.stack.proofs.frame.fields.mark_bytes.Statement.{statement}
 use Rattle.stack.proofs.frame.fields.mark_bytes.Tie as tie
@@ -16,7 +16,7 @@ same_length : tie.Need-same-length
 same_length c = search rules
 
 returns : tie.Need-returns
-returns c = let s = c.before.before.before.before.before.before.before.before in let g = c.before.before.before.before in mark-stored s.args.b.now c.before.before.store.new.0 g.before.load.result g.marked.result s.requires g.before.load.ensures g.marked.ensures c.before.before.store.ensures
+returns c = let s = c.before.before.before.before.before.before.before.before in let g = c.before.before.before.before in mark_stored s.args.b.now c.before.before.store.new.0 g.before.load.result g.marked.result s.requires g.before.load.ensures g.marked.ensures c.before.before.store.ensures
 
 pub mark-bytes-spec : {M : Type 1} → statement M
 mark-bytes-spec =

@@ -19,7 +19,7 @@ part-result-end : tie.Need-slice-bounds-result-end
 part-result-end c = search rules
 
 returns : tie.Need-returns
-returns c = let a = c.before.before.before.before.args in blocks.candidate-part a.goals a.frame.now c.before.before.candidate-start.result c.before.nested-start.result c.before.before.candidate-start.ensures c.before.nested-start.ensures
+returns c = let a = c.before.before.before.before.args in blocks.candidate_part a.goals a.frame.now c.before.before.candidate-start.result c.before.nested-start.result c.before.before.candidate-start.ensures c.before.nested-start.ensures
 
 pub block_spec : {M : Type 1} → statement M
 block_spec =

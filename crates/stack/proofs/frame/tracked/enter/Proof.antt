@@ -28,7 +28,7 @@ same_length : tie.Need-same-length
 same_length c = search rules
 
 returns : tie.Need-returns
-returns c = let s = c.before.before.before.before.before.before.before in fields.enter-frame s.args.goals s.args.frame.now c.before.before.clear.new.0 c.before.before.before.before.before.candidate-start.result c.before.before.before.before.nested-start.result s.requires.long c.before.before.before.before.before.candidate-start.ensures c.before.before.before.before.nested-start.ensures c.before.before.clear.auto.0 c.before.before.clear.ensures
+returns c = let s = c.before.before.before.before.before.before.before in fields.enter_frame s.args.goals s.args.frame.now c.before.before.clear.new.0 c.before.before.before.before.before.candidate-start.result c.before.before.before.before.nested-start.result s.requires.long c.before.before.before.before.before.candidate-start.ensures c.before.before.before.before.nested-start.ensures c.before.before.clear.auto.0 c.before.before.clear.ensures
 
 pub enter_spec : {M : Type 1} → statement M
 enter_spec =

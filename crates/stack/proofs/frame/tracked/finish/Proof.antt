@@ -10,7 +10,7 @@ same_length : tie.Need-same-length
 same_length c = search rules
 
 returns : tie.Need-returns
-returns c = let s = c in fields.finish-frame s.args.goals s.args.frame.now s.requires.long
+returns c = let s = c in fields.finish_frame s.args.goals s.args.frame.now s.requires.long
 
 pub finish_spec : {M : Type 1} → statement M
 finish_spec = tie.close (tie.spec slice-write-frame same_length returns)

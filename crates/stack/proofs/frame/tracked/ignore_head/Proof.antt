@@ -22,7 +22,7 @@ same_length : tie.Need-same-length
 same_length c = search rules
 
 returns : tie.Need-returns
-returns c = let s = c.before.before.before.before.before.before in fields.ignore-head-frame s.args.goals s.args.frame.now c.before.before.ignore.new.0 c.before.before.before.before.candidate-start.result s.args.i s.args.u s.requires.0.long c.before.before.before.before.candidate-start.ensures c.before.before.ignore.auto.0 c.before.before.ignore.ensures
+returns c = let s = c.before.before.before.before.before.before in fields.ignore_head_frame s.args.goals s.args.frame.now c.before.before.ignore.new.0 c.before.before.before.before.candidate-start.result s.args.i s.args.u s.requires.0.long c.before.before.before.before.candidate-start.ensures c.before.before.ignore.auto.0 c.before.before.ignore.ensures
 
 pub ignore-head-spec : {M : Type 1} → statement M
 ignore-head-spec =

@@ -12,7 +12,7 @@ same_length : tie.Need-same-length
 same_length c = search rules
 
 returns : tie.Need-returns
-returns c = let a = c.before.before.before.before.args in fields.ignore-own-none (frame_of a.goals a.frame.now) a.u c.before.is-head.result c.before.is-head.ensures (not-true c.before.is-head.result c.if1.true)
+returns c = let a = c.before.before.before.before.args in fields.ignore_own_none (frame_of a.goals a.frame.now) a.u c.before.is_head.result c.before.is_head.ensures (not-true c.before.is_head.result c.if1.true)
 
 own-usages-requires : tie.Need-own-usages-requires
 own-usages-requires c κs = search rules
@@ -36,7 +36,7 @@ same-length-2 : tie.Need-same-length-2
 same-length-2 c = search rules
 
 returns-2 : tie.Need-returns-2
-returns-2 c = let s = c.before.before.before.before.before.before.before.before.before.before.before in fields.ignore-own-frame s.args.goals s.args.frame.now c.before.before.write-usages.new.0 c.before.before.before.before.before.own-usages.result c.before.before.before.ignore-usages.result s.args.u s.requires.long c.before.before.before.before.before.own-usages.ensures c.before.before.before.ignore-usages.ensures c.before.before.write-usages.auto.0 c.before.before.write-usages.ensures
+returns-2 c = let s = c.before.before.before.before.before.before.before.before.before.before.before in fields.ignore_own_frame s.args.goals s.args.frame.now c.before.before.write-usages.new.0 c.before.before.before.before.before.own-usages.result c.before.before.before.ignore-usages.result s.args.u s.requires.long c.before.before.before.before.before.own-usages.ensures c.before.before.before.ignore-usages.ensures c.before.before.write-usages.auto.0 c.before.before.write-usages.ensures
 
 pub ignore-own-spec : {M : Type 1} → statement M
 ignore-own-spec =
