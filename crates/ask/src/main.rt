@@ -1,6 +1,8 @@
 // The question program: reads a book from the file book.txt and questions from standard
 // input, and prints a line for each. Started with an argument (`ask passes`) it prints one
 // number more: how often the goal's part was run for the answer.
+#![tactic(auto)]
+
 ghost use Rattle.std.specs.Prelude.{◌≡◌};
 ghost use Rattle.definition.specs.Reader.{read_book};
 ghost use Rattle.definition.specs.Query.{query};
@@ -15,14 +17,14 @@ use libc::{STDIN_FILENO, STDOUT_FILENO};
 use question::{Ending, Question};
 
 // What the program makes of its book: it answers questions over it, or it ends.
-#[derive(Drop)]
+#[derive(Clone, Copy)]
 enum Opened {
     Open(Header),
     Closed(Ending),
 }
 
 // The line for a question, and whether another question is read after it.
-#[derive(Drop)]
+#[derive(Clone, Copy)]
 struct Turn {
     line: [u8; 13],
     more: bool,

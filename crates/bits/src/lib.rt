@@ -1,5 +1,7 @@
 // Masks of 64 bits: sets of places. A contract speaks of a mask's flags, the lowest
 // bit first.
+#![tactic(auto)]
+
 ghost use Rattle.std.specs.Prelude.{◌≡◌, true, false, ◌++◌, ◌-◌, ◌<◌, get_or, set, take, replicate};
 ghost use Rattle.bits.specs.Masks.{flags, first_place, last_place, place_or};
 

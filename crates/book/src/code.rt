@@ -3,13 +3,13 @@ ghost use Rattle.std.specs.Prelude.{◌≡◌};
 ghost use Rattle.book.specs.Codes.{code_of};
 
 // A group asks for all of its parts, or for any of them.
-#[derive(Drop)]
+#[derive(Clone, Copy)]
 pub enum Op {
     All,
     Any,
 }
 
-#[derive(Drop)]
+#[derive(Clone, Copy)]
 pub enum Code {
     Goal,
     Call,

@@ -11,7 +11,7 @@ use crate::line;
 
 // What the first line of a part opens: so many parts that follow it, with whether they
 // stand inside a pick; or nothing, where no part starts with the line.
-#[derive(Drop)]
+#[derive(Clone, Copy)]
 pub enum Opened {
     Parts(u16, bool),
     Nothing,

@@ -1,5 +1,7 @@
 // A book: lines of 16 bytes, each of five fields of three columns and a newline. A
 // header, then for each goal in order a line and its part.
+#![tactic(auto)]
+
 pub mod code;
 pub mod columns;
 mod grammar;
@@ -15,7 +17,7 @@ ghost use Rattle.book.specs.Read.{header_read, StartedIf, whole_body, StartedBy}
 use definition::format::Header;
 use definition::replies::Refusal;
 
-#[derive(Drop)]
+#[derive(Clone, Copy)]
 pub enum BookRead {
     Accepted(Header),
     Rejected(Refusal),

@@ -11,7 +11,7 @@ use crate::line;
 use definition::paths::PathKind;
 
 // A call line.
-#[derive(Drop)]
+#[derive(Clone, Copy)]
 pub struct Call {
     pub goal: usize,
     pub step: PathKind,

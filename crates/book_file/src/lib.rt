@@ -1,4 +1,6 @@
 // The file that the programs read a book from.
+#![tactic(auto)]
+
 ghost use Rattle.io.specs.Counts.{IsPrefixLen};
 
 // Reads the book and answers its length; a file that cannot be opened has none.

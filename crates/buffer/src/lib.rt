@@ -1,4 +1,6 @@
 // Bytes in a borrowed buffer.
+#![tactic(auto)]
+
 pub mod scalars;
 
 ghost use Rattle.std.specs.Prelude.{◌≡◌, ◌+◌, ◌*◌, ◌%◌, ◌<◌, ◌≤◌, length, get_or, set, replicate};

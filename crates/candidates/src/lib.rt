@@ -1,6 +1,8 @@
 // The usages of cycle heads in the candidates of a pick: enter_single_candidate,
 // finish_single_candidate and ignore_candidate_head_usages of mod.rs, on the frame at
 // index `own`, the top of the stack. The merged usages of a pick lie behind the graph.
+#![tactic(auto)]
+
 ghost use Rattle.std.specs.Prelude.{◌≡◌, ◌+◌, ◌<◌, ◌≤◌};
 ghost use Rattle.std.proofs.Math.Option.{none, some};
 ghost use Rattle.definition.specs.Usages.{merge_usages};

@@ -1,6 +1,8 @@
 // Whether a book meets the condition of mixed books, for scripts. Reads the file
 // book.txt and prints one line, three columns a number: the refusal, the lines of an
 // inductive and a coinductive step inside one group, and the goals of that group.
+#![tactic(auto)]
+
 use libc::STDOUT_FILENO;
 
 // The last three digits of a number; no line has a longer one.

@@ -5,7 +5,7 @@ ghost use Rattle.definition.specs.Answers.{answer_number, answer_of, same_answer
 use crate::paths::PathKind;
 
 // What a goal comes to. Undecided and Overflow are ambiguous.
-#[derive(Drop)]
+#[derive(Clone, Copy)]
 pub enum Answer {
     No,
     Yes,

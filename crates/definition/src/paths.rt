@@ -6,7 +6,7 @@ ghost use Rattle.definition.specs.Table.{Extensions};
 ghost use Rattle.definition.specs.declared.paths.PathKind.{PathKind};
 
 // The kind of a path, in the order of `extend`.
-#[derive(Drop)]
+#[derive(Clone, Copy)]
 pub enum PathKind {
     Inductive,
     Unknown,
@@ -16,7 +16,7 @@ pub enum PathKind {
 
 // A set of paths: flags in a byte, the empty path 1, inductive 2, unknown 4,
 // coinductive 8, forced ambiguity 16.
-#[derive(Drop)]
+#[derive(Clone, Copy)]
 pub struct PathsToNested {
     pub bits: u8,
 }

@@ -5,7 +5,7 @@ ghost use Rattle.definition.specs.Answers.{refusal_number, response_answer, resp
 use crate::answers::Answer;
 
 // Why a query is refused, in the order of document 01's table.
-#[derive(Drop)]
+#[derive(Clone, Copy)]
 pub enum Refusal {
     BookLength,
     BookLine,
@@ -23,7 +23,7 @@ pub enum Refusal {
 }
 
 // What a query comes to.
-#[derive(Drop)]
+#[derive(Clone, Copy)]
 pub enum Response {
     Answered(Answer),
     Refused(Refusal),

@@ -5,7 +5,7 @@ ghost use Rattle.definition.specs.Usages.{add_counter, subtract_counter, counter
 use crate::paths::PathKind;
 
 // How often a cycle head was used, by the kind of the cycle.
-#[derive(Drop)]
+#[derive(Clone, Copy)]
 pub struct HeadUsages {
     pub inductive: u64,
     pub unknown: u64,

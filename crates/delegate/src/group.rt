@@ -9,7 +9,7 @@ use definition::answers::Answer;
 use evaluation::Outcome;
 
 // A group so far: the answers combined, and how many provisional entries there are.
-#[derive(Drop)]
+#[derive(Clone, Copy)]
 pub struct Group {
     pub op: Op,
     pub entries: usize,
@@ -17,7 +17,7 @@ pub struct Group {
 }
 
 // After a part: the group's outcome, or the group for its next part.
-#[derive(Drop)]
+#[derive(Clone, Copy)]
 pub enum Weighed {
     Ended(Outcome),
     More(Group),

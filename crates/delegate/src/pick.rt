@@ -17,7 +17,7 @@ use layout::offsets;
 
 // A pick so far: whether a Yes was met, the answers combined, and how many provisional
 // entries there are.
-#[derive(Drop)]
+#[derive(Clone, Copy)]
 pub struct Pick {
     pub met: bool,
     pub combined: Answer,
@@ -25,7 +25,7 @@ pub struct Pick {
 }
 
 // After a candidate: the outcome of the pick, or the pick for its next candidate.
-#[derive(Drop)]
+#[derive(Clone, Copy)]
 pub enum Tried {
     Ended(Outcome),
     More(Pick),

@@ -1,5 +1,7 @@
 // global_cache.rs, in bytes: document 01's notebook. For each goal T + 2 slots: the
 // success slot, then an overflow slot for each required depth 0 to T.
+#![tactic(auto)]
+
 ghost use Rattle.std.specs.Prelude.{◌≡◌, List, ℕ, ◌+◌, ◌*◌, ◌≤◌, ◌<◌, length};
 ghost use Rattle.definition.specs.declared.answers.Answer.{Answer};
 ghost use Rattle.definition.specs.GlobalCache.{slot_at, slot_for, cache_insert};
@@ -11,7 +13,7 @@ use definition::answers::Answer;
 pub mod form;
 pub mod slot;
 
-#[derive(Drop)]
+#[derive(Clone, Copy)]
 pub enum Insertion {
     Kept,
     // the slot holds a different result
@@ -61,8 +63,8 @@ fn overflow_slots(cache: &[u8], goals: usize, top: usize, goal: usize) -> &[u8]
 // The slot that a result belongs to.
 fn slot_for(overflow: bool, required: usize) -> usize
     requires { required ≤ 63 }
-    ensures* { λ r. ⌜ (r ≤ required + 1) × ((nested : List ℕ) (result : Answer) (passes : ℕ) → r
-        ≡ slot_for (evaluated overflow required nested result passes)) ⌝ }
+    ensures { (result ≤ required + 1) × ((nested : List ℕ) (answer : Answer) (passes : ℕ) → result
+        ≡ slot_for (evaluated overflow required nested answer passes)) }
 {
     if overflow {
         return required + 1;

@@ -1,6 +1,8 @@
 // Whether a book meets the condition of mixed books: each group of linked goals has no
 // coinductive step inside, or no inductive one. If not, a group and two lines that
 // break it.
+#![tactic(auto)]
+
 pub mod reach;
 mod steps;
 
@@ -19,14 +21,14 @@ use steps::{Found, Seen};
 
 // An inductive and a coinductive step inside one group: their lines, the header being
 // line 0, and the goals of the group, bit i for goal i.
-#[derive(Drop)]
+#[derive(Clone, Copy)]
 pub struct Conflict {
     pub inductive: usize,
     pub coinductive: usize,
     pub group: u64,
 }
 
-#[derive(Drop)]
+#[derive(Clone, Copy)]
 pub enum Verdict {
     Refused(Refusal),
     Given,

@@ -11,7 +11,7 @@ use definition::paths::PathKind;
 
 // A line as a step: whether it is a call line, the goal in whose part it stands, and
 // what a call line says. For a goal's line the caller is that goal.
-#[derive(Drop)]
+#[derive(Clone, Copy)]
 pub struct Seen {
     pub step: bool,
     pub caller: usize,
@@ -19,7 +19,7 @@ pub struct Seen {
     pub kind: PathKind,
 }
 
-#[derive(Drop)]
+#[derive(Clone, Copy)]
 pub enum Found {
     At(usize),
     Nothing,

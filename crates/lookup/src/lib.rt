@@ -1,5 +1,7 @@
 // What evaluate_goal of mod.rs tries before it pushes a frame: the allowed depth, the two
 // caches, a cycle on the stack.
+#![tactic(auto)]
+
 ghost use Rattle.std.specs.Prelude.{◌≡◌, ◌*◌, ◌<◌, ◌≤◌};
 ghost use Rattle.definition.specs.Lookup.{cycle_result};
 ghost use Rattle.layout.specs.Work.{stack_of};
@@ -21,14 +23,14 @@ use stack::OnStack;
 use stack::frame::{Depth, Provisional};
 
 // What one lookup finds.
-#[derive(Drop)]
+#[derive(Clone, Copy)]
 pub enum Hit {
     Result(Answer),
     Nothing,
 }
 
 // The goal's answer, or the available depth of the frame to push.
-#[derive(Drop)]
+#[derive(Clone, Copy)]
 pub enum Found {
     Known(Answer),
     Push(usize),

@@ -1,4 +1,6 @@
 // update_parent_goal of mod.rs. The parent is the frame on top of the stack.
+#![tactic(auto)]
+
 ghost use Rattle.std.specs.Prelude.{false, ◌+◌, ◌*◌, ◌<◌, ◌≤◌};
 ghost use Rattle.definition.specs.Paths.{flag_of};
 ghost use Rattle.definition.specs.Usages.{one_usage};

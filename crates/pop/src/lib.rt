@@ -1,5 +1,7 @@
 // Document 02's one operation: the top frame is taken off the stack, and what follows is done to the
 // provisional entries. Nothing else takes a frame off, rebases entries or clears them.
+#![tactic(auto)]
+
 ghost use Rattle.std.specs.Prelude.{◌*◌, ◌≤◌};
 ghost use Rattle.stack.specs.Bytes.{StackBytes};
 ghost use Rattle.pop.specs.Endings.{FramePopped};

@@ -1,5 +1,7 @@
 // The provisional cache: results that depend on goals which are still on the stack, in
 // the order of insertion. How many there are is no byte of the graph.
+#![tactic(auto)]
+
 ghost use Rattle.std.specs.Prelude.{◌≡◌, ◌+◌, ◌*◌, ◌≤◌, ◌<◌};
 ghost use Rattle.definition.specs.Lookup.{none_or_above, entry_matches, entry_applies, any_entry_applies};
 ghost use Rattle.layout.specs.Copied.{HeadsCopied};
@@ -19,7 +21,7 @@ use stack::frame;
 pub mod entry;
 
 // Whether an entry was inserted, or there was no room for it.
-#[derive(Drop)]
+#[derive(Clone, Copy)]
 pub enum Insertion {
     Kept,
     Full,

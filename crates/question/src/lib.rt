@@ -1,4 +1,6 @@
 // The lines that the question program reads and writes.
+#![tactic(auto)]
+
 ghost use Rattle.std.specs.Prelude.{◌≡◌};
 ghost use Rattle.definition.specs.Answers.{response_answer, response_refusal};
 ghost use Rattle.question.specs.Lines.{read_question, output_line, reply_line, ending_number, ending_line};
@@ -7,14 +9,14 @@ use book::{columns, line};
 use definition::replies::{Refusal, Response};
 
 // A question line, read: goal and depth.
-#[derive(Drop)]
+#[derive(Clone, Copy)]
 pub enum Question {
     Asked(u16, u16),
     IllFormed,
 }
 
 // Why the program ends before its input does: refusals 1 to 4, 12 and 13.
-#[derive(Drop)]
+#[derive(Clone, Copy)]
 pub enum Ending {
     Book(Refusal),
     QuestionLine,

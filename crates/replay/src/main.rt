@@ -1,6 +1,8 @@
 // Replays the recorded queries of tests/vectors: the response, every byte of the cache
 // and every byte of the workspace are compared with what was recorded. The file
 // vectors.bin has them; tests/make-replay makes it and tells its form.
+#![tactic(auto)]
+
 ghost use Rattle.std.specs.Prelude.{◌≡◌, true, length};
 ghost use Rattle.io.specs.Counts.{IsPrefixLen};
 ghost use Rattle.replay.specs.Recorded.{WorkLeft, AsRecorded, with_book, with_query};
@@ -8,7 +10,7 @@ ghost use Rattle.replay.specs.Recorded.{WorkLeft, AsRecorded, with_book, with_qu
 use libc::STDOUT_FILENO;
 
 // How many books and queries were replayed, and how many replies differed.
-#[derive(Drop)]
+#[derive(Clone, Copy)]
 struct Tally {
     books: u64,
     queries: u64,

@@ -1,5 +1,7 @@
 // evaluate_goal, evaluate_goal_in_task and the delegate's compute_goal: three functions
 // that call each other in a cycle. What stands between their calls is in other functions.
+#![tactic(auto)]
+
 pub mod between;
 
 ghost use Rattle.std.specs.Prelude.{false, ◌-◌, ◌≤◌, ◌<◌};

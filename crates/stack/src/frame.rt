@@ -24,14 +24,14 @@ mod fields;
 pub mod tracked;
 
 // A frame's provisional result.
-#[derive(Drop)]
+#[derive(Clone, Copy)]
 pub enum Provisional {
     NoResult,
     Result(Answer),
 }
 
 // The depth that a nested goal is allowed.
-#[derive(Drop)]
+#[derive(Clone, Copy)]
 pub enum Depth {
     Allowed(usize),
     Overflow,

@@ -1,5 +1,7 @@
 // stack.rs: the frames of the goals that are being evaluated, at their index in the
 // graph. How many there are is no byte of it.
+#![tactic(auto)]
+
 ghost use Rattle.std.specs.Prelude.{◌≡◌, ◌<◌, ◌≤◌};
 ghost use Rattle.definition.specs.Steps.{count_steps};
 ghost use Rattle.definition.specs.Stack.{step_kinds, cycle_path_kind};
@@ -23,7 +25,7 @@ use layout::{offsets, steps};
 pub mod frame;
 
 // What `find` finds: the index of the goal's frame, and its provisional result.
-#[derive(Drop)]
+#[derive(Clone, Copy)]
 pub enum OnStack {
     At(usize, Provisional),
     Nowhere,

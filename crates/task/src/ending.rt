@@ -13,7 +13,7 @@ use stack::frame;
 use stack::frame::Provisional;
 
 // Whether a fixpoint is reached, and then which.
-#[derive(Drop)]
+#[derive(Clone, Copy)]
 pub enum Searched {
     Reached(Fixpoint),
     Missed,

@@ -1,5 +1,7 @@
 // The parts of evaluate_goal and evaluate_goal_in_task of mod.rs that evaluate no goal:
 // the end of an iteration, and what follows a goal's last one.
+#![tactic(auto)]
+
 ghost use Rattle.std.specs.Prelude.{◌≡◌, ◌*◌, ◌≤◌};
 ghost use Rattle.definition.specs.declared.answers.Answer.TheVariants as answers;
 ghost use Rattle.definition.specs.declared.endings.Ending.TheVariants as endings;
@@ -21,7 +23,7 @@ mod insert;
 
 // After an iteration: the goal's outcome, or another iteration, with whether overflow
 // was met so far and how many provisional entries there are.
-#[derive(Drop)]
+#[derive(Clone, Copy)]
 pub enum Iteration {
     End(TaskOutcome),
     Again(bool, usize),

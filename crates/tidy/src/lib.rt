@@ -1,5 +1,7 @@
 // A book in its plain form: an all directly inside an all is spliced in, likewise any
 // inside any, and an all or any of one part becomes that part, until no rule fits.
+#![tactic(auto)]
+
 mod line;
 mod part;
 
@@ -12,7 +14,7 @@ use crate::part::Sizes;
 use book::BookRead;
 use definition::replies::Refusal;
 
-#[derive(Drop)]
+#[derive(Clone, Copy)]
 pub enum Response {
     // The length used.
     Written(u16),

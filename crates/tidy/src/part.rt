@@ -8,14 +8,14 @@ use crate::line;
 use book::code::Code;
 
 // How many bytes what was read takes in the book, and what was written in the output.
-#[derive(Drop)]
+#[derive(Clone, Copy)]
 pub struct Sizes {
     pub read: usize,
     pub wrote: usize,
 }
 
 // Parts that stand in the output: how many, and their bytes.
-#[derive(Drop)]
+#[derive(Clone, Copy)]
 pub struct Joined {
     pub count: u16,
     pub bytes: usize,

@@ -1,5 +1,7 @@
 // A book's plain form, for scripts. Reads the file book.txt and prints the plain form's
 // lines; where the book is refused, one line: the refusal's number, three columns.
+#![tactic(auto)]
+
 use libc::STDOUT_FILENO;
 use tidy::Response;
 

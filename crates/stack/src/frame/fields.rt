@@ -6,7 +6,7 @@ ghost use Rattle.stack.specs.Records.{record_of, bytes_of, flag_byte, overflowed
 
 use layout::offsets;
 
-#[derive(Drop)]
+#[derive(Clone, Copy)]
 pub struct FrameRecord {
     pub input: u8,
     pub step: u8,
