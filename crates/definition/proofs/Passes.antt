@@ -9,7 +9,7 @@ use Rattle.definition.specs.declared.endings.Ending.TheVariants as ending
 use Rattle.definition.specs.Stack.{Frame, Stack}
 use Rattle.definition.specs.Graph.{Graph, Outcome, Done, Stopped}
 use Rattle.definition.specs.Endings.{ending_of}
-use Rattle.definition.specs.Task.{TaskOutcome, Evaluated, TaskStopped, after_pop, end_iteration, iteration, evaluate_goal_in_task}
+use Rattle.definition.specs.Task.{no_turn, TaskOutcome, Evaluated, TaskStopped, after_pop, end_iteration, iteration, evaluate_goal_in_task}
 
 -- at least `low` times and at most `high` times, where there is a result
 abbrev pub RanWithin : ℕ → ℕ → TaskOutcome → Type 0
@@ -41,7 +41,7 @@ module _ (low high : ℕ) where
   pub task_within : (compute : Graph → Outcome) (left pass : ℕ) (o : Bool) (g : Graph) → low ≤ pass → pass + left ≤ high
       → RanWithin low high (evaluate_goal_in_task compute left pass o g)
   task_within compute zero pass o g some few =
-      iteration_within _ (λ o' g'. tt) pass some (omega arith) zero o (compute g)
+      iteration_within no_turn (λ o' g'. tt) pass some (omega arith) zero o (compute g)
   task_within compute (suc left) pass o g some few =
       iteration_within (evaluate_goal_in_task compute left (suc pass))
       (λ o' g'. task_within compute left (suc pass) o' g' (omega arith) (omega arith)) pass some (omega arith)

@@ -26,7 +26,7 @@ use Rattle.definition.specs.Candidates.{no_candidate_usages, set_candidate_usage
 use Rattle.definition.specs.declared.endings.Ending.{Ending}
 use Rattle.definition.specs.declared.endings.Ending.TheVariants as ending
 use Rattle.definition.specs.Endings.{ending_of, tidy_up}
-use Rattle.definition.specs.Task.{TaskOutcome, Evaluated, TaskStopped, after_pop, end_iteration, iteration, evaluate_goal_in_task}
+use Rattle.definition.specs.Task.{no_turn, TaskOutcome, Evaluated, TaskStopped, after_pop, end_iteration, iteration, evaluate_goal_in_task}
 use Rattle.definition.specs.Evaluate.{Evaluator, merge_unless, end_pick, eval_part, eval_all, eval_any, eval_pick, compute_goal, new_frame, insert_result, after_task, evaluate_at_depth, evaluate_goal_with, evaluate_goal}
 
 -- a frame with nothing but these, and the stack of such frames
@@ -172,7 +172,7 @@ module _ (b : Frame) (k : Stack) where
       → (left pass : ℕ) (overflow : Bool) (g : Graph) → skeleton g.stack ≡ b ∷ k
       → TaskKept k (evaluate_goal_in_task compute left pass overflow g)
   task_kept compute keeps zero pass overflow g e =
-      iteration_kept _ (λ o g1 e1. tt) pass zero overflow (compute g) (keeps g e)
+      iteration_kept no_turn (λ o g1 e1. tt) pass zero overflow (compute g) (keeps g e)
   task_kept compute keeps (suc left) pass overflow g e =
       iteration_kept (evaluate_goal_in_task compute left (suc pass)) (task_kept compute keeps left (suc pass)) pass
       (suc left) overflow

@@ -1,0 +1,271 @@
+#!/usr/bin/env python3
+"""Turns the walks of an older Rattle, proofs/F/Proof.antt, to Invariants.antt and Answers.antt.
+
+usage: tools/answers.py CRATE NAMES OLD [FUNCTION ..]      at the top of the repository
+
+NAMES is the names.json that 'rt check --generated DIR --old-names' writes for the crate, OLD the commit that landed before the
+port, whose walks give the order of the goals. A walk that is turned goes; what could not be turned is said, and stays as it is
+in comments that begin with '-- left:'. Nothing is proved by it: rt check decides.
+"""
+import json
+import os
+import re
+import subprocess
+import sys
+
+NAME = r"[^\s(){}.;,@\"«»\[\]\\:λ→×]+"
+PATH = re.compile(r"(?<![\w.'’₀-])(\(start c\)|" + NAME + r")((?:\." + NAME + r")+)")
+dash = lambda s: s.replace("_", "-")
+
+
+def git(*words):
+    return subprocess.run(["git", *words], capture_output=True, text=True, errors="replace").stdout
+
+
+def mut_params(source):
+    out = {}
+    for m in re.finditer(r"fn (\w+)\s*(?:<[^>]*>)?\(([^)]*)\)", source):
+        out.setdefault(m.group(1), [p.split(":")[0].strip().split()[-1] for p in m.group(2).split(",") if "&mut" in p or "& mut" in p or re.search(r"&'\w+ mut", p)])
+    return out
+
+
+def sources():
+    text = []
+    for folder, dirs, names in os.walk("crates"):
+        dirs[:] = [d for d in dirs if d != "out"]
+        text += [open(os.path.join(folder, n), encoding="utf-8").read() for n in names if n.endswith(".rt")]
+    return "\n".join(text)
+
+
+SOURCE = sources()
+MUTS = mut_params(SOURCE)
+WORDS = {dash(w): w for w in re.findall(r"\b[a-z]\w*_\w+\b", SOURCE)}
+
+
+class Function:
+    def __init__(self, info):
+        self.info = info
+        self.needs = info["needs"]
+        self.steps, self.called = {}, {}
+        for old, parent, (a, b), callee, _ in info["places"]:
+            if a:
+                self.steps.setdefault(dash(a), b)
+                if callee:
+                    self.called[dash(a)] = callee
+        self.places = {dash(p[0]): n for p, n in zip(info["places"], info["places_by_name"])}
+        self.parents = {n: None for n in info["places_by_name"]}
+        old_to_new = {p[0]: n for p, n in zip(info["places"], info["places_by_name"])}
+        for p, n in zip(info["places"], info["places_by_name"]):
+            self.parents[n] = old_to_new.get(p[1])
+        self.arms = []
+        for arm in info["arms"]:
+            if arm:
+                for field, old, path in arm[2]:
+                    if path or not field.endswith("-own"):
+                        self.arms.append((dash(old), [dash(x) for x in path], arm[0], field))
+        self.arms.sort(key=lambda a: -len(a[1]))
+        self.typed = {dash(step): var for place in info["typed"] for var, step in place}
+
+    def path(self, segments):
+        segments = [s for s in segments if s != "before"]
+        if not segments:
+            return ""
+        first, rest = dash(segments[0]), segments[1:]
+        for old, path, arm, field in self.arms:
+            if old == first and [dash(x) for x in rest[: len(path)]] == path:
+                return "." + ".".join([arm, field, *rest[len(path) :]])
+        if first in self.typed:
+            return ".type_inv." + self.typed[first] + "".join("." + r for r in rest if r != "given")
+        if first in self.steps:
+            new = self.steps[first]
+            if rest[:1] == ["new"] and rest[1:2] and rest[1].isdigit() and first in self.called:
+                muts = MUTS.get(self.called[first].split("::")[-1], [])
+                if int(rest[1]) < len(muts):
+                    rest = ["new", muts[int(rest[1])], *rest[2:]]
+            return "." + ".".join([new, *[WORDS.get(r, r) for r in rest]])
+        return "." + ".".join(WORDS.get(dash(s), s) if s not in ("0", "1") else s for s in segments)
+
+
+def blocks(text):
+    out, now = [], []
+    for line in text.split("\n"):
+        if line.strip() == "" and now:
+            out.append(now)
+            now = []
+        elif line.strip() != "":
+            now.append(line)
+    if now:
+        out.append(now)
+    return out
+
+
+def split_decls(block):
+    """A block may hold comments, then one declaration or several."""
+    return block
+
+
+def turn(folder, fn, crate, path, old_text):
+    text = open(os.path.join(folder, "Proof.antt"), encoding="utf-8").read()
+    left = []
+    old_needs = re.findall(r"(?m)^\s*\S+ : (?:\([^)]*\) → )?tie\.Need-(\S+)", old_text)
+    by_old = {dash(a): b for a, b in fn.needs}
+    uses = [l for l in text.split("\n") if l.startswith("use ") and not re.search(r"\.(Statement|Tie)\b", l)]
+    body = "\n".join(l for l in text.split("\n") if not l.startswith("use "))
+    loops = list(fn.info["loops"])
+    changed = list(fn.info["changed"])
+    inv, ans, nth, renamed = [], [], 0, {}
+    helpers = {}
+    need_at = 0
+    pending = []
+    for block in blocks(body):
+        comments = [l for l in block if l.startswith("--")]
+        code = [l for l in block if not l.startswith("--")]
+        if not code:
+            pending += comments
+            continue
+        head = code[0]
+        m = re.match(r"^pub (\S+) : \{M : Type 1\} → statement M", head)
+        if m:
+            pending = []
+            continue
+        m = re.match(r"^abbrev (\S+) : tie\.(invariant|InvT|decreases|MeasureT)-(\S+)", head)
+        if m:
+            name, kind, label = m.group(1), m.group(2), m.group(3)
+            kind = "invariant" if kind in ("invariant", "InvT") else "decreases"
+            found = [i for i, l in enumerate(loops) if dash(l[0][0]) == dash(label)]
+            if not found:
+                left.append("\n".join(block))
+                continue
+            (old, new), names = loops[found[0]]
+            clause = "\n".join(code[1:])
+            cm = re.match(r"^(\S+)((?: [^\s=]+)*) =\s*", clause)
+            args = cm.group(2).split()
+            flags = changed[found[0]]
+            order = [("l.initial." if f else "l.", n) for n, f in zip(names, flags)]
+            order += [("l.", n) for n, f in zip(names, flags) if f]
+            rhs = clause[cm.end() :]
+            if len(args) != len(order):
+                left.append("\n".join(block))
+                continue
+            table = {a: o[0] + o[1] for a, o in zip(args, order) if a != "_"}
+            rhs = re.sub(r"(?<![\w.'’₀-])(" + "|".join(sorted(map(re.escape, table), key=len, reverse=True)) + r")(?![\w'’₀-])", lambda k: table[k.group(1)], rhs)
+            inv.append((comments + [f"abbrev pub {kind}-{new} : goal.{kind}-{new}"] + [f"{kind}-{new} l = {rhs}"]))
+            renamed[name] = f"{kind}-{new}"
+            continue
+        m = re.match(r"^(abbrev )?(\S+) : (?:(.*) → )?tie\.Need-(\S+)", head)
+        if m and not m.group(3):
+            old = dash(old_needs[need_at]) if need_at < len(old_needs) else None
+            need_at += 1
+            new = by_old.get(old)
+            if new is None and old:
+                for alt in (old.replace("loop-holds", "loop-init"), re.sub(r"-holds$", "-init", old), re.sub(r"-less$", "-smaller", old), re.sub(r"-again$", "-preserved", old)):
+                    new = new or by_old.get(alt)
+                m2 = re.sub(r"-holds$", "-init", re.sub(r"-less$", "-smaller", re.sub(r"-again$", "-preserved", old)))
+                new = new or by_old.get(m2)
+                if new is None and re.match(r"(sub|add|mul|cast|shl|shr|part|array|index)-", old):
+                    new = by_old.get(old)
+            rest = "\n".join(code[1:])
+            rhs = re.sub(r"^\S+( [^=\n]*?)? =\s*", "", re.sub(r"(?m)^unfolding .*\n", "", rest), count=1).strip()
+            if rhs == "search rules":
+                pending = []
+                continue
+            if new is None:
+                left.append("-- no goal: " + str(old) + "\n" + "\n".join(block))
+                pending = []
+                continue
+            unf = [l for l in code[1:] if l.startswith("unfolding ")]
+            clause = [l for l in code[1:] if not l.startswith("unfolding ")]
+            first = re.sub(r"^\S+", new, clause[0]).replace(" κs", "", 1)
+            place = dict((n, b) for n, (a, b) in zip([x[1] for x in fn.needs], fn.info["asked_at"])).get(new)
+            ans.append((pending + comments, [f"pub {new} : goal.{new}"] + unf, [first] + clause[1:], place))
+            pending = []
+            continue
+        # a helper
+        ans.append((pending + comments, None, code, None))
+        pending = []
+        hm = re.match(r"^(?:abbrev )?(\S+) : \((\w+) : tie\.([^\s)]+)", head)
+        if hm:
+            helpers[hm.group(1)] = fn.places.get(dash(hm.group(3)))
+
+    def befores(frm, to):
+        n, at = 0, frm
+        while at is not None and at != to:
+            at = fn.parents.get(at)
+            n += 1
+        return n if at == to else None
+
+    def paths(chunk, place):
+        aliases = {"c"}
+        for a, b in re.findall(r"let (\S+) = (\S+?) in", chunk):
+            parts = b.split(".")
+            if parts[0] in aliases and all(p == "before" for p in parts[1:]):
+                aliases.add(a)
+        def one(m):
+            root, segs = m.group(1), m.group(2)[1:].split(".")
+            if root in aliases:
+                return root + fn.path(segs)
+            return m.group(0)
+        out = PATH.sub(one, chunk)
+        for h, hp in helpers.items():
+            if hp and place:
+                def call(m):
+                    if m.group(2).split(".")[0] in aliases:
+                        n = befores(place, hp)
+                        return m.group(1) + ("c" if not n else "c" + ".before" * n)
+                    return m.group(0)
+                out = re.sub(r"((?<![\w.'’₀-])" + re.escape(h) + r" )(\w+)(?![\w'.-])", call, out)
+        def typed(m):
+            named.add(fn.places.get(dash(m.group(1)), m.group(1)))
+            return fn.places.get(dash(m.group(1)), m.group(1))
+        return re.sub(r"tie\.([^\s()]+)((?: (?:" + ("|".join(map(re.escape, renamed)) or "!") + r"))*)", typed, out)
+
+    named = set()
+    lines = []
+    for comments, sig, clause, place in ans:
+        if sig is None:
+            hm = re.match(r"^(?:abbrev )?(\S+) : \((\w+) : tie\.([^\s)]+)", clause[0])
+            place = helpers.get(hm.group(1)) if hm else None
+            lines += comments + paths("\n".join(clause), place).split("\n") + [""]
+        else:
+            lines += comments + sig + paths("\n".join(clause), place).split("\n") + [""]
+    module = f"Rattle.{crate}.proofs.{path}"
+    def write(name, module_name, rows):
+        with open(os.path.join(folder, name), "w", encoding="utf-8") as f:
+            places = [f"use {module}.Goals.{{{', '.join(sorted(named))}}}"] if named and module_name == "Goals" else []
+            f.write("\n".join(uses + [f"use {module}.{module_name} as goal"] + places + [""] + rows).rstrip("\n") + "\n")
+    if inv:
+        rows = []
+        for block in inv:
+            rows += block + [""]
+        write("Invariants.antt", "Given", rows)
+    if lines:
+        write("Answers.antt", "Goals", lines)
+    os.remove(os.path.join(folder, "Proof.antt"))
+    if left:
+        where = os.path.join(folder, "Answers.antt")
+        have = open(where, encoding="utf-8").read() if os.path.exists(where) else "\n".join(uses + [f"use {module}.Goals as goal", ""])
+        with open(where, "w", encoding="utf-8") as f:
+            f.write(have + "\n" + "\n".join("-- left: " + l for b in left for l in b.split("\n")) + "\n")
+        print(f"{folder}: {len(left)} left")
+
+
+def main():
+    crate, names, commit = sys.argv[1:4]
+    only = sys.argv[4:]
+    info = json.load(open(names, encoding="utf-8"))
+    top = f"crates/{crate}/proofs"
+    for folder, dirs, files in sorted(os.walk(top)):
+        if "Proof.antt" not in files:
+            continue
+        rel = os.path.relpath(folder, top)
+        path = rel.replace("/", ".")
+        if only and path not in only:
+            continue
+        key = f"Rattle-{crate}-proofs.{path}.Lts"
+        if key not in info:
+            print(f"{folder}: not in {names}")
+            continue
+        turn(folder, Function(info[key]), crate, path, git("show", f"{commit}:{folder}/Proof.antt"))
+
+
+main()
