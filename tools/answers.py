@@ -22,24 +22,33 @@ def git(*words):
     return subprocess.run(["git", *words], capture_output=True, text=True, errors="replace").stdout
 
 
-def mut_params(source):
-    out = {}
-    for m in re.finditer(r"fn (\w+)\s*(?:<[^>]*>)?\(([^)]*)\)", source):
-        out.setdefault(m.group(1), [p.split(":")[0].strip().split()[-1] for p in m.group(2).split(",") if "&mut" in p or "& mut" in p or re.search(r"&'\w+ mut", p)])
-    return out
-
-
 def sources():
-    text = []
+    text = {}
     for folder, dirs, names in os.walk("crates"):
         dirs[:] = [d for d in dirs if d != "out"]
-        text += [open(os.path.join(folder, n), encoding="utf-8").read() for n in names if n.endswith(".rt")]
-    return "\n".join(text)
+        for n in names:
+            if n.endswith(".rt"):
+                path = os.path.join(folder, n)
+                text[path] = open(path, encoding="utf-8").read()
+    return text
 
 
 SOURCE = sources()
-MUTS = mut_params(SOURCE)
-WORDS = {dash(w): w for w in re.findall(r"\b[a-z]\w*_\w+\b", SOURCE)}
+WORDS = {dash(w): w for w in re.findall(r"\b[a-z]\w*_\w+\b", "\n".join(SOURCE.values()))}
+plain = lambda s: dash(s).lower().replace("«", "").replace("»", "")
+
+
+def lent(callee):
+    """The `&mut` parameters of a function, by its whole name."""
+    parts = callee.split("::")
+    for n in range(len(parts) - 1, 0, -1):
+        base = "crates/" + parts[0] + "/src" + "".join("/" + p for p in parts[1:n])
+        for path in (base + ".rt", base + "/lib.rt", base + "/main.rt", base + "/mod.rt"):
+            found = path in SOURCE and re.search(r"fn " + re.escape(parts[-1]) + r"\s*(?:<[^>]*>)?\(([^)]*)\)", SOURCE[path])
+            if found:
+                rows = [p.strip() for p in found.group(1).split(",")]
+                return [p.split(":")[0].strip().split()[-1].lstrip("&") for p in rows if re.search(r"&('\w+ )?mut ", p)]
+    return []
 
 
 class Function:
@@ -49,9 +58,9 @@ class Function:
         self.steps, self.called = {}, {}
         for old, parent, (a, b), callee, _ in info["places"]:
             if a:
-                self.steps.setdefault(dash(a), b)
+                self.steps.setdefault(plain(a), b)
                 if callee:
-                    self.called[dash(a)] = callee
+                    self.called[plain(a)] = callee
         self.places = {dash(p[0]): n for p, n in zip(info["places"], info["places_by_name"])}
         self.parents = {n: None for n in info["places_by_name"]}
         old_to_new = {p[0]: n for p, n in zip(info["places"], info["places_by_name"])}
@@ -62,15 +71,15 @@ class Function:
             if arm:
                 for field, old, path in arm[2]:
                     if path or not field.endswith("-own"):
-                        self.arms.append((dash(old), [dash(x) for x in path], arm[0], field))
+                        self.arms.append((plain(old), [dash(x) for x in path], arm[0], field))
         self.arms.sort(key=lambda a: -len(a[1]))
-        self.typed = {dash(step): var for place in info["typed"] for var, step in place}
+        self.typed = {plain(step): var for place in info["typed"] for var, step in place}
 
     def path(self, segments):
-        segments = [s for s in segments if s != "before"]
+        segments = ["requires" if s == "pre" else s for s in segments if s != "before"]
         if not segments:
             return ""
-        first, rest = dash(segments[0]), segments[1:]
+        first, rest = plain(segments[0]), segments[1:]
         for old, path, arm, field in self.arms:
             if old == first and [dash(x) for x in rest[: len(path)]] == path:
                 return "." + ".".join([arm, field, *rest[len(path) :]])
@@ -78,10 +87,13 @@ class Function:
             return ".type_inv." + self.typed[first] + "".join("." + r for r in rest if r != "given")
         if first in self.steps:
             new = self.steps[first]
-            if rest[:1] == ["new"] and rest[1:2] and rest[1].isdigit() and first in self.called:
-                muts = MUTS.get(self.called[first].split("::")[-1], [])
+            if rest[:1] in (["new"], ["auto"]) and rest[1:2] and rest[1].isdigit() and first in self.called:
+                muts = lent(self.called[first])
                 if int(rest[1]) < len(muts):
-                    rest = ["new", muts[int(rest[1])], *rest[2:]]
+                    rest = [rest[0], muts[int(rest[1])], *rest[2:]]
+            if new.startswith("if-not-") and rest in (["true"], ["false"]):
+                self.flips = True
+                return "." + new + "." + rest[0] + "!"
             return "." + ".".join([new, *[WORDS.get(r, r) for r in rest]])
         return "." + ".".join(WORDS.get(dash(s), s) if s not in ("0", "1") else s for s in segments)
 
@@ -99,13 +111,46 @@ def blocks(text):
     return out
 
 
-def split_decls(block):
-    """A block may hold comments, then one declaration or several."""
-    return block
+def inlined(text):
+    """Helpers that take the facts known after a call are written out where they are used: no type of today's names those facts."""
+    bodies = {}
+    out = []
+    for block in blocks(text):
+        code = [l for l in block if not l.startswith("--")]
+        m = code and re.match(r"^(?:abbrev )?(\S+) : \((\w+) : tie\.(?:After|At)-[^()]*\) → (?!.*→)", code[0])
+        need = code and re.match(r"^(\S+) : tie\.Need-", code[0])
+        if need and not any(l.startswith("unfolding ") for l in code):
+            c = re.match(r"^" + re.escape(need.group(1)) + r" (\w+) =\s*", "\n".join(code[1:]))
+            if c:
+                bodies[need.group(1)] = (c.group(1), " ".join("\n".join(code[1:])[c.end() :].split()))
+        rest = "\n".join(l for l in code[1:] if not l.startswith("unfolding "))
+        c = m and re.match(r"^" + re.escape(m.group(1)) + r" (\w+) =\s*", rest)
+        if not c or any(l.startswith("unfolding ") for l in code):
+            out.append("\n".join(block))
+            continue
+        bodies[m.group(1)] = (c.group(1), " ".join(rest[c.end() :].split()))
+    text = "\n\n".join(out)
+    known = {"c"} | set(re.findall(r"let (\w+) = \w+(?:\.before)+ in", text))
+    for name in reversed(list(bodies)):
+        var, body = bodies[name]
+        simple = re.fullmatch(r"[^\s()]+", body)
+
+        def use(m):
+            if m.group(2).split(".")[0] not in known or re.match(r" =|\s+[\w'-]", text[m.end() : m.end() + 3]) and text[m.start() - 1 : m.start()] == "\n":
+                return m.group(0)
+            inner = re.sub(r"(?<![\w.'’₀-])" + re.escape(var) + r"(?![\w'’₀-])", lambda k: m.group(2), body)
+            return inner if simple else "(" + inner + ")"
+
+        text = re.sub(r"(?<![\w.'’₀-])(" + re.escape(name) + r") (\w+(?:\.before)*)(?![\w'-])", use, text)
+    if bodies:
+        old = None
+        while old != text:
+            old, text = text, re.sub(r"(?<![\w'’₀-])\((\w[\w'’₀-]*(?:\.[\w'’₀-]+)*)\)", r"\1", text)
+    return text
 
 
 def turn(folder, fn, crate, path, old_text):
-    text = open(os.path.join(folder, "Proof.antt"), encoding="utf-8").read()
+    text = inlined(open(os.path.join(folder, "Proof.antt"), encoding="utf-8").read().replace(".«record»", ".record"))
     left = []
     old_needs = re.findall(r"(?m)^\s*\S+ : (?:\([^)]*\) → )?tie\.Need-(\S+)", old_text)
     by_old = {dash(a): b for a, b in fn.needs}
@@ -114,7 +159,7 @@ def turn(folder, fn, crate, path, old_text):
     loops = list(fn.info["loops"])
     changed = list(fn.info["changed"])
     inv, ans, nth, renamed = [], [], 0, {}
-    helpers = {}
+    helpers, own = {}, {}
     need_at = 0
     pending = []
     for block in blocks(body):
@@ -166,7 +211,9 @@ def turn(folder, fn, crate, path, old_text):
                     new = by_old.get(old)
             rest = "\n".join(code[1:])
             rhs = re.sub(r"^\S+( [^=\n]*?)? =\s*", "", re.sub(r"(?m)^unfolding .*\n", "", rest), count=1).strip()
-            if rhs == "search rules":
+            cited = len(re.findall(r"(?<![\w.'’₀-])" + re.escape(m.group(2)) + r" (?:c\b|\w+\b)", "\n".join(l for b in blocks(body) for l in b if not l.startswith(m.group(2) + " ")))) > 0
+            own[m.group(2)] = new
+            if (rhs == "search rules" and not cited) or ".match.rest" in rest:
                 pending = []
                 continue
             if new is None:
@@ -184,6 +231,8 @@ def turn(folder, fn, crate, path, old_text):
         ans.append((pending + comments, None, code, None))
         pending = []
         hm = re.match(r"^(?:abbrev )?(\S+) : \((\w+) : tie\.([^\s)]+)", head)
+        if hm and re.search(r"→ tie\.\S+", head) and re.search(r"= \w+(\.before)+$", "\n".join(code)):
+            code[0] = re.sub(r"→ tie\.\S+", "→ tie." + hm.group(3), head)
         if hm:
             helpers[hm.group(1)] = fn.places.get(dash(hm.group(3)))
 
@@ -195,17 +244,29 @@ def turn(folder, fn, crate, path, old_text):
         return n if at == to else None
 
     def paths(chunk, place):
-        aliases = {"c"}
+        aliases, steps = {"c"}, {}
         for a, b in re.findall(r"let (\S+) = (\S+?) in", chunk):
             parts = b.split(".")
+            rest = [p for p in parts[1:] if p != "before"]
+            if parts[0] in aliases and len(rest) == 1 and plain(rest[0]) in fn.called:
+                steps[a] = fn.called[plain(rest[0])]
             if parts[0] in aliases and all(p == "before" for p in parts[1:]):
                 aliases.add(a)
         def one(m):
             root, segs = m.group(1), m.group(2)[1:].split(".")
             if root in aliases:
-                return root + fn.path(segs)
+                out = root + fn.path(segs)
+                return "(ap not " + out[:-1] + ")" if out.endswith("!") else out
+            if root in steps and segs[0] in ("new", "auto") and segs[1:2] and segs[1].isdigit() and int(segs[1]) < len(lent(steps[root])):
+                segs[1] = lent(steps[root])[int(segs[1])]
+            if root[0].islower() and not root.startswith("goal"):
+                return root + "".join("." + (WORDS.get(s, s) if "-" in s else s) for s in segs)
             return m.group(0)
         out = PATH.sub(one, chunk)
+        out = re.sub(r"\(not-(?:true|false) [^\s()]+ \(ap not ([^\s()]+)\)\)", r"\1", out)
+        for name, new in own.items():
+            if new:
+                out = re.sub(r"(?<![\w.'’₀-])" + re.escape(name) + r"(?= (?:c|\w+)\b(?! =))", new, out)
         for h, hp in helpers.items():
             if hp and place:
                 def call(m):
@@ -232,6 +293,8 @@ def turn(folder, fn, crate, path, old_text):
     def write(name, module_name, rows):
         with open(os.path.join(folder, name), "w", encoding="utf-8") as f:
             places = [f"use {module}.Goals.{{{', '.join(sorted(named))}}}"] if named and module_name == "Goals" else []
+            if any("(ap not " in r for r in rows):
+                places.append("use Rattle.std.proofs.Common.{ap, not}")
             f.write("\n".join(uses + [f"use {module}.{module_name} as goal"] + places + [""] + rows).rstrip("\n") + "\n")
     if inv:
         rows = []

@@ -41,7 +41,7 @@ or_low k a b =
 
 -- ---- `all_paths`: the flags so far, and those of the bytes that are left
 pub flags_first : (s : List ℕ) (k : ℕ) → (leb 0 (2 ^ k - 1) && all_at_most (2 ^ k - 1) s) ≡ all_at_most (2 ^ k - 1) s
-flags_first s k = ap (λ (t : Bool). t && all_at_most (2 ^ k - 1) s) (Dec.leb_zero (2 ^ k - 1))
+flags_first s k = ap (λ (t : Bool). t && all_at_most (2 ^ k - 1) s) (Dec.leb-zero (2 ^ k - 1))
 
 module _ (s : List ℕ) (flags i : ℕ) (so_far : (k : ℕ) → (leb flags (2 ^ k - 1) && all_at_most (2 ^ k - 1) (drop i s)) ≡ all_at_most (2 ^ k - 1) s) where
   pub flags_more : i < length s → (k : ℕ) → (leb (bit_or flags (get_or s i 0)) (2 ^ k - 1) && all_at_most (2 ^ k - 1) (drop (i + 1) s)) ≡ all_at_most (2 ^ k - 1) s

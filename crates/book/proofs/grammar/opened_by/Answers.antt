@@ -1,0 +1,68 @@
+use borrow.Author.Rules.{rules}
+use mathlib.Core.Path.{refl, ap, ◌∙◌}
+use Rattle.book.specs.Lines.{line_in}
+use Rattle.book.specs.Codes.{code_of}
+use Rattle.book.proofs.Sizes.{goal_opens, call_line, group_line, pick_line, undecided_line, unknown_line}
+use Rattle.book.proofs.grammar.opened_by.Goals as goal
+
+pub returns-in-Goal : goal.returns-in-Goal
+unfolding line_in
+returns-in-Goal c =
+    λ inner ls.
+    let a = c.args in
+    let number = c.field_at-number in
+    let is = c.of_number-code.ensures ∙ ap code_of number.ensures in
+    goal_opens a.goals a.in_pick inner (line_in a.s.now) ls _ is _ refl c.in-Goal.is
+
+pub returns-in-Call : goal.returns-in-Call
+unfolding line_in
+returns-in-Call c =
+    λ inner ls.
+    let a = c.args in
+    let number = c.field_at-number in
+    let is = c.of_number-code.ensures ∙ ap code_of number.ensures in
+    let fits = c.call_fits in
+    call_line a.goals a.in_pick inner (line_in a.s.now) ls _ is c.opened_if.result fits.result c.opened_if.ensures
+    fits.ensures c.in-Call.is
+
+pub returns-in-Group : goal.returns-in-Group
+unfolding line_in
+returns-in-Group c =
+    λ inner ls.
+    let a = c.args in
+    let number = c.field_at-number in
+    let is = c.of_number-code.ensures ∙ ap code_of number.ensures in
+    let fits = c.uses_first in
+    group_line a.goals a.in_pick inner (line_in a.s.now) ls _ is c.opened_if-in-Group.result fits.result _
+    c.field_at.ensures _ c.opened_if-in-Group.ensures fits.ensures c.in-Group.is
+
+pub returns-in-Pick : goal.returns-in-Pick
+unfolding line_in
+returns-in-Pick c =
+    λ inner ls.
+    let a = c.args in
+    let number = c.field_at-number in
+    let is = c.of_number-code.ensures ∙ ap code_of number.ensures in
+    let fits = c.pick_fits in
+    pick_line a.goals a.in_pick inner (line_in a.s.now) ls _ is c.opened_if-in-Pick.result fits.result _
+    c.field_at-in-Pick.ensures c.opened_if-in-Pick.ensures fits.ensures c.in-Pick.is
+
+pub returns-in-Undecided : goal.returns-in-Undecided
+unfolding line_in
+returns-in-Undecided c =
+    λ inner ls.
+    let a = c.args in
+    let number = c.field_at-number in
+    let is = c.of_number-code.ensures ∙ ap code_of number.ensures in
+    let fits = c.undecided_fits_lem in
+    undecided_line a.goals a.in_pick inner (line_in a.s.now) ls _ is c.opened_if-in-Undecided.result fits.result
+    c.opened_if-in-Undecided.ensures fits.ensures c.in-Undecided.is
+
+pub returns-in-Unknown : goal.returns-in-Unknown
+unfolding line_in
+returns-in-Unknown c =
+    λ inner ls.
+    let a = c.args in
+    let number = c.field_at-number in
+    let is = c.of_number-code.ensures ∙ ap code_of number.ensures in
+    unknown_line a.goals a.in_pick inner (line_in a.s.now) ls _ is _ refl c.in-Unknown.is

@@ -1,0 +1,13 @@
+use borrow.Author.Rules.{rules}
+use Prim.Native.Nat.{◌+◌, ◌≤◌, ◌<◌}
+use native.Mathlib.Omega.{arith}
+use lib.ListN.{length}
+use Rattle.book.proofs.Lines.{shorter}
+use Rattle.book.proofs.Skips.{PendingAfter, Stands, stands_first, stands_next, next_starts, next_ends, next_room, next_line, next_part, next_turn_lem}
+use Rattle.book.proofs.part.next.Given as goal
+
+abbrev pub invariant-loop-pending : goal.invariant-loop-pending
+invariant-loop-pending l = (length l.t ≤ length l.part) × ((length l.t < length l.part + l.pending) × (Stands l.part l.t × PendingAfter l.part l.pending l.t))
+
+abbrev pub decreases-loop-pending : goal.decreases-loop-pending
+decreases-loop-pending l = length l.t

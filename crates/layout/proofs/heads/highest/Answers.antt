@@ -1,0 +1,17 @@
+use mathlib.Core.Path.{◌∙◌}
+use Prim.Native.Nat.{◌-◌}
+use Rattle.layout.specs.Blocks.{heads_of}
+use Rattle.layout.proofs.Present.{mask_highest}
+use borrow.Author.Rules.{rules}
+use Rattle.layout.proofs.heads.highest.Goals as goal
+
+pub mask-requires : goal.mask-requires
+mask-requires c = search rules
+
+pub highest-requires : goal.highest-requires
+highest-requires c = search rules
+
+pub returns : goal.returns
+returns c =
+    let s = c in
+    c.highest.ensures ∙ mask_highest (heads_of s.args.goals s.args.b.now) (64 - s.args.goals) c.mask.result c.mask.ensures

@@ -1,0 +1,22 @@
+use mathlib.Core.Path.{ap, ◌∙◌}
+use mathlib.Core.List.{List, ◌++◌}
+use mathlib.Core.Bool.{Bool, false}
+use Prim.Native.Nat.{ℕ, ◌-◌}
+use lib.ListN.{take, replicate}
+use Rattle.bits.specs.Masks.{flags}
+use Rattle.layout.proofs.Present.{present_mask}
+use borrow.Author.Rules.{rules}
+use Rattle.layout.proofs.heads.mask.Goals as goal
+
+pub read_u64-requires : goal.read_u64-requires
+read_u64-requires c = search rules
+
+pub below-requires : goal.below-requires
+below-requires c = search rules
+
+pub returns : goal.returns
+returns c =
+    let s = c in
+    c.below.ensures
+    ∙ ap (λ (m : ℕ). take s.args.goals (flags 64 m) ++ replicate (64 - s.args.goals) false) c.read_u64.ensures
+    ∙ ap (λ (l : List Bool). l ++ replicate (64 - s.args.goals) false) (present_mask s.args.goals s.args.b.now s.requires.few)

@@ -1,0 +1,23 @@
+use mathlib.Core.Path.{◌≡◌, sym, ap, ◌∙◌}
+use Prim.Native.Nat.{ℕ}
+use mathlib.Core.List.{List}
+use native.Mathlib.Omega.{arith}
+use lib.ListN.{length, get_or, set}
+use lib.Bits.{bit_or}
+use Rattle.buffer.specs.Regions.{region, overwrite}
+use Rattle.buffer.proofs.Regions.{overwrite_part, length_region, byte_before}
+use Rattle.definition.specs.Usages.{one_usage}
+use Rattle.layout.specs.Blocks.{usages_of, head_of}
+use Rattle.layout.proofs.Counted.{head_joined, one_more}
+use Rattle.layout.proofs.records.count_head.Goals as goal
+
+pub returns : goal.returns
+returns c =
+    let s = c in
+    let bs : List ℕ = s.args.b.now in
+    let p : ℕ = s.args.paths in
+    let ys : List ℕ = c.count_usage.new.b in
+    let whole : length ys ≡ 32 = c.count_usage.auto.b ∙ length_region 1 32 bs (omega (arith, s.requires)) in
+    ap (λ (l : List ℕ). head_of (set l 0 (bit_or (get_or l 0 0) p))) (overwrite_part bs 1 33 ys whole)
+    ∙ head_joined bs ys p (bit_or (get_or (overwrite bs 1 ys) 0 0) p) (one_usage s.args.kind) s.requires whole (c.count_usage.ensures ∙ sym (one_more (usages_of (region 1 32 bs)) s.args.kind))
+    (ap (λ (x : ℕ). bit_or x p) (byte_before bs 1 ys (omega (arith, s.requires, whole)) 0 (omega arith)))
