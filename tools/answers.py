@@ -38,24 +38,12 @@ WORDS = {dash(w): w for w in re.findall(r"\b[a-z]\w*_\w+\b", "\n".join(SOURCE.va
 plain = lambda s: dash(s).lower().replace("«", "").replace("»", "")
 
 
-def lent(callee):
-    """The `&mut` parameters of a function, by its whole name."""
-    parts = callee.split("::")
-    for n in range(len(parts) - 1, 0, -1):
-        base = "crates/" + parts[0] + "/src" + "".join("/" + p for p in parts[1:n])
-        for path in (base + ".rt", base + "/lib.rt", base + "/main.rt", base + "/mod.rt"):
-            found = path in SOURCE and re.search(r"fn " + re.escape(parts[-1]) + r"\s*(?:<[^>]*>)?\(([^)]*)\)", SOURCE[path])
-            if found:
-                rows = [p.strip() for p in found.group(1).split(",")]
-                return [p.split(":")[0].strip().split()[-1].lstrip("&") for p in rows if re.search(r"&('\w+ )?mut ", p)]
-    return []
-
-
 class Function:
     def __init__(self, info):
         self.info = info
         self.needs = info["needs"]
         self.steps, self.called = {}, {}
+        self.params = info["params"]
         for old, parent, (a, b), callee, _ in info["places"]:
             if a:
                 self.steps.setdefault(plain(a), b)
@@ -72,6 +60,12 @@ class Function:
                 for field, old, path in arm[2]:
                     if path or not field.endswith("-own"):
                         self.arms.append((plain(old), [dash(x) for x in path], arm[0], field))
+        self.matches = {}
+        for place, arm in zip(info["places"], info["arms"]):
+            if arm and place[0].startswith("At-match"):
+                for field, old, path in arm[2]:
+                    if not path and old.startswith("match"):
+                        self.matches.setdefault(place[0], (arm[0], field))
         self.arms.sort(key=lambda a: -len(a[1]))
         self.typed = {plain(step): var for place in info["typed"] for var, step in place}
 
@@ -80,6 +74,13 @@ class Function:
         if not segments:
             return ""
         first, rest = plain(segments[0]), segments[1:]
+        if first == "well-formed":
+            return "." + ".".join(["well_formed", *rest])
+        if first not in self.steps and first.endswith("-lem"):
+            first = first[:-4]
+        if re.match(r"match\d*$", first) and rest[:1] and "At-" + first + "-" + rest[0] in self.matches:
+            arm, own = self.matches["At-" + first + "-" + rest[0]]
+            return "." + ".".join([arm, own, *rest])
         for old, path, arm, field in self.arms:
             if old == first and [dash(x) for x in rest[: len(path)]] == path:
                 return "." + ".".join([arm, field, *rest[len(path) :]])
@@ -88,7 +89,7 @@ class Function:
         if first in self.steps:
             new = self.steps[first]
             if rest[:1] in (["new"], ["auto"]) and rest[1:2] and rest[1].isdigit() and first in self.called:
-                muts = lent(self.called[first])
+                muts = self.params.get(self.called[first], [])
                 if int(rest[1]) < len(muts):
                     rest = [rest[0], muts[int(rest[1])], *rest[2:]]
             if new.startswith("if-not-") and rest in (["true"], ["false"]):
@@ -149,8 +150,22 @@ def inlined(text):
     return text
 
 
-def turn(folder, fn, crate, path, old_text):
-    text = inlined(open(os.path.join(folder, "Proof.antt"), encoding="utf-8").read().replace(".«record»", ".record"))
+def straight(text, name):
+    """The walk of a cycle of calls in the form of a walk of one function."""
+    lts = re.escape(name) + r"-lts\."
+    text = re.sub(r"(?m)^(\S+) : \(t : ℕ\) → " + lts + r"(Need-\S+).*$", r"\1 : tie.\2", text)
+    text = re.sub(r"(?m)^(\S+) : " + lts + r"(invariant|InvT|decreases|MeasureT)-", r"\1 : tie.\2-", text)
+    text = re.sub(r"(?m)^(" + re.escape(name) + r"-\S+) t (\w+)", r"\1 \2", text)
+    text = re.sub(r"(?ms)^pub \+.*\Z", "", text)
+    keep = [b for b in blocks(text) if re.match(r"use |abbrev \S+ : tie|\S+ : tie", [l for l in b if not l.startswith("--")][0]) or name not in b[0]]
+    return "\n\n".join("\n".join(b) for b in keep)
+
+
+def turn(folder, fn, crate, path, old_text, cycle=None):
+    text = open(os.path.join(folder, "Proof.antt"), encoding="utf-8").read().replace(".«record»", ".record")
+    if cycle:
+        text, old_text = straight(text, cycle), straight(old_text, cycle)
+    text = inlined(text)
     left = []
     old_needs = re.findall(r"(?m)^\s*\S+ : (?:\([^)]*\) → )?tie\.Need-(\S+)", old_text)
     by_old = {dash(a): b for a, b in fn.needs}
@@ -213,7 +228,7 @@ def turn(folder, fn, crate, path, old_text):
             rhs = re.sub(r"^\S+( [^=\n]*?)? =\s*", "", re.sub(r"(?m)^unfolding .*\n", "", rest), count=1).strip()
             cited = len(re.findall(r"(?<![\w.'’₀-])" + re.escape(m.group(2)) + r" (?:c\b|\w+\b)", "\n".join(l for b in blocks(body) for l in b if not l.startswith(m.group(2) + " ")))) > 0
             own[m.group(2)] = new
-            if (rhs == "search rules" and not cited) or ".match.rest" in rest:
+            if (rhs == "search rules" and not cited):
                 pending = []
                 continue
             if new is None:
@@ -222,7 +237,7 @@ def turn(folder, fn, crate, path, old_text):
                 continue
             unf = [l for l in code[1:] if l.startswith("unfolding ")]
             clause = [l for l in code[1:] if not l.startswith("unfolding ")]
-            first = re.sub(r"^\S+", new, clause[0]).replace(" κs", "", 1)
+            first = re.sub(r"^\S+", new + (" t" if cycle else ""), clause[0]).replace(" κs", "", 1)
             place = dict((n, b) for n, (a, b) in zip([x[1] for x in fn.needs], fn.info["asked_at"])).get(new)
             ans.append((pending + comments, [f"pub {new} : goal.{new}"] + unf, [first] + clause[1:], place))
             pending = []
@@ -248,8 +263,8 @@ def turn(folder, fn, crate, path, old_text):
         for a, b in re.findall(r"let (\S+) = (\S+?) in", chunk):
             parts = b.split(".")
             rest = [p for p in parts[1:] if p != "before"]
-            if parts[0] in aliases and len(rest) == 1 and plain(rest[0]) in fn.called:
-                steps[a] = fn.called[plain(rest[0])]
+            if parts[0] in aliases and len(rest) == 1 and re.sub("-lem$", "", plain(rest[0])) in fn.called:
+                steps[a] = fn.called[re.sub("-lem$", "", plain(rest[0]))]
             if parts[0] in aliases and all(p == "before" for p in parts[1:]):
                 aliases.add(a)
         def one(m):
@@ -257,8 +272,8 @@ def turn(folder, fn, crate, path, old_text):
             if root in aliases:
                 out = root + fn.path(segs)
                 return "(ap not " + out[:-1] + ")" if out.endswith("!") else out
-            if root in steps and segs[0] in ("new", "auto") and segs[1:2] and segs[1].isdigit() and int(segs[1]) < len(lent(steps[root])):
-                segs[1] = lent(steps[root])[int(segs[1])]
+            if root in steps and segs[0] in ("new", "auto") and segs[1:2] and segs[1].isdigit() and int(segs[1]) < len(fn.params.get(steps[root], [])):
+                segs[1] = fn.params[steps[root]][int(segs[1])]
             if root[0].islower() and not root.startswith("goal"):
                 return root + "".join("." + (WORDS.get(s, s) if "-" in s else s) for s in segs)
             return m.group(0)
@@ -325,6 +340,10 @@ def main():
         if only and path not in only:
             continue
         key = f"Rattle-{crate}-proofs.{path}.Lts"
+        names_of = [k for k in info if k.startswith(f"Rattle-{crate}-proofs.{path}.Lts-")]
+        if len(names_of) == 1:
+            turn(folder, Function(info[names_of[0]]), crate, path, git("show", f"{commit}:{folder}/Proof.antt"), dash(names_of[0].split(".Lts-")[1]))
+            continue
         if key not in info:
             print(f"{folder}: not in {names}")
             continue

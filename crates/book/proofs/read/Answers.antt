@@ -1,5 +1,4 @@
 use borrow.Author.Tests.{not-false}
-use borrow.Author.Rules.{rules}
 use mathlib.Core.Bool.{Bool, false, not}
 use mathlib.Core.Option.{some}
 use mathlib.Core.List.{List}
@@ -41,8 +40,8 @@ read_body-requires c = let r = length_fits (length c.args.book.now) (held c.leng
 
 pub returns-then-not-read_body : goal.returns-then-not-read_body
 returns-then-not-read_body c = let a = c.args in
-    wrong_body a.book.now c.read_body.new.1.0 (held c.length_fits.ensures (ap not c.if-not-length_fits.false)) (fitting c.all_fit.result a.book.now c.all_fit.ensures (ap not c.if-not-all_fit.false)) c.first-l.result c.first-l.ensures (held c.in_range.ensures (ap not c.if-not-in_range.false)) c.of_line-h.result c.of_line-h.ensures c.read_body.result c.read_body.ensures.0 (ap not c.if-not-read_body.true)
+    wrong_body a.book.now c.read_body.new.starts (held c.length_fits.ensures (ap not c.if-not-length_fits.false)) (fitting c.all_fit.result a.book.now c.all_fit.ensures (ap not c.if-not-all_fit.false)) c.first-l.result c.first-l.ensures (held c.in_range.ensures (ap not c.if-not-in_range.false)) c.of_line-h.result c.of_line-h.ensures c.read_body.result c.read_body.ensures.0 (ap not c.if-not-read_body.true)
 
 pub returns : goal.returns
 returns c = let a = c.args in
-    whole_book a.book.now c.read_body.new.1.0 (held c.length_fits.ensures (ap not c.if-not-length_fits.false)) (fitting c.all_fit.result a.book.now c.all_fit.ensures (ap not c.if-not-all_fit.false)) c.first-l.result c.first-l.ensures (held c.in_range.ensures (ap not c.if-not-in_range.false)) c.of_line-h.result c.of_line-h.ensures c.read_body.result c.read_body.ensures.0 (ap not c.if-not-read_body.false) c.read_body.ensures.1
+    whole_book a.book.now c.read_body.new.starts (held c.length_fits.ensures (ap not c.if-not-length_fits.false)) (fitting c.all_fit.result a.book.now c.all_fit.ensures (ap not c.if-not-all_fit.false)) c.first-l.result c.first-l.ensures (held c.in_range.ensures (ap not c.if-not-in_range.false)) c.of_line-h.result c.of_line-h.ensures c.read_body.result c.read_body.ensures.0 (ap not c.if-not-read_body.false) c.read_body.ensures.1

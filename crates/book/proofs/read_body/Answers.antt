@@ -1,10 +1,9 @@
-use borrow.Author.Rules.{rules}
-use mathlib.Core.Path.{◌≡◌, refl, ◌∙◌}
-use Prim.Native.Nat.{◌+◌, ◌-◌, ◌≤◌, ◌<◌}
+use mathlib.Core.Path.{refl, ◌∙◌}
+use Prim.Native.Nat.{◌+◌, ◌≤◌, ◌<◌}
 use native.Mathlib.Omega.{arith}
 use lib.ListN.{length, length-set}
 use Rattle.book.proofs.Sizes.{further}
-use Rattle.book.proofs.Bodies.{Body, body_starts, body_bad, line_room, body_good, body_ends}
+use Rattle.book.proofs.Bodies.{body_starts, body_bad, line_room, body_good, body_ends}
 use Rattle.book.proofs.read_body.Goals as goal
 use Rattle.book.proofs.read_body.Goals.{Else-n-eq0}
 
@@ -45,7 +44,7 @@ pub overflow_cast-starts : goal.overflow_cast-starts
 overflow_cast-starts c = omega (arith, room c, c.requires.1.0)
 
 pub offset_bounds-starts-g : goal.offset_bounds-starts-g
-offset_bounds-starts-g c = omega (arith, slot c, c.well-formed.1.0)
+offset_bounds-starts-g c = omega (arith, slot c, c.well_formed.1.0)
 
 pub bounds-starts-g : goal.bounds-starts-g
 bounds-starts-g c = slot c

@@ -1,10 +1,7 @@
-use borrow.Author.Rules.{rules}
-use mathlib.Core.Path.{◌≡◌, refl, ◌∙◌}
-use Prim.Native.Nat.{◌+◌, ◌-◌, ◌≤◌, ◌<◌}
-use native.Mathlib.Omega.{arith}
-use lib.ListN.{length, length-set}
-use Rattle.book.proofs.Sizes.{further}
-use Rattle.book.proofs.Bodies.{Body, body_starts, body_bad, line_room, body_good, body_ends}
+use mathlib.Core.Path.{◌≡◌}
+use Prim.Native.Nat.{◌-◌}
+use lib.ListN.{length}
+use Rattle.book.proofs.Bodies.{Body}
 use Rattle.book.proofs.read_body.Given as goal
 
 abbrev pub invariant-loop-g : goal.invariant-loop-g

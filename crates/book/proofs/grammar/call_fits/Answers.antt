@@ -1,4 +1,3 @@
-use borrow.Author.Rules.{rules}
 use mathlib.Core.Path.{◌∙◌}
 use Rattle.book.specs.Lines.{line_in}
 use Rattle.book.proofs.Sizes.{no_goal, no_kind, no_lower, rest_left}

@@ -1,4 +1,3 @@
-use borrow.Author.Rules.{rules}
 use native.Mathlib.Omega.{arith}
 use Rattle.book.proofs.Sizes.{goal_short, goal_wrong, goal_none, goal_some, further}
 use Rattle.book.proofs.grammar.goal_size.Goals as goal

@@ -1,4 +1,3 @@
-use borrow.Author.Rules.{rules}
 use mathlib.Core.Path.{ap, ◌∙◌}
 use Rattle.book.specs.Lines.{line_in}
 use Rattle.book.specs.Codes.{code_of}

@@ -1,4 +1,3 @@
-use borrow.Author.Rules.{rules}
 use mathlib.Core.Path.{refl, ap, ◌∙◌}
 use Rattle.book.specs.Lines.{line_in}
 use Rattle.book.specs.Codes.{code_of}
@@ -54,7 +53,7 @@ returns-in-Undecided c =
     let a = c.args in
     let number = c.field_at-number in
     let is = c.of_number-code.ensures ∙ ap code_of number.ensures in
-    let fits = c.undecided_fits_lem in
+    let fits = c.undecided_fits in
     undecided_line a.goals a.in_pick inner (line_in a.s.now) ls _ is c.opened_if-in-Undecided.result fits.result
     c.opened_if-in-Undecided.ensures fits.ensures c.in-Undecided.is
 

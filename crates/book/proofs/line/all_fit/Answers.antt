@@ -1,7 +1,4 @@
-use borrow.Author.Rules.{rules}
-use mathlib.Core.Path.{◌≡◌, refl}
-use lib.ListN.{length}
-use Rattle.book.specs.Lines.{all_fit}
+use mathlib.Core.Path.{refl}
 use Rattle.book.proofs.Tests.{refused, held}
 use Rattle.book.proofs.Lines.{turn_bad, turn_good, turn_end, shorter}
 use Rattle.book.proofs.line.all_fit.Goals as goal

@@ -1,9 +1,6 @@
-use borrow.Author.Rules.{rules}
-use mathlib.Core.Path.{◌≡◌, refl}
+use mathlib.Core.Path.{◌≡◌}
 use lib.ListN.{length}
 use Rattle.book.specs.Lines.{all_fit}
-use Rattle.book.proofs.Tests.{refused, held}
-use Rattle.book.proofs.Lines.{turn_bad, turn_good, turn_end, shorter}
 use Rattle.book.proofs.line.all_fit.Given as goal
 
 abbrev pub invariant-loop-t : goal.invariant-loop-t

@@ -1,4 +1,3 @@
-use borrow.Author.Rules.{rules}
 use mathlib.Core.Path.{sym, ◌∙◌}
 use Rattle.book.proofs.Tests.{last_only}
 use Rattle.book.proofs.line.field.Goals as goal

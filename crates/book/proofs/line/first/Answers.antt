@@ -1,4 +1,3 @@
-use borrow.Author.Rules.{rules}
 use Rattle.book.specs.Lines.{line_in}
 use Rattle.book.proofs.line.first.Goals as goal
 

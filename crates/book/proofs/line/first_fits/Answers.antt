@@ -1,4 +1,3 @@
-use borrow.Author.Rules.{rules}
 use Rattle.book.proofs.Tests.{refused, held}
 use Rattle.book.proofs.Lines.{bad_1, bad_2, bad_3, bad_4, bad_5, only_newline}
 use Rattle.book.proofs.line.first_fits.Goals as goal

@@ -1,4 +1,3 @@
-use borrow.Author.Rules.{rules}
 use mathlib.Core.Path.{sym, ◌∙◌}
 use Rattle.book.proofs.Tests.{refused, held, no_spaces, no_last, filled, unfilled, one_column, two_columns}
 use Rattle.book.proofs.line.is_field.Goals as goal

@@ -1,9 +1,8 @@
-use borrow.Author.Rules.{rules}
-use Prim.Native.Nat.{◌+◌, ◌≤◌, ◌<◌}
+use Prim.Native.Nat.{◌<◌}
 use native.Mathlib.Omega.{arith}
 use lib.ListN.{length}
 use Rattle.book.proofs.Lines.{shorter}
-use Rattle.book.proofs.Skips.{PendingAfter, Stands, stands_first, stands_next, next_starts, next_ends, next_room, next_line, next_part, next_turn_lem}
+use Rattle.book.proofs.Skips.{stands_first, stands_next, next_starts, next_ends, next_room, next_line, next_part, next_turn_lem}
 use Rattle.book.proofs.part.next.Goals as goal
 
 pub loop-pending-init : goal.loop-pending-init
@@ -21,7 +20,7 @@ overflow_add-pending c =
     let l = c.loop-pending in
     let f = c in
     let r = next_room f.args.part.now l.pending l.t.now l.invariant.1.1.1 f.requires in
-    omega (arith, r, l.invariant.0, c.below.ensures.1, f.well-formed.0.0)
+    omega (arith, r, l.invariant.0, c.below.ensures.1, f.well_formed.0.0)
 
 pub slice_bounds-t-count : goal.slice_bounds-t-count
 slice_bounds-t-count c =
@@ -30,7 +29,7 @@ slice_bounds-t-count c =
     next_line f.args.part.now l.pending l.t.now l.invariant.1.1.1 f.requires c.loop-pending-test.true
 
 pub slice_bounds-t-start : goal.slice_bounds-t-start
-slice_bounds-t-start c = slice_bounds-t-count c
+slice_bounds-t-start c = (let l = c.loop-pending in let f = c in next_line f.args.part.now l.pending l.t.now l.invariant.1.1.1 f.requires c.loop-pending-test.true)
 
 pub loop-pending-smaller : goal.loop-pending-smaller
 loop-pending-smaller c =

@@ -1,9 +1,6 @@
-use borrow.Author.Rules.{rules}
 use Prim.Native.Nat.{◌+◌, ◌≤◌, ◌<◌}
-use native.Mathlib.Omega.{arith}
 use lib.ListN.{length}
-use Rattle.book.proofs.Lines.{shorter}
-use Rattle.book.proofs.Skips.{PendingAfter, Stands, stands_first, stands_next, next_starts, next_ends, next_room, next_line, next_part, next_turn_lem}
+use Rattle.book.proofs.Skips.{PendingAfter, Stands}
 use Rattle.book.proofs.part.next.Given as goal
 
 abbrev pub invariant-loop-pending : goal.invariant-loop-pending

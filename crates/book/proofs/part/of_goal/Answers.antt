@@ -1,4 +1,3 @@
-use borrow.Author.Rules.{rules}
 use lib.ListN.{get_or}
 use Rattle.definition.proofs.Lists.{part_from_lem}
 use Rattle.book.proofs.part.of_goal.Goals as goal

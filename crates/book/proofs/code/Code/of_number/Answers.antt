@@ -24,3 +24,9 @@ returns-in-6 c = search rules
 
 pub returns-in-0 : goal.returns-in-0
 returns-in-0 c = search rules
+
+pub returns-in-0-2 : goal.returns-in-0-2
+returns-in-0-2 c =
+    let r = c.in-0.in-0-own.rest in
+    no_code c.args.number r.0.0.0.0.0.0.1 r.0.0.0.0.0.1 r.0.0.0.0.1 r.0.0.0.1
+    r.0.0.1 r.0.1
