@@ -38,8 +38,22 @@ WORDS = {dash(w): w for w in re.findall(r"\b[a-z]\w*_\w+\b", "\n".join(SOURCE.va
 plain = lambda s: dash(s).lower().replace("«", "").replace("»", "")
 
 
+def clauses(callee, kind):
+    """The names of a function's clauses of a kind, where it has several."""
+    parts = callee.split("::")
+    for n in range(len(parts) - 1, 0, -1):
+        base = "crates/" + parts[0] + "/src" + "".join("/" + p for p in parts[1:n])
+        for path in (base + ".rt", base + "/lib.rt", base + "/main.rt", base + "/mod.rt"):
+            found = path in SOURCE and re.search(r"fn " + re.escape(parts[-1]) + r"\s*(?:<[^>]*>)?\([^)]*\)[^{;]*?(?:requires|ensures)?.*?\n *\{\n", SOURCE[path], re.S)
+            if found:
+                names = re.findall(r"(?m)^ +" + kind + r" (\w+) \{", found.group(0))
+                return names if len(names) > 1 else []
+    return []
+
+
 class Function:
-    def __init__(self, info):
+    def __init__(self, info, name):
+        self.name = name
         self.info = info
         self.needs = info["needs"]
         self.steps, self.called = {}, {}
@@ -70,7 +84,9 @@ class Function:
         self.typed = {plain(step): var for place in info["typed"] for var, step in place}
 
     def path(self, segments):
-        segments = ["requires" if s == "pre" else s for s in segments if s != "before"]
+        while segments and segments[0] == "before":
+            segments = segments[1:]
+        segments = ["requires" if s == "pre" and i == 0 else s for i, s in enumerate(segments)]
         if not segments:
             return ""
         first, rest = plain(segments[0]), segments[1:]
@@ -84,6 +100,10 @@ class Function:
         for old, path, arm, field in self.arms:
             if old == first and [dash(x) for x in rest[: len(path)]] == path:
                 return "." + ".".join([arm, field, *rest[len(path) :]])
+        if first == "requires" and rest[:1] and rest[0].isdigit():
+            own = clauses(self.name, "requires")
+            if int(rest[0]) < len(own):
+                return "." + ".".join(["requires", own[int(rest[0])], *rest[1:]])
         if first in self.typed:
             return ".type_inv." + self.typed[first] + "".join("." + r for r in rest if r != "given")
         if first in self.steps:
@@ -92,6 +112,10 @@ class Function:
                 muts = self.params.get(self.called[first], [])
                 if int(rest[1]) < len(muts):
                     rest = [rest[0], muts[int(rest[1])], *rest[2:]]
+            if rest[:1] == ["ensures"] and rest[1:2] and rest[1].isdigit() and first in self.called:
+                names = clauses(self.called[first], "ensures")
+                if int(rest[1]) < len(names):
+                    rest = ["ensures", names[int(rest[1])], *rest[2:]]
             if new.startswith("if-not-") and rest in (["true"], ["false"]):
                 self.flips = True
                 return "." + new + "." + rest[0] + "!"
@@ -342,12 +366,12 @@ def main():
         key = f"Rattle-{crate}-proofs.{path}.Lts"
         names_of = [k for k in info if k.startswith(f"Rattle-{crate}-proofs.{path}.Lts-")]
         if len(names_of) == 1:
-            turn(folder, Function(info[names_of[0]]), crate, path, git("show", f"{commit}:{folder}/Proof.antt"), dash(names_of[0].split(".Lts-")[1]))
+            turn(folder, Function(info[names_of[0]], "::".join([crate, *path.replace("+", "").split(".")])), crate, path, git("show", f"{commit}:{folder}/Proof.antt"), dash(names_of[0].split(".Lts-")[1]))
             continue
         if key not in info:
             print(f"{folder}: not in {names}")
             continue
-        turn(folder, Function(info[key]), crate, path, git("show", f"{commit}:{folder}/Proof.antt"))
+        turn(folder, Function(info[key], "::".join([crate, *path.split(".")])), crate, path, git("show", f"{commit}:{folder}/Proof.antt"))
 
 
 main()

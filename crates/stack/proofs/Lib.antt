@@ -6,7 +6,6 @@ pub mod Child
 pub mod Tracked
 pub mod Values
 pub mod Records
-pub mod Lent
 pub mod Loops
 pub mod Places
 pub mod Graph

@@ -1,0 +1,13 @@
+use Rattle.layout.specs.Frame.{frame_of}
+use borrow.Author.Rules.{rules}
+use Rattle.stack.proofs.frame.input.Goals as goal
+
+pub bounds-frame-0 : goal.bounds-frame-0
+bounds-frame-0 c = search rules
+
+pub wide-requires : goal.wide-requires
+wide-requires c = search rules
+
+pub returns : goal.returns
+unfolding frame_of
+returns c = c.wide.ensures
