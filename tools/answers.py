@@ -136,42 +136,97 @@ def blocks(text):
     return out
 
 
+ARG = r"(\w+(?:\.before)*|\([^()]*\)(?:\.before)*)"
+
+
 def inlined(text):
-    """Helpers that take the facts known after a call are written out where they are used: no type of today's names those facts."""
-    bodies = {}
-    out = []
+    """Helpers that take the facts known at a place are written out where they are used: no type of today's names those facts."""
+    bodies, order, out = {}, [], []
     for block in blocks(text):
         code = [l for l in block if not l.startswith("--")]
-        m = code and re.match(r"^(?:abbrev )?(\S+) : \((\w+) : tie\.(?:After|At)-[^()]*\) → (?!.*→)", code[0])
-        need = code and re.match(r"^(\S+) : tie\.Need-", code[0])
-        if need and not any(l.startswith("unfolding ") for l in code):
-            c = re.match(r"^" + re.escape(need.group(1)) + r" (\w+) =\s*", "\n".join(code[1:]))
-            if c:
-                bodies[need.group(1)] = (c.group(1), " ".join("\n".join(code[1:])[c.end() :].split()))
-        rest = "\n".join(l for l in code[1:] if not l.startswith("unfolding "))
-        c = m and re.match(r"^" + re.escape(m.group(1)) + r" (\w+) =\s*", rest)
-        if not c or any(l.startswith("unfolding ") for l in code):
+        if not code or any(l.startswith(("unfolding ", "use ", "pub ")) for l in code):
             out.append("\n".join(block))
             continue
-        bodies[m.group(1)] = (c.group(1), " ".join(rest[c.end() :].split()))
+        whole = "\n".join(code)
+        need = re.match(r"^(\S+) : tie\.Need-", whole)
+        path = re.match(r"^abbrev (\S+) : tie\.[^\n→]*→ tie\.[^\n→]*\n\1 (\w+) = ((?:\w+ )?\w+(?:\.before)*)$", whole)
+        helper = re.match(r"(?s)^(abbrev )?(\S+) : \((\w+) : tie\.[^()]*\)\s*(?:→ )?(.*?)\n\2 (\w+) =\s*(.*)$", whole)
+        if need:
+            c = re.match(r"(?s)^[^\n]*\n" + re.escape(need.group(1)) + r" (\w+) =\s*(.*)$", whole)
+            if c:
+                bodies[need.group(1)] = (c.group(1), " ".join(c.group(2).split()))
+                order.append(need.group(1))
+            out.append("\n".join(block))
+        elif path:
+            bodies[path.group(1)] = (path.group(2), path.group(3))
+            order.append(path.group(1))
+        elif helper:
+            name, var, kind, var2, body = helper.group(2), helper.group(3), helper.group(4), helper.group(5), helper.group(6)
+            body = " ".join(body.split())
+            if kind.startswith("("):
+                kind = None
+            if kind and not helper.group(1) and not re.match(r"tie\.", kind):
+                kind = re.sub(r"(?<![\w.'’₀-])" + re.escape(var) + r"(?![\w'’₀-])", var2, " ".join(kind.split()))
+                body = f"let it : {kind} = {body} in it"
+            bodies[name] = (var2, body)
+            order.append(name)
+        else:
+            out.append("\n".join(block))
     text = "\n\n".join(out)
+    if not bodies:
+        return text
     known = {"c"} | set(re.findall(r"let (\w+) = \w+(?:\.before)+ in", text))
-    for name in reversed(list(bodies)):
-        var, body = bodies[name]
-        simple = re.fullmatch(r"[^\s()]+", body)
+    for again in range(4):
+        for name in reversed(order):
+            var, body = bodies[name]
+            simple = re.fullmatch(r"[^\s()]+", body)
 
-        def use(m):
-            if m.group(2).split(".")[0] not in known or re.match(r" =|\s+[\w'-]", text[m.end() : m.end() + 3]) and text[m.start() - 1 : m.start()] == "\n":
-                return m.group(0)
-            inner = re.sub(r"(?<![\w.'’₀-])" + re.escape(var) + r"(?![\w'’₀-])", lambda k: m.group(2), body)
-            return inner if simple else "(" + inner + ")"
+            def use(m):
+                root = re.match(r"\(?(\w+)", m.group(2)).group(1)
+                ahead = text[m.end() : m.end() + 2]
+                if root not in known or ahead == " =" or (text[m.start() - 1 : m.start()] in "\n" and re.match(r" [\w]", ahead)):
+                    return m.group(0)
+                arg = m.group(2)
+                if re.fullmatch(r"\(\S+\)", arg):
+                    arg = arg[1:-1]
+                inner = re.sub(r"(?<![\w.'’₀-])" + re.escape(var) + r"(?![\w'’₀-])", lambda k: arg, body)
+                return inner if simple else "(" + inner + ")"
 
-        text = re.sub(r"(?<![\w.'’₀-])(" + re.escape(name) + r") (\w+(?:\.before)*)(?![\w'-])", use, text)
-    if bodies:
+            text = re.sub(r"(?<![\w.'’₀-])(" + re.escape(name) + r") " + ARG + r"(?![\w'-])", use, text)
         old = None
         while old != text:
             old, text = text, re.sub(r"(?<![\w'’₀-])\((\w[\w'’₀-]*(?:\.[\w'’₀-]+)*)\)", r"\1", text)
+        for alias in re.findall(r"let (\w+) = (?:" + "|".join(known) + r")(?:\.before)* in", text):
+            known.add(alias)
     return text
+
+
+def recorded(text, names):
+    """The tuple that a body ends with, where it has a part for each of several clauses, as a record."""
+    end = text.rstrip()
+    if len(names) < 2 or not end.endswith(")"):
+        return text
+    depth, at = 0, len(end) - 1
+    while at >= 0:
+        depth += {")": 1, "(": -1}.get(end[at], 0)
+        if depth == 0:
+            break
+        at -= 1
+    if at and not re.search(r"(=|in|^)\s*$", end[:at]):
+        return text
+    parts, depth, now = [], 0, ""
+    for ch in end[at + 1 : -1]:
+        depth += {"(": 1, "[": 1, "{": 1, ")": -1, "]": -1, "}": -1}.get(ch, 0)
+        if ch == "," and depth == 0:
+            parts.append(now)
+            now = ""
+        else:
+            now += ch
+    if now.strip():
+        parts.append(now)
+    if len(parts) != len(names):
+        return text
+    return end[:at] + "record {\n" + "".join(f"      {n} = {p.strip()};\n" for n, p in zip(names, parts)) + "    }"
 
 
 def straight(text, name):
@@ -302,7 +357,10 @@ def turn(folder, fn, crate, path, old_text, cycle=None):
                 return root + "".join("." + (WORDS.get(s, s) if "-" in s else s) for s in segs)
             return m.group(0)
         out = PATH.sub(one, chunk)
+        while re.search(r"\(\(([^()]*)\)\)", out):
+            out = re.sub(r"\(\(([^()]*)\)\)", r"(\1)", out)
         out = re.sub(r"\(not-(?:true|false) [^\s()]+ \(ap not ([^\s()]+)\)\)", r"\1", out)
+        out = re.sub(r"not-(?:true|false) [^\s()]+ \(ap not ([^\s()]+)\)", r"\1", out)
         for name, new in own.items():
             if new:
                 out = re.sub(r"(?<![\w.'’₀-])" + re.escape(name) + r"(?= (?:c|\w+)\b(?! =))", new, out)
@@ -327,7 +385,14 @@ def turn(folder, fn, crate, path, old_text, cycle=None):
             place = helpers.get(hm.group(1)) if hm else None
             lines += comments + paths("\n".join(clause), place).split("\n") + [""]
         else:
-            lines += comments + sig + paths("\n".join(clause), place).split("\n") + [""]
+            goal = sig[0].split()[1]
+            body = paths("\n".join(clause), place)
+            if goal.startswith("returns"):
+                body = recorded(body, clauses(fn.name, "ensures"))
+            for step, callee in fn.called.items():
+                if goal.startswith(fn.steps[step] + "-requires"):
+                    body = recorded(body, clauses(callee, "requires"))
+            lines += comments + sig + body.split("\n") + [""]
     module = f"Rattle.{crate}.proofs.{path}"
     def write(name, module_name, rows):
         with open(os.path.join(folder, name), "w", encoding="utf-8") as f:

@@ -26,7 +26,7 @@ use Rattle.definition.specs.declared.replies.Refusal.TheVariants.{CacheConflict,
 use Rattle.soundness.specs.Always.{Apart, Counted, Distinct, Every, FrameInOrder, FramesInOrder, HasHead, Known, goals_of}
 use Rattle.soundness.specs.Sets.{holds}
 use Rattle.definition.proofs.Passes.{RanWithin, task_within}
-use Rattle.soundness.proofs.Logic.{clash, inside, nobody, of_false, outside}
+use Rattle.soundness.proofs.Logic.{clash, nobody, of_false, outside}
 use Rattle.soundness.proofs.Support.{step}
 use Rattle.soundness.proofs.Calls.{Calls, steps_of}
 use Rattle.soundness.proofs.World.{World}

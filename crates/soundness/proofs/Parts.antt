@@ -20,7 +20,6 @@ use Rattle.definition.specs.declared.replies.Refusal.TheVariants.{Unreachable}
 use Rattle.definition.specs.declared.usages.HeadUsages.{HeadUsages}
 use Rattle.soundness.specs.Sets.{Goals, ◌⊆◌, every_holds, holds, some_holds}
 use Rattle.soundness.proofs.Logic.{both, not_and_left, not_and_right, not_or, or_left, or_right, outside, twice}
-use Rattle.soundness.proofs.Support.{step}
 use Rattle.soundness.proofs.Certain.{no_holds_mono, no_holds, yes_holds_mono, yes_holds}
 use Rattle.soundness.proofs.Calls.{AllCalls, Calls}
 use Rattle.soundness.proofs.World.{Right, RightOf, World}

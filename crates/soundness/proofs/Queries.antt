@@ -8,7 +8,7 @@ use native.Mathlib.Decide.{ℕ_discrete}
 use native.Mathlib.Numerals.{add-one}
 use native.Mathlib.Omega.{arith}
 use lib.Dec.{T, eqb, eqb→eq, leb, leb→le, ltb→lt}
-use lib.ListN.{get_or, length, replicate, set}
+use lib.ListN.{get_or, length, replicate}
 use Rattle.definition.specs.CacheForm.{all_at_most, cache_fits, cache_length, depth_fits, goals_fit, most_passes, passes_fit, slot_fits, slots_fit}
 use Rattle.definition.specs.GlobalCache.{slot_at, slot_depth, slot_held, slot_nested, slot_passes, slot_result, slots_per_goal}
 use Rattle.definition.specs.Graph.{Done, Graph, Outcome, Stopped}

@@ -13,7 +13,7 @@ use Rattle.definition.specs.Endings.{ending_of, tidy_up}
 use Rattle.definition.specs.Graph.{Done, EvaluationResult, Graph, Outcome, Stopped, finalize, with_stack}
 use Rattle.definition.specs.Parent.{or_no_usages}
 use Rattle.definition.specs.Stack.{Frame, Stack}
-use Rattle.definition.specs.Task.{Evaluated, TaskOutcome, TaskStopped, after_pop, evaluate_goal_in_task, iteration, push_rerun, rerun_frame}
+use Rattle.definition.specs.Task.{Evaluated, TaskOutcome, TaskStopped, after_pop, evaluate_goal_in_task, iteration, no_turn, push_rerun, rerun_frame}
 use Rattle.definition.specs.Usages.{no_usages}
 use Rattle.definition.specs.declared.answers.Answer.{Answer}
 use Rattle.definition.specs.declared.answers.Answer.TheVariants.{Overflow}
@@ -254,7 +254,7 @@ module _ (W : World) (xs : List Base) (fs : Stack) (goal available : ℕ) (here 
       → x.goal ≡ goal → x.depth ≡ available → BasesOk W (x ∷ xs) → g.stack ≡ f ∷ fs
       → State W (x ∷ xs) g → Task (evaluate_goal_in_task (compute goal) left pass o g)
   task_ok compute ok zero pass o x f g i j v st inv =
-      run_ok zero pass _ (λ o' x' f' g' a w z. absurd (omega (arith, rerun_left zero f' a z)))
+      run_ok zero pass no_turn (λ o' x' f' g' a w z. absurd (omega (arith, rerun_left zero f' a z)))
       x f g o i j v st (compute goal g) (rw (← i) (ok x v g inv))
   task_ok compute ok (suc left) pass o x f g i j v st inv =
       run_ok (suc left) pass (evaluate_goal_in_task (compute goal) left (suc pass))

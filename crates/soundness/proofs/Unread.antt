@@ -32,7 +32,7 @@ use Rattle.definition.specs.Part.{All, Any, Book, Call, End, Node, Part, Parts, 
 use Rattle.definition.specs.Query.{Reply, checks, evaluate_root, first_failed, new_graph, query, query_book, reply_of, untouched, work_length, zeros}
 use Rattle.definition.specs.Reader.{Accepted, BookRead, Rejected, read_book}
 use Rattle.definition.specs.Stack.{Frame, OnStack, Stack, stack_find}
-use Rattle.definition.specs.Task.{Evaluated, TaskOutcome, TaskStopped, after_pop, end_iteration, evaluate_goal_in_task, iteration}
+use Rattle.definition.specs.Task.{Evaluated, TaskOutcome, TaskStopped, after_pop, end_iteration, evaluate_goal_in_task, iteration, no_turn}
 use Rattle.soundness.specs.Passes.{Alike, PassesUnread, RepliesAlike}
 use Rattle.soundness.specs.Statement.{reply_to}
 use Rattle.soundness.proofs.Calls.{AllCalls, BookOk, Calls, steps_of}
@@ -196,7 +196,7 @@ task_same : (h : Header) (compute : Graph → Outcome)
     → ((g : Graph) (d : List ℕ) → Twin h g d → Same h (compute g) (compute (with_global_cache g d)))
     → (left pass : ℕ) → NextSame h (evaluate_goal_in_task compute left pass)
 task_same h compute keeps zero pass overflow g d t =
-    iteration_same h _ (λ o g1 d1 t1. refl) pass
+    iteration_same h no_turn (λ o g1 d1 t1. refl) pass
     zero overflow (compute g) (compute (with_global_cache g d)) (keeps g d t)
 task_same h compute keeps (suc left) pass overflow g d t =
     iteration_same h (evaluate_goal_in_task compute left (suc pass)) (task_same h compute keeps left (suc pass)) pass
@@ -469,4 +469,4 @@ unread bytes b e c d v form [] = tt
 unread bytes b e c d v form (q ∷ qs) =
     let r : RepliesAlike b.header (reply_to bytes c q) (reply_to bytes d q) =
     query_alike b (any_read bytes b e) c d q.work q.goal q.depth v form bytes e in
-    (r, unread bytes b e _ _ r.cache r.form qs)
+    (r, unread bytes b e (reply_to bytes c q).cache (reply_to bytes d q).cache r.cache r.form qs)
