@@ -1,0 +1,10 @@
+use Rattle.definition.specs.Stack.{Frame}
+use Rattle.stack.proofs.Graph.{part_room, top_written}
+use Rattle.definition.specs.Parent.{add_rest, ProvisionalCacheHit}
+use Rattle.parent.proofs.add_entry.Goals as goal
+
+pub slice_bounds-add_entry-end : goal.slice_bounds-add_entry-end
+slice_bounds-add_entry-end c = let s = c in part_room s.args.goals s.args.graph.now s.args.own c.frame_start-start.result c.frame_size.result s.requires.0 s.requires.1 c.frame_start-start.ensures.0 c.frame_size.ensures
+
+pub returns : goal.returns
+returns c = let s = c in let y = c.add_entry in top_written s.args.goals s.args.graph.now s.args.own c.frame_start-start.result c.frame_size.result s.requires.0 s.requires.1 c.frame_start-start.ensures.0 c.frame_size.ensures y.new.frame y.auto.frame (λ (f : Frame). add_rest s.args.step s.args.overflow ProvisionalCacheHit s.args.reached f) y.ensures
