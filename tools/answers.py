@@ -38,6 +38,30 @@ WORDS = {dash(w): w for w in re.findall(r"\b[a-z]\w*_\w+\b", "\n".join(SOURCE.va
 plain = lambda s: dash(s).lower().replace("«", "").replace("»", "")
 
 
+def SOURCE_OF(callee):
+    """The head of a function, by its whole name."""
+    parts = callee.split("::")
+    for n in range(len(parts) - 1, 0, -1):
+        base = "crates/" + parts[0] + "/src" + "".join("/" + p for p in parts[1:n])
+        for path in (base + ".rt", base + "/lib.rt", base + "/main.rt", base + "/mod.rt"):
+            found = path in SOURCE and re.search(r"fn " + re.escape(parts[-1]) + r"\s*(?:<[^>]*>)?\(([^)]*)\)", SOURCE[path])
+            if found:
+                return found.group(1)
+    return ""
+
+
+def mut_params(callee):
+    """The `&mut` parameters of a function, by its whole name."""
+    parts = callee.split("::")
+    for n in range(len(parts) - 1, 0, -1):
+        base = "crates/" + parts[0] + "/src" + "".join("/" + p for p in parts[1:n])
+        for path in (base + ".rt", base + "/lib.rt", base + "/main.rt", base + "/mod.rt"):
+            found = path in SOURCE and re.search(r"fn " + re.escape(parts[-1]) + r"\s*(?:<[^>]*>)?\(([^)]*)\)", SOURCE[path])
+            if found:
+                return [p.split(":")[0].strip().split()[-1] for p in found.group(1).split(",") if re.search(r":\s*&('\w+ )?mut ", p)]
+    return []
+
+
 def clauses(callee, kind):
     """The names of a function's clauses of a kind, where it has several."""
     parts = callee.split("::")
@@ -56,6 +80,11 @@ class Function:
         self.name = name
         self.info = info
         self.needs = info["needs"]
+        self.autos, self.loop_vars = {}, {}
+        lent = mut_params(name)
+        for ((old, new), variables), flags in zip(info["loops"], info["changed"]):
+            self.loop_vars[plain(old)] = variables
+            self.autos[plain(old)] = [v for v, f in zip(variables, flags) if f and v in lent]
         self.steps, self.called = {}, {}
         self.params = info["params"]
         for old, parent, (a, b), callee, _ in info["places"]:
@@ -96,10 +125,13 @@ class Function:
             first = first[:-4]
         if re.match(r"match\d*$", first) and rest[:1] and "At-" + first + "-" + rest[0] in self.matches:
             arm, own = self.matches["At-" + first + "-" + rest[0]]
-            return "." + ".".join([arm, own, *rest])
+            return "." + ".".join([arm, own, *rest]) + ("?" if arm.startswith("in_default") and rest[0].startswith("keys") else "")
         for old, path, arm, field in self.arms:
             if old == first and [dash(x) for x in rest[: len(path)]] == path:
                 return "." + ".".join([arm, field, *rest[len(path) :]])
+        if first == "args" and rest[:1] == ["result"] and re.search(r"\bres: ", SOURCE_OF(self.name)):
+            rest = ["res", *rest[1:]]
+            segments = ["args", *rest]
         if first == "requires" and rest[:1] and rest[0].isdigit():
             own = clauses(self.name, "requires")
             if int(rest[0]) < len(own):
@@ -108,10 +140,21 @@ class Function:
             return ".type_inv." + self.typed[first] + "".join("." + r for r in rest if r != "given")
         if first in self.steps:
             new = self.steps[first]
-            if rest[:1] in (["new"], ["auto"]) and rest[1:2] and rest[1].isdigit() and first in self.called:
-                muts = self.params.get(self.called[first], [])
-                if int(rest[1]) < len(muts):
-                    rest = [rest[0], muts[int(rest[1])], *rest[2:]]
+            if rest[:1] in (["new"], ["auto"]) and first in self.called:
+                after, n = rest[1:], 0
+                while after[:1] == ["1"]:
+                    after, n = after[1:], n + 1
+                params = self.params.get(self.called[first], [])
+                if after[:1] == ["0"] and n < len(params):
+                    rest = [rest[0], params[n], *after[1:]]
+            if rest[:1] == ["auto"] and first in self.autos:
+                names = self.autos[first]
+                if len(rest) == 1 and "kept" in self.loop_vars[first]:
+                    rest = ["kept"]
+                elif len(rest) == 1 and names:
+                    rest = ["auto", names[0]]
+                elif rest[1:2] and rest[1].isdigit() and int(rest[1]) < len(names):
+                    rest = ["auto", names[int(rest[1])], *rest[2:]]
             if rest[:1] == ["ensures"] and rest[1:2] and rest[1].isdigit() and first in self.called:
                 names = clauses(self.called[first], "ensures")
                 if int(rest[1]) < len(names):
@@ -199,6 +242,36 @@ def inlined(text):
         for alias in re.findall(r"let (\w+) = (?:" + "|".join(known) + r")(?:\.before)* in", text):
             known.add(alias)
     return text
+
+
+LET = re.compile(r"let (\S+) = (c(?:\.[^\s(){},;]+)?) in\s*")
+
+
+def expanded(chunk, imported):
+    """Names for parts of what is known are written out, so that a path shows the step that it begins with."""
+    at = 0
+    while True:
+        m = LET.search(chunk, at)
+        if not m:
+            return chunk
+        name, path = m.group(1), m.group(2)
+        depth, end = 0, m.end()
+        while end < len(chunk):
+            depth += {"(": 1, "[": 1, "{": 1, ")": -1, "]": -1, "}": -1}.get(chunk[end], 0)
+            if depth < 0:
+                break
+            end += 1
+        rest, tail = chunk[m.end() : end], chunk[end:]
+        if re.search(r"(λ[^.\n]*(?<![\w'-])" + re.escape(name) + r"(?![\w'-])[^.\n]*\.|\(" + re.escape(name) + r" :|let " + re.escape(name) + r" )", rest):
+            if re.search(r"let " + re.escape(name) + r" ", rest):
+                at = m.end()
+                continue
+            name2 = name + "'"
+            rest = rest
+            at = m.end()
+            continue
+        rest = re.sub(r"(?<![\w.'’₀-])" + re.escape(name) + r"(?![\w'’₀-])" + (r"(?=\.)" if name in imported else ""), lambda k: path, rest)
+        chunk, at = chunk[: m.start()] + rest + tail, m.start()
 
 
 def recorded(text, names):
@@ -338,21 +411,15 @@ def turn(folder, fn, crate, path, old_text, cycle=None):
         return n if at == to else None
 
     def paths(chunk, place):
-        aliases, steps = {"c"}, {}
-        for a, b in re.findall(r"let (\S+) = (\S+?) in", chunk):
-            parts = b.split(".")
-            rest = [p for p in parts[1:] if p != "before"]
-            if parts[0] in aliases and len(rest) == 1 and re.sub("-lem$", "", plain(rest[0])) in fn.called:
-                steps[a] = fn.called[re.sub("-lem$", "", plain(rest[0]))]
-            if parts[0] in aliases and all(p == "before" for p in parts[1:]):
-                aliases.add(a)
+        chunk = expanded(chunk, imported)
+
         def one(m):
             root, segs = m.group(1), m.group(2)[1:].split(".")
-            if root in aliases:
+            if root == "c":
                 out = root + fn.path(segs)
+                if out.endswith("?"):
+                    return "(opened " + out[:-1] + ")"
                 return "(ap not " + out[:-1] + ")" if out.endswith("!") else out
-            if root in steps and segs[0] in ("new", "auto") and segs[1:2] and segs[1].isdigit() and int(segs[1]) < len(fn.params.get(steps[root], [])):
-                segs[1] = fn.params[steps[root]][int(segs[1])]
             if root[0].islower() and not root.startswith("goal"):
                 return root + "".join("." + (WORDS.get(s, s) if "-" in s else s) for s in segs)
             return m.group(0)
@@ -361,23 +428,13 @@ def turn(folder, fn, crate, path, old_text, cycle=None):
             out = re.sub(r"\(\(([^()]*)\)\)", r"(\1)", out)
         out = re.sub(r"\(not-(?:true|false) [^\s()]+ \(ap not ([^\s()]+)\)\)", r"\1", out)
         out = re.sub(r"not-(?:true|false) [^\s()]+ \(ap not ([^\s()]+)\)", r"\1", out)
-        for name, new in own.items():
-            if new:
-                out = re.sub(r"(?<![\w.'’₀-])" + re.escape(name) + r"(?= (?:c|\w+)\b(?! =))", new, out)
-        for h, hp in helpers.items():
-            if hp and place:
-                def call(m):
-                    if m.group(2).split(".")[0] in aliases:
-                        n = befores(place, hp)
-                        return m.group(1) + ("c" if not n else "c" + ".before" * n)
-                    return m.group(0)
-                out = re.sub(r"((?<![\w.'’₀-])" + re.escape(h) + r" )(\w+)(?![\w'.-])", call, out)
         def typed(m):
             named.add(fn.places.get(dash(m.group(1)), m.group(1)))
             return fn.places.get(dash(m.group(1)), m.group(1))
         return re.sub(r"tie\.([^\s()]+)((?: (?:" + ("|".join(map(re.escape, renamed)) or "!") + r"))*)", typed, out)
 
     named = set()
+    imported = {w.strip() for l in uses for w in re.sub(r"^.*\{|\}.*$", "", l).split(",")}
     lines = []
     for comments, sig, clause, place in ans:
         if sig is None:
@@ -397,6 +454,8 @@ def turn(folder, fn, crate, path, old_text, cycle=None):
     def write(name, module_name, rows):
         with open(os.path.join(folder, name), "w", encoding="utf-8") as f:
             places = [f"use {module}.Goals.{{{', '.join(sorted(named))}}}"] if named and module_name == "Goals" else []
+            if any("(opened " in r for r in rows):
+                places.append("use borrow.Enum.Refused.{opened}")
             if any("(ap not " in r for r in rows):
                 places.append("use Rattle.std.proofs.Common.{ap, not}")
             f.write("\n".join(uses + [f"use {module}.{module_name} as goal"] + places + [""] + rows).rstrip("\n") + "\n")
