@@ -1,0 +1,7 @@
+use native.Mathlib.Omega.{arith}
+use Rattle.definition.proofs.Numbers.{refusal_small}
+use borrow.Author.Rules.{rules}
+use Rattle.tidy.proofs.Response.refusal.Goals as goal
+
+pub overflow_cast-result : goal.overflow_cast-result
+overflow_cast-result c = record { fits = omega (arith, c.number.ensures, refusal_small c.in-Unread.r) }
