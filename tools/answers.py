@@ -140,6 +140,15 @@ class Function:
             return ".type_inv." + self.typed[first] + "".join("." + r for r in rest if r != "given")
         if first in self.steps:
             new = self.steps[first]
+            older = {"taken": "true", "left": "false", "inv": "invariant", "last": "new"}
+            if first in self.called:
+                older["kept"] = "auto"
+                older.pop("left")
+            elif not re.match(r"(if|.*loop.*-test)", first):
+                older.pop("left")
+                older.pop("last")
+            if rest:
+                rest = [older.get(rest[0], rest[0]), *rest[1:]]
             if rest[:1] in (["new"], ["auto"]) and first in self.called:
                 after, n = rest[1:], 0
                 while after[:1] == ["1"]:
@@ -309,7 +318,12 @@ def straight(text, name):
     text = re.sub(r"(?m)^(\S+) : " + lts + r"(invariant|InvT|decreases|MeasureT)-", r"\1 : tie.\2-", text)
     text = re.sub(r"(?m)^(" + re.escape(name) + r"-\S+) t (\w+)", r"\1 \2", text)
     text = re.sub(r"(?ms)^pub \+.*\Z", "", text)
-    keep = [b for b in blocks(text) if re.match(r"use |abbrev \S+ : tie|\S+ : tie", [l for l in b if not l.startswith("--")][0]) or name not in b[0]]
+    for alias, place in re.findall(r"(?m)^abbrev (\S+) : ℕ → Type 0\n\1 t = " + lts + r"(\S+) .*$", text):
+        text = re.sub(r"(?m)^abbrev " + re.escape(alias) + r" : .*\n.*\n", "", text)
+        text = re.sub(r"\(t : ℕ\) \((\w+) : " + re.escape(alias) + r" t\)", r"(\1 : tie." + place + ")", text)
+    for helper in re.findall(r"(?m)^(?:abbrev )?(\S+) : \(\w+ : tie\.", text):
+        text = re.sub(r"(?<![\w.'₀-])" + re.escape(helper) + r" t ", helper + " ", text)
+    keep = [b for b in blocks(text) if re.match(r"use |(abbrev )?\S+ : (\(\w+ : )?tie", ([l for l in b if not l.startswith("--")] or [""])[0]) or name not in b[0]]
     return "\n\n".join("\n".join(b) for b in keep)
 
 
