@@ -32,6 +32,7 @@ BY_HAND = {
     "crates/global_cache/must-fail/more/conflicts_equal.edit": [
         ("src/slot.rt", "return buffer::get(slot, 1) != res;", "return buffer::get(slot, 1) == res;"),
     ],
+    "crates/global_cache/must-fail/more/write_depth.edit": [("src/slot.rt", "slot[2] = required;", "slot[2] = res;")],
     # one import has the words of many
     "crates/definition/must-fail/more/reading_passes_last.edit": [
         ("specs/GlobalCache.antt", "Prelude.{ℕ,", "Prelude.{[], ℕ,"),
