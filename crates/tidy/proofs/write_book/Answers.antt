@@ -1,11 +1,9 @@
-use mathlib.Core.Path.{◌∙◌, ◌≡◌, ap, sym}
-use Prim.Native.Nat.{◌-◌}
+use mathlib.Core.Path.{◌∙◌, ap, sym}
 use native.Mathlib.Omega.{arith}
 use lib.ListN.{length}
-use borrow.Author.Rules.{rules}
 use Rattle.tidy.proofs.Places.{lent_length}
 use Rattle.tidy.proofs.Turns.{line_length}
-use Rattle.tidy.proofs.Goals.{Writes, all_kept, all_written, book_few, book_room, few_goals, first_goal, goal_starts, goals_less, goals_within, header_written, next_goals, next_kept, next_less, next_within}
+use Rattle.tidy.proofs.Goals.{all_kept, all_written, book_few, book_room, few_goals, first_goal, goal_starts, goals_less, goals_within, header_written, next_goals, next_kept, next_less, next_within}
 use Rattle.tidy.proofs.write_book.Goals as goal
 
 pub first-requires : goal.first-requires
@@ -15,11 +13,10 @@ pub write-requires : goal.write-requires
 write-requires c = omega (arith, c.requires.1, book_room c.args.book.now c.args.goals c.requires.0)
 
 pub loop-g-init : goal.loop-g-init
-loop-g-init c =
-    (
-      ap length c.write.ensures ∙ line_length c.first.result c.args.out.now (omega (arith, c.requires.1, book_room c.args.book.now c.args.goals c.requires.0)) ∙ c.requires.1,
-      first_goal c.args.book.now c.args.goals c.requires.0 c.first.result c.first.ensures c.args.out.now c.write.new.out c.write.ensures,
-    )
+loop-g-init c = (
+  ap length c.write.ensures ∙ line_length c.first.result c.args.out.now (omega (arith, c.requires.1, book_room c.args.book.now c.args.goals c.requires.0)) ∙ c.requires.1,
+  first_goal c.args.book.now c.args.goals c.requires.0 c.first.result c.first.ensures c.args.out.now c.write.new.out c.write.ensures,
+)
 
 pub slice_bounds-write_goal-count : goal.slice_bounds-write_goal-count
 slice_bounds-write_goal-count c =

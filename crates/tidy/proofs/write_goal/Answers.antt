@@ -5,7 +5,6 @@ use Rattle.tidy.specs.Write.{line_with}
 use Rattle.tidy.proofs.Places.{lent_length}
 use Rattle.tidy.proofs.Goals.{goal_less, goal_within, goal_written, starts_part, starts_room}
 use Rattle.tidy.proofs.Turns.{line_length}
-use borrow.Author.Rules.{rules}
 use Rattle.tidy.proofs.write_goal.Goals as goal
 
 pub write_with-requires : goal.write_with-requires

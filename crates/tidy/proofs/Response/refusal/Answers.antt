@@ -1,6 +1,5 @@
 use native.Mathlib.Omega.{arith}
 use Rattle.definition.proofs.Numbers.{refusal_small}
-use borrow.Author.Rules.{rules}
 use Rattle.tidy.proofs.Response.refusal.Goals as goal
 
 pub overflow_cast-result : goal.overflow_cast-result

@@ -6,7 +6,6 @@ use Rattle.definition.specs.declared.format.Line.{Line}
 use Rattle.buffer.proofs.Sized.{sized}
 use Rattle.tidy.specs.Write.{write_line}
 use Rattle.tidy.specs.Engine.{put_columns}
-use borrow.Author.Rules.{rules}
 use Rattle.tidy.proofs.line.fill.Goals as goal
 
 filled : (bs : List ℕ) → length bs ≡ 16 → (l : Line)

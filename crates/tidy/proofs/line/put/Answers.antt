@@ -1,7 +1,6 @@
 use native.Mathlib.Omega.{arith}
 use Prim.Native.Nat.{◌+◌}
 use lib.ListN.{length-set, set}
-use borrow.Author.Rules.{rules}
 use Rattle.tidy.proofs.line.put.Goals as goal
 
 pub bounds-s-i-2 : goal.bounds-s-i-2

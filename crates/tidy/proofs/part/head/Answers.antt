@@ -1,5 +1,4 @@
 use Rattle.tidy.proofs.Joins.{line_stands, only_part}
-use borrow.Author.Rules.{rules}
 use Rattle.tidy.proofs.part.head.Goals as goal
 
 pub returns-then-is_only : goal.returns-then-is_only

@@ -1,4 +1,3 @@
-use borrow.Author.Rules.{rules}
 use Rattle.book.proofs.Tests.{held, refused}
 use Rattle.tidy.proofs.Joins.{no_group, other_code, same_code}
 use Rattle.tidy.proofs.part.join.Goals as goal
