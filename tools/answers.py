@@ -38,6 +38,17 @@ WORDS = {dash(w): w for w in re.findall(r"\b[a-z]\w*_\w+\b", "\n".join(SOURCE.va
 plain = lambda s: dash(s).lower().replace("«", "").replace("»", "")
 
 
+def FILE_OF(callee):
+    """The file of a function, by its whole name."""
+    parts = callee.split("::")
+    for n in range(len(parts) - 1, 0, -1):
+        base = "crates/" + parts[0] + "/src" + "".join("/" + p for p in parts[1:n])
+        for path in (base + ".rt", base + "/lib.rt", base + "/main.rt", base + "/mod.rt"):
+            if path in SOURCE and re.search(r"fn " + re.escape(parts[-1]) + r"\b", SOURCE[path]):
+                return SOURCE[path]
+    return ""
+
+
 def SOURCE_OF(callee):
     """The head of a function, by its whole name."""
     parts = callee.split("::")
@@ -115,6 +126,7 @@ class Function:
     def path(self, segments):
         while segments and segments[0] == "before":
             segments = segments[1:]
+        segments = ["type_inv" if s == "type-inv" else s for s in segments]
         segments = ["requires" if s == "pre" and i == 0 else s for i, s in enumerate(segments)]
         if not segments:
             return ""
@@ -136,7 +148,7 @@ class Function:
             own = clauses(self.name, "requires")
             if int(rest[0]) < len(own):
                 return "." + ".".join(["requires", own[int(rest[0])], *rest[1:]])
-        if first in self.typed:
+        if first in self.typed and first not in self.called:
             return ".type_inv." + self.typed[first] + "".join("." + r for r in rest if r != "given")
         if first in self.steps:
             new = self.steps[first]
@@ -168,7 +180,8 @@ class Function:
                 names = clauses(self.called[first], "ensures")
                 if int(rest[1]) < len(names):
                     rest = ["ensures", names[int(rest[1])], *rest[2:]]
-            if new.startswith("if-not-") and rest in (["true"], ["false"]):
+            of_field = new.startswith("if-not-") and re.search(r"!" + re.escape(new[7:].split("-")[0]) + r"\.\w+\b(?!\()", FILE_OF(self.name))
+            if new.startswith("if-not-") and not of_field and rest in (["true"], ["false"]):
                 self.flips = True
                 return "." + new + "." + rest[0] + "!"
             return "." + ".".join([new, *[WORDS.get(r, r) for r in rest]])
