@@ -87,8 +87,9 @@ def clauses(callee, kind):
 
 
 class Function:
-    def __init__(self, info, name):
+    def __init__(self, info, name, cycle=False):
         self.name = name
+        self.cycle = cycle
         self.info = info
         self.needs = info["needs"]
         self.autos, self.loop_vars = {}, {}
@@ -144,6 +145,11 @@ class Function:
         if first == "args" and rest[:1] == ["result"] and re.search(r"\bres: ", SOURCE_OF(self.name)):
             rest = ["res", *rest[1:]]
             segments = ["args", *rest]
+        if first == "requires" and self.cycle and rest[:1] == ["0"]:
+            return ".decreases" + "".join("." + r for r in rest[1:])
+        if first == "requires" and self.cycle and rest[:1] == ["1"]:
+            rest = rest[1:]
+            segments = ["requires", *rest]
         if first == "requires" and rest[:1] and rest[0].isdigit():
             own = clauses(self.name, "requires")
             if int(rest[0]) < len(own):
@@ -214,7 +220,7 @@ def inlined(text):
             continue
         whole = "\n".join(code)
         need = re.match(r"^(\S+) : tie\.Need-", whole)
-        path = re.match(r"^abbrev (\S+) : tie\.[^\n→]*→ tie\.[^\n→]*\n\1 (\w+) = ((?:\w+ )?\w+(?:\.before)*)$", whole)
+        path = re.match(r"^abbrev (\S+) : tie\.[^\n→]*→ tie\.[^\n→]*\n\1 (\w+) = ([^\n]*)$", whole)
         helper = re.match(r"(?s)^(abbrev )?(\S+) : \((\w+) : tie\.[^()]*\)\s*(?:→ )?(.*?)\n\2 (\w+) =\s*(.*)$", whole)
         if need:
             c = re.match(r"(?s)^[^\n]*\n" + re.escape(need.group(1)) + r" (\w+) =\s*(.*)$", whole)
@@ -241,13 +247,13 @@ def inlined(text):
     if not bodies:
         return text
     known = {"c"} | set(re.findall(r"let (\w+) = \w+(?:\.before)+ in", text))
-    for again in range(4):
+    for again in range(12):
         for name in reversed(order):
             var, body = bodies[name]
             simple = re.fullmatch(r"[^\s()]+", body)
 
             def use(m):
-                root = re.match(r"\(?(\w+)", m.group(2)).group(1)
+                root = re.match(r"\(?([\w-]+)", m.group(2)).group(1)
                 ahead = text[m.end() : m.end() + 2]
                 if root not in known or ahead == " =" or (text[m.start() - 1 : m.start()] in "\n" and re.match(r" [\w]", ahead)):
                     return m.group(0)
@@ -340,10 +346,81 @@ def straight(text, name):
     return "\n\n".join("\n".join(b) for b in keep)
 
 
-def turn(folder, fn, crate, path, old_text, cycle=None):
+def closing(text, at):
+    depth = 0
+    for i in range(at, len(text)):
+        depth += {"(": 1, ")": -1}.get(text[i], 0)
+        if depth == 0:
+            return i
+    return len(text)
+
+
+def parted(text, name):
+    """Of the walk of a cycle of several functions, what speaks of one, in the form of a walk of one function."""
+    lts = re.escape(name) + r"-lts\."
+    lines, inside = [], False
+    for line in text.split("\n"):
+        if line.startswith("module _ "):
+            inside = "head"
+        if inside == "head":
+            if line.endswith(" where"):
+                inside = True
+            continue
+        if inside and line and not line.startswith(" "):
+            inside = False
+        lines.append(line[2:] if inside and line.startswith("  ") else line)
+    out, helpers, keep = [], [], False
+    for block in blocks("\n".join(lines)):
+        comments = [l for l in block if l.startswith("--")]
+        code = [l for l in block if not l.startswith("--")]
+        if code and code[0].startswith("use "):
+            out.append("\n".join(code))
+            continue
+        if not code:
+            continue
+        own = re.match(r"(?:pub )?(?:abbrev )?(\S+) :", code[0])
+        if not own:
+            continue
+        at = next((i for i, l in enumerate(code) if i and (l + " ").startswith(own.group(1) + " ")), None)
+        if at is None:
+            continue
+        sig, clause = " ".join(" ".join(code[:at]).split()), code[at:]
+        if not re.search(lts, sig) or own.group(1).startswith("μ") or re.search(r"-(claims|at|below) :", sig):
+            continue
+        m = re.match(r"(\S+) : \(t : ℕ\) → " + lts + r"(Need-\S+)", sig)
+        if m:
+            clause[0] = re.sub(r"^(\S+) t ", r"\1 ", clause[0])
+            out.append("\n".join(comments + [f"{m.group(1)} : tie.{m.group(2)}"] + clause))
+            continue
+        m = re.match(r"(abbrev \S+) : " + lts + r"(invariant|InvT|decreases|MeasureT)-(\S+)$", sig)
+        if m:
+            out.append("\n".join(comments + [f"{m.group(1)} : tie.{m.group(2)}-{m.group(3)}"] + clause))
+            continue
+        m = re.match(r"(abbrev \S+) : " + lts + r"(\S+) C A P[^→]*→ " + lts + r"(\S+) C A P", sig)
+        if m:
+            out.append("\n".join(comments + [f"{m.group(1)} : tie.{m.group(2)} → tie.{m.group(3)}"] + clause))
+            continue
+        m = re.match(r"(\S+) : \(t : ℕ\) (\((\w+) : " + lts + r"(\S+))", sig)
+        if m:
+            end = closing(sig, m.start(2))
+            clause[0] = re.sub(r"^(\S+) t ", r"\1 ", clause[0])
+            helpers.append(m.group(1))
+            out.append("\n".join(comments + [f"{m.group(1)} : ({m.group(3)} : tie.{m.group(4)}){sig[end + 1 :]}"] + clause))
+            continue
+        print("parted: left", sig[:100])
+    text = "\n\n".join(out)
+    for helper in helpers:
+        text = re.sub(r"(?<![\w.'₀-])" + re.escape(helper) + r" t ", helper + " ", text)
+    return text
+
+
+def turn(folder, fn, crate, path, old_text, cycle=None, several=False):
     text = open(os.path.join(folder, "Proof.antt"), encoding="utf-8").read().replace(".«record»", ".record")
-    if cycle:
+    if several:
+        text, old_text = parted(text, cycle), parted(old_text, cycle)
+    elif cycle:
         text, old_text = straight(text, cycle), straight(old_text, cycle)
+    prefix = fn.name.split("::")[-1] + "-" if several else ""
     text = inlined(text)
     left = []
     old_needs = re.findall(r"(?m)^\s*\S+ : (?:\([^)]*\) → )?tie\.Need-(\S+)", old_text)
@@ -388,6 +465,7 @@ def turn(folder, fn, crate, path, old_text, cycle=None):
                 continue
             table = {a: o[0] + o[1] for a, o in zip(args, order) if a != "_"}
             rhs = re.sub(r"(?<![\w.'’₀-])(" + "|".join(sorted(map(re.escape, table), key=len, reverse=True)) + r")(?![\w'’₀-])", lambda k: table[k.group(1)], rhs)
+            new = prefix + new
             inv.append((comments + [f"abbrev pub {kind}-{new} : goal.{kind}-{new}"] + [f"{kind}-{new} l = {rhs}"]))
             renamed[name] = f"{kind}-{new}"
             continue
@@ -416,9 +494,9 @@ def turn(folder, fn, crate, path, old_text, cycle=None):
                 continue
             unf = [l for l in code[1:] if l.startswith("unfolding ")]
             clause = [l for l in code[1:] if not l.startswith("unfolding ")]
-            first = re.sub(r"^\S+", new + (" t" if cycle else ""), clause[0]).replace(" κs", "", 1)
+            first = re.sub(r"^\S+", prefix + new + (" t" if cycle else ""), clause[0]).replace(" κs", "", 1)
             place = dict((n, b) for n, (a, b) in zip([x[1] for x in fn.needs], fn.info["asked_at"])).get(new)
-            ans.append((pending + comments, [f"pub {new} : goal.{new}"] + unf, [first] + clause[1:], place))
+            ans.append((pending + comments, [f"pub {prefix}{new} : goal.{prefix}{new}"] + unf, [first] + clause[1:], place))
             pending = []
             continue
         # a helper
@@ -469,17 +547,21 @@ def turn(folder, fn, crate, path, old_text, cycle=None):
             place = helpers.get(hm.group(1)) if hm else None
             lines += comments + paths("\n".join(clause), place).split("\n") + [""]
         else:
-            goal = sig[0].split()[1]
+            goal = sig[0].split()[1][len(prefix) :]
             body = paths("\n".join(clause), place)
             if goal.startswith("returns"):
                 body = recorded(body, clauses(fn.name, "ensures"))
             for step, callee in fn.called.items():
-                if goal.startswith(fn.steps[step] + "-requires"):
+                if goal.startswith(fn.steps[step] + "-requires") and not (several and callee.rsplit("::", 1)[0] == fn.name.rsplit("::", 1)[0] and callee.split("::")[-1] in path):
                     body = recorded(body, clauses(callee, "requires"))
             lines += comments + sig + body.split("\n") + [""]
     module = f"Rattle.{crate}.proofs.{path}"
     def write(name, module_name, rows):
+        have = ""
+        if several and os.path.exists(os.path.join(folder, name)):
+            have = open(os.path.join(folder, name), encoding="utf-8").read()
         with open(os.path.join(folder, name), "w", encoding="utf-8") as f:
+            f.write(have)
             places = [f"use {module}.Goals.{{{', '.join(sorted(named))}}}"] if named and module_name == "Goals" else []
             if any("(opened " in r for r in rows):
                 places.append("use borrow.Enum.Refused.{opened}")
@@ -493,7 +575,8 @@ def turn(folder, fn, crate, path, old_text, cycle=None):
         write("Invariants.antt", "Given", rows)
     if lines:
         write("Answers.antt", "Goals", lines)
-    os.remove(os.path.join(folder, "Proof.antt"))
+    if not several:
+        os.remove(os.path.join(folder, "Proof.antt"))
     if left:
         where = os.path.join(folder, "Answers.antt")
         have = open(where, encoding="utf-8").read() if os.path.exists(where) else "\n".join(uses + [f"use {module}.Goals as goal", ""])
@@ -518,6 +601,13 @@ def main():
         names_of = [k for k in info if k.startswith(f"Rattle-{crate}-proofs.{path}.Lts-")]
         if len(names_of) == 1:
             turn(folder, Function(info[names_of[0]], "::".join([crate, *path.replace("+", "").split(".")])), crate, path, git("show", f"{commit}:{folder}/Proof.antt"), dash(names_of[0].split(".Lts-")[1]))
+            continue
+        if len(names_of) > 1:
+            for k in names_of:
+                name = k.split(".Lts-")[1]
+                was = [f for f in git("ls-tree", "-r", "--name-only", commit, top).split("\n") if re.search(r"/\+[^/]*/Proof.antt$", f)]
+                turn(folder, Function(info[k], crate + "::" + name, True), crate, path, git("show", f"{commit}:{was[0]}"), dash(name), True)
+            os.remove(os.path.join(folder, "Proof.antt"))
             continue
         if key not in info:
             print(f"{folder}: not in {names}")
