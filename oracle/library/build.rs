@@ -1,4 +1,4 @@
-//! Links the proved library, as `rt staticlib capi` writes it, or where SEARCH_GRAPH_LIB says.
+//! Links the proved library, as `rt lib` in crates/capi writes it, or where SEARCH_GRAPH_LIB says.
 
 use std::path::Path;
 
@@ -6,11 +6,11 @@ fn main() {
     println!("cargo:rerun-if-env-changed=SEARCH_GRAPH_LIB");
     let here = std::env::var("CARGO_MANIFEST_DIR").unwrap();
     let library = std::env::var("SEARCH_GRAPH_LIB")
-        .unwrap_or(format!("{here}/../../target/staticlib/libcapi.a"));
+        .unwrap_or(format!("{here}/../../crates/capi/out/libcapi.a"));
     let library = Path::new(&library);
     assert!(
         library.is_file(),
-        "no library at {}: run `rt staticlib capi` first",
+        "no library at {}: run `rt lib` in crates/capi first",
         library.display()
     );
     println!("cargo:rerun-if-changed={}", library.display());
