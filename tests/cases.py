@@ -57,6 +57,6 @@ def expected(case, seen):
     cache, rows = case.cache, []
     for goal, depth, work, answer, refusal, after in case.queries:
         cache = cache if after is None else after
-        rows.append("record { goal = %d; depth = %d; workLength = %d; answer = %d; refusal = %d; workByte = %d; workSeen = %d; cache = %s }"
+        rows.append("record { goal = %d; depth = %d; work_length = %d; answer = %d; refusal = %d; work_byte = %d; work_seen = %d; cache = %s }"
                     % (goal, depth, work, answer, refusal, 7 if 1 <= refusal <= 9 else 0, min(work, seen if rows else work), number(cache)))
     return rows

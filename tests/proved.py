@@ -4,10 +4,9 @@
 the libraries and programs that it made, but not the mark by which `rt lib` would know them, so that it would prove all of them again.
 Right after an `rt ci` that passed, and while no file has changed since, its libraries and programs are therefore taken as they stand,
 by rattle itself, the command that rt runs too."""
+import functools
 import hashlib
-import json
 import os
-import re
 import shutil
 import subprocess
 
@@ -45,6 +44,7 @@ def kit():
     return os.path.dirname(os.path.dirname(os.path.realpath(found))) if found else ""
 
 
+@functools.lru_cache(maxsize=None)
 def text_sum(root=ROOT):
     """A sum of all that proofs and builds are made from."""
     found = hashlib.sha256(subprocess.run(["rt", "version"], stdout=subprocess.PIPE, check=True).stdout)

@@ -14,7 +14,7 @@ def types_only(text):
 
 def cited(text):
     """The law files of the definition that a file cites."""
-    return re.findall(r"Rattle·definition(?:·proofs\.proofs|\.proofs)\.([A-Z]\w*)", text)
+    return re.findall(r"Rattle\.definition\.proofs\.([A-Z]\w*)", text)
 
 
 def with_cited(source, names):
@@ -76,7 +76,8 @@ def below(root, crate):
         if name not in found.setdefault(crate, set()) and name != "Lib":
             found[crate].add(name)
             with open(f"{root}/crates/{crate}/specs/{name}.antt") as f:
-                left += re.findall(r"Rattle·(\w+)(?:·specs\.specs|\.specs)\.([A-Z]\w*)", f.read())
+                cites = re.findall(r"Rattle\.(\w+)\.specs\.([A-Z]\w*)", f.read())
+            left += [cited for cited in cites if os.path.isdir(f"{root}/crates/{cited[0]}")]
     return found
 
 
@@ -86,8 +87,8 @@ def samples(root, crate):
     found = []
     for name in names:
         with open(f"{root}/crates/{crate}/proofs/{name}.antt") as f:
-            cites = re.findall(r"Rattle·\w+(?:·proofs\.proofs|\.proofs)\.(\w+)", f.read())
-        if all(c in names for c in cites):
+            cites = re.findall(r"Rattle\.(\w+)\.proofs\.(\w+)", f.read())
+        if all(cited in names for owner, cited in cites if os.path.isdir(f"{root}/crates/{owner}")):
             found.append(name)
     return found
 

@@ -8,14 +8,14 @@ REFUSED = [1, 2, 3, 4, 14]
 
 HEAD = """-- Made by tests/definition.
 use Prim.Native.Nat.{ℕ}
-use mathlib.Core.Path.{_≡_, refl}
-use mathlib.Core.List.{List, _∷_}
-use Rattle·definition.proofs.Example.{bytes}
-use Rattle·tidy.specs.Reply.{Reply, responseCode, tidy}
+use mathlib.Core.Path.{◌≡◌, refl}
+use mathlib.Core.List.{List, ◌∷◌}
+use Rattle.definition.proofs.Example.{bytes}
+use Rattle.tidy.specs.Reply.{Reply, response_code, tidy}
 
 -- what the C function returns, then the output
 abbrev told : Reply → List ℕ
-told r = responseCode (r .response) ∷ r .out
+told r = response_code r.response ∷ r.out
 """
 
 
