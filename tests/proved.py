@@ -100,6 +100,22 @@ def words(root, name, *more):
     return found + ["--crate-type", "staticlib"] * ("staticlib" in kind) + list(more)
 
 
+def source_words(root, name):
+    """The words that tell rattle of a crate, and of the crates below it as sources: what proofs of theirs it reaches is checked with it."""
+    home, crates = kit(), listed(root)
+    found = ["--crate-name", name, "src/lib.rt", "-L", f"dependency={home}/rlibs"]
+    for it in ("core", "std"):
+        found += ["--extern", f"{it}={home}/rlibs/{it}.rlib"]
+    for it in below(crates, name):
+        found += ["--lib", f"{it}:{','.join(['core', 'std', *crates[it][1]])}={root}/crates/{it}/src/lib.rt"]
+    return found + ["--antt-project", f"{home}/rattle/logic/antt-project.json", "--logic-built", f"{home}/logic_built", "--links", f"{name}="]
+
+
+def copy_kept(kept, to):
+    """A copy of an incremental directory, by links: a check puts other files in place of those that it finds, and changes none."""
+    shutil.copytree(kept, to, copy_function=os.link)
+
+
 def run(command, folder):
     """Status and output of a command; `rt run` reads nothing."""
     p = subprocess.run(command, cwd=folder, stdin=subprocess.DEVNULL, stdout=subprocess.PIPE, stderr=subprocess.STDOUT, errors="replace")

@@ -4,12 +4,12 @@ import os
 import re
 import shutil
 
-ITEM = re.compile(r"^(?:pub (?:enum|struct) \w+ \{\n(?:.*\n)*?\}|pub mod \w+;|use crate::[\w:]+;)$", re.M)
+ITEM = re.compile(r"^(?:pub (?:enum|struct) \w+ \{\n(?:.*\n)*?\}|pub mod \w+;|use [\w:]+;)$", re.M)
 
 
 def types_only(text):
-    """The declared types and modules of a source file; functions and methods are left out."""
-    return "\n".join(m.group(0) for m in ITEM.finditer(text)) + "\n"
+    """The declared types and modules of a source file; functions, methods and derives are left out."""
+    return "// Types alone.\n" + "\n".join(m.group(0) for m in ITEM.finditer(text)) + "\n"
 
 
 def cited(text):
@@ -43,16 +43,21 @@ def copy_tidy(root, folder):
     modules(target + "/specs", names)
 
 
-def copy_definition(root, folder, proofs=()):
-    """Copies the definition to folder/crates/definition, with the named files of its proofs/ and what they cite."""
-    source, target = root + "/crates/definition", folder + "/crates/definition"
-    shutil.copytree(source + "/specs", target + "/specs")
+def copy_types(source, target):
+    """Copies src/ of a crate, its types alone, without what they derive."""
     os.makedirs(target + "/src")
     for name in os.listdir(source + "/src"):
         with open(source + "/src/" + name) as f:
             text = types_only(f.read())
         with open(target + "/src/" + name, "w") as f:
             f.write(text)
+
+
+def copy_definition(root, folder, proofs=()):
+    """Copies the definition to folder/crates/definition, with the named files of its proofs/ and what they cite."""
+    source, target = root + "/crates/definition", folder + "/crates/definition"
+    shutil.copytree(source + "/specs", target + "/specs")
+    copy_types(source, target)
     proofs = with_cited(source, proofs)
     if proofs:
         os.makedirs(target + "/proofs")
@@ -107,7 +112,7 @@ def copy_samples(root, folder, crates):
             shutil.copy(f"{source}/specs/{name}.antt", target + "/specs")
         modules(target + "/specs", needed[crate])
         if crate in crates:
-            shutil.copytree(source + "/src", target + "/src")
+            copy_types(source, target)
             os.makedirs(target + "/proofs")
             for name in samples(root, crate):
                 shutil.copy(f"{source}/proofs/{name}.antt", target + "/proofs")
