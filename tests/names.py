@@ -12,31 +12,31 @@ Import = collections.namedtuple("Import", "name module item line")
 # ---- antt
 
 TOKEN = re.compile(r'\{-.*?-\}|--[^\n]*|"(?:\\.|[^"\\])*"|«[^»\n]*»|[(){}.;,@]|[^\s(){}.;,@"«»]+', re.S)
-MARKS = ("pub", "unfoldable", "abbrev", "axiom")
+MARKS = ("pub", "unfoldable", "abbrev", "opaque", "axiom")
 
 
 def tokens(text, line=1):
-    """Without comments and quoted texts. An escaped name is the bare one, but where a `_` in it would be an argument's."""
+    """Without comments and quoted texts. An escaped name is the bare one."""
     out, at = [], 0
     for m in TOKEN.finditer(text):
         line += text.count("\n", at, m.start())
         at, word = m.start(), m[0]
         if word.startswith(("--", "{-", '"')):
             continue
-        if word[0] == "«" and "_" not in word:
+        if word[0] == "«":
             word = word[1:-1]
         out.append(Token(word, line, at - text.rfind("\n", 0, at) - 1, at == 0 or text[at - 1].isspace()))
     return out
 
 
 def parts(name):
-    """What is written of an operator between its arguments: `||` of `_||_`."""
-    return [] if name[0] == "«" else [p for p in name.split("_") if p]
+    """What is written of an operator between its arguments: `||` of `◌||◌`."""
+    return [p for p in name.split("◌") if p] if "◌" in name else []
 
 
 def module_key(path):
-    """(crate, 'specs' or 'proofs', module ..) of a path as Rattle·book·specs.specs.Lines; None for one of the kit."""
-    return (path[0].split("·")[1], *path[1:]) if path[0].startswith("Rattle·") else None
+    """(crate, 'specs' or 'proofs', module ..) of a path as Rattle.book.specs.Lines; None for another."""
+    return tuple(path[1:]) if path[0] == "Rattle" and len(path) > 2 else None
 
 
 def imported(ts, k, path):
@@ -107,15 +107,15 @@ class Scope:
         found, none, whole = set(), set(), module_key(path)
         if whole:
             found |= {(whole[:k], whole[k]) for k in range(2, len(whole))}
-        for name in self.by_word.get(path[0], none) | self.by_word.get(path[0].strip("_"), none):
+        for name in self.by_word.get(path[0], none) | self.by_word.get(path[0].strip("◌"), none):
             self.written.add(name)
             if name in self.own:
                 found.add((None, name))
             for key, item in self.by_name.get(name, ()):
                 if key and item:
                     found.add((key, item))
-                elif key:
-                    found |= {((*key, *path[1:k]), path[k]) for k in range(1, len(path))}
+                elif key:  # a module, or one name of it
+                    found |= {((*key, *path[1:k]), path[k]) for k in range(1, len(path))} | {(key[:-1], key[-1])}
         return found
 
 
@@ -182,6 +182,12 @@ class Module:
             line = t.line
             self.bodies[owner].append(t)
 
+    def of_goal(self, name):
+        """Whether the type of a declaration is one that the checker made of the code: `loop-i-init : goal.loop-i-init`."""
+        made = {i.name for i in self.imports if i.module[-1] in ("Goals", "Given") and i.module[0] == "Rattle"}
+        ts = [t.text for t in self.bodies[name]]
+        return ":" in ts and ts[ts.index(":") + 1] in made
+
     def cites(self):
         """By declaration the (module, name) pairs that it names; and every name that the file writes."""
         scope, found = Scope(self.imports, {*self.lines, *self.members}), {}
@@ -194,6 +200,7 @@ class Module:
 # ---- Rattle
 
 CLAUSE = re.compile(r"^\s+(?:requires|ensures)\b[^{\n]*\{", re.M)
+TACTIC = re.compile(r"^\s*#!?\[tactic\(([^\n]*)\)\]$", re.M)
 USE = re.compile(r"^(?:pub )?use ([\w:]+?)(?:::\{([^}]*)\})?(?: as (\w+))?;", re.M)
 GHOST_USE = re.compile(r"^ghost use ([^;]*);", re.M)
 ITEM = re.compile(r"^( *)(?:pub )?(extern \"C\" )?(?:fn|struct|enum|impl) (\w+)", re.M)
@@ -233,6 +240,9 @@ class Source:
             end = closing(text, m.end() - 1)
             self.contracts += tokens(text[m.end() - 1 : end], line_of(text, m.end()))
             text = text[: m.start()] + blank(text[m.start() : end]) + text[end:]
+        for m in TACTIC.finditer(text):  # the lemmas that a function's proof may use
+            self.contracts += tokens(m[1], line_of(text, m.start()))
+        text = TACTIC.sub(lambda m: blank(m[0]), text)
         self.children = set(re.findall(r"^(?:pub )?mod (\w+);", text, re.M))
         self.ghosts, self.uses = [], {}  # antt imports; by name its path and line
         self.code = USE.sub(self.add_use, GHOST_USE.sub(self.add_ghost, text))
@@ -243,10 +253,11 @@ class Source:
         return blank(m[0])
 
     def add_use(self, m):
-        for item in m[2].split(",") if m[2] else [m[1].split("::")[-1]]:
+        for item in filter(str.strip, m[2].split(",")) if m[2] else [m[1].split("::")[-1]]:
             name, _, other = item.strip().partition(" as ")
-            path = m[1] + "::" + name if m[2] else m[1]
-            self.uses[m[3] or other or name] = (self.whole(path), line_of(m.string, m.start()))
+            path = m[1] + "::" + name if m[2] and name != "self" else m[1]
+            name = path.rpartition("::")[2]
+            self.uses[(m[3] if not m[2] else "") or other or name] = (self.whole(path), line_of(m.string, m.start()))
         return blank(m[0])
 
     def whole(self, path):
