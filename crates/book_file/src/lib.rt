@@ -1,17 +1,38 @@
 // The file that the programs read a book from.
 #![tactic(auto)]
 
-ghost use Rattle.io.specs.Counts.{IsPrefixLen};
+ghost use Rattle.book_file.specs.Counts.{IsPrefixLen};
+
+use std::fs::File;
+use std::io::Read;
+use std::rt::Files;
+
+// How many bytes the programs keep of what they read: more than any book has.
+pub const ROOM: usize = 65536;
 
 // Reads the book and answers its length; a file that cannot be opened has none.
-pub fn read_book(bytes: &mut [u8]) -> usize
+pub fn read_book(files: &impl Files, bytes: &mut [u8]) -> usize
     ensures { IsPrefixLen result bytes.new }
 {
-    let file = os::open_read(b"book.txt");
-    if file < 0 {
+    let Ok(mut file) = File::open(files, "book.txt") else {
         return 0;
+    };
+    read_full(&mut file, bytes)
+}
+
+// Reads until the buffer is full, the input ends or a read fails, and answers how many bytes it put at the buffer's start.
+pub fn read_full(input: &mut impl Read, bytes: &mut [u8]) -> usize
+    ensures { IsPrefixLen result bytes.new }
+{
+    let mut done = 0;
+    while done < bytes.len() {
+        let Ok(n) = input.read(&mut bytes[done..]) else {
+            break;
+        };
+        if n == 0 {
+            break;
+        }
+        done += n;
     }
-    let n = io::read_full(file, bytes);
-    libc::close(file);
-    n
+    done
 }
