@@ -12,9 +12,12 @@ ghost use Rattle.ask.specs.declared.Opened.TheVariants.{Open};
 ghost use Rattle.ask.specs.Program.{opened_with, opened, replied, turned, turn, passes_asked, Lent, Ready};
 
 use book::BookRead;
+use book_file::ROOM;
 use definition::format::Header;
-use libc::{STDIN_FILENO, STDOUT_FILENO};
 use question::{Ending, Question};
+use std::env::{Env, FillError};
+use std::io;
+use std::io::Read;
 
 // What the program makes of its book: it answers questions over it, or it ends.
 #[derive(Clone, Copy)]
@@ -96,83 +99,109 @@ fn passes(book: &[u8], cache: &[u8], line: &[u8]) -> u8
     query::passes::of_answer(book, cache, goal as usize, depth as usize)
 }
 
-// ---- files
+// ---- the program's input and output
+
+// Whether the program was started with an argument.
+fn has_argument(env: &impl Env) -> bool {
+    !matches!(env.arg(1, &mut [0u8; 1]), Err(FillError::NotPresent))
+}
 
 // Prints a line, with the number of passes where that is asked for.
-fn print(line: [u8; 13], shows: bool, passes: u8) {
+fn print(rt: &impl Print, line: [u8; 13], shows: bool, passes: u8) -> io::Result<()> {
     if shows {
-        io::write_all(STDOUT_FILENO, &line[..12]);
+        rt.write_all(&line[..12])?;
         let columns = book::columns::of_number(passes as u16);
-        io::write_all(STDOUT_FILENO, &columns);
-        io::write_all(STDOUT_FILENO, b"\n");
-        return;
+        rt.write_all(&columns)?;
+        return rt.write_all(b"\n");
     }
-    io::write_all(STDOUT_FILENO, &line);
+    rt.write_all(&line)
 }
 
 // Prints the reply to a question line.
-fn print_reply(book: &[u8], cache: &[u8], line: &[u8], reply: [u8; 13], shows: bool) {
+fn print_reply(
+    rt: &impl Print,
+    book: &[u8],
+    cache: &[u8],
+    line: &[u8],
+    reply: [u8; 13],
+    shows: bool,
+) -> io::Result<()> {
     if shows {
-        print(reply, true, passes(book, cache, line));
-        return;
+        return print(rt, reply, true, passes(book, cache, line));
     }
-    print(reply, false, 0);
+    print(rt, reply, false, 0)
 }
 
-// Reads a question line and prints its reply; false where no more is read.
-fn ask_once(book: &[u8], cache: &mut [u8], work: &mut [u8], shows: bool) -> bool
+// Reads a question line and prints its reply; false where no more is read. Cache and workspace are ready for the
+// next question too where the reply cannot be printed.
+fn ask_once(
+    rt: &impl Print,
+    input: &mut impl Read,
+    book: &[u8],
+    cache: &mut [u8],
+    work: &mut [u8],
+    shows: bool,
+) -> io::Result<bool>
     requires { Ready book.now cache.old work.old }
     ensures { Ready book.now cache.new work.new }
 {
     let mut line = [0u8; 7];
-    let n = io::read_full(STDIN_FILENO, &mut line);
+    let n = book_file::read_full(input, &mut line);
     if n == 0 {
-        return false;
+        return Ok(false);
     }
     let t = answer_line(book, cache, work, &line[..n]);
-    let out = t.line;
-    print_reply(book, cache, &line[..n], out, shows);
-    t.more
+    print_reply(rt, book, cache, &line[..n], t.line, shows)?;
+    Ok(t.more)
 }
 
 // Answers all questions over a book that was accepted, from a cache of zeros. A proved
-// loop has to end, so it counts its turns down, from a number that no run uses up.
-fn ask(book: &[u8], cache: &mut [u8], work: &mut [u8], shows: bool)
+// loop has to end, so it counts its turns, up to a number that no run comes to.
+fn ask(
+    rt: &impl Print,
+    input: &mut impl Read,
+    book: &[u8],
+    cache: &mut [u8],
+    work: &mut [u8],
+    shows: bool,
+) -> io::Result<()>
     requires { Lent book.now cache.old work.old }
 {
     buffer::fill_zero(cache);
-    let mut left: u64 = 18446744073709551615;
-    while 0 < left {
-        if !ask_once(book, cache, work, shows) {
-            return;
+    for _ in 0..u64::MAX {
+        if !ask_once(rt, input, book, cache, work, shows)? {
+            break;
         }
-        left = left - 1;
     }
+    Ok(())
 }
 
 // Answers all questions, with a cache and a workspace for the book.
-fn ask_book(book: &[u8], h: Header, shows: bool)
+fn ask_book(
+    rt: &impl Print,
+    input: &mut impl Read,
+    book: &[u8],
+    h: Header,
+    shows: bool,
+) -> io::Result<()>
     requires { opened (read_book book.now) ≡ Open h }
 {
     let goals = h.goals;
-    let mut caches = io::large_buffer();
-    let mut works = io::large_buffer();
+    let mut caches = [0u8; ROOM];
+    let mut works = [0u8; ROOM];
     let c = query::cache_length(goals, h.top);
     let w = query::work_length(goals);
-    ask(book, &mut caches[..c], &mut works[..w], shows);
+    ask(rt, input, book, &mut caches[..c], &mut works[..w], shows)
 }
 
-fn main() {
-    let mut bytes = io::large_buffer();
-    let n = book_file::read_book(&mut bytes);
+fn main(rt: HostRuntime) -> io::Result<()> {
+    let mut bytes = [0u8; ROOM];
+    let n = book_file::read_book(&rt, &mut bytes);
     let book = &bytes[..n];
     let o = open(book);
-    let shows = 1 < os::arg_count();
+    let shows = has_argument(&rt);
     match o {
-        Opened::Open(h) => ask_book(book, h, shows),
-        Opened::Closed(e) => {
-            let line = question::ending_line(e);
-            print(line, shows, 0);
-        }
+        Opened::Open(h) => ask_book(&rt, &mut rt.stdin(), book, h, shows),
+        Opened::Closed(e) => print(&rt, question::ending_line(e), shows, 0),
     }
 }

@@ -3,34 +3,34 @@
 // inductive and a coinductive step inside one group, and the goals of that group.
 #![tactic(auto)]
 
-use libc::STDOUT_FILENO;
+use book_file::ROOM;
+use std::io;
 
 // The last three digits of a number; no line has a longer one.
-fn print(n: u64) {
+fn print(rt: &impl Print, n: u64) -> io::Result<()> {
     let low = (n % 1000) as u16;
     let columns = book::columns::of_number(low);
-    io::write_all(STDOUT_FILENO, &columns);
+    rt.write_all(&columns)
 }
 
-fn print_goals(group: u64) {
-    let mut i: usize = 0;
-    while i < 64 {
+fn print_goals(rt: &impl Print, group: u64) -> io::Result<()> {
+    for i in 0..64 {
         if bits::has(group, i) {
-            print(i as u64);
+            print(rt, i as u64)?;
         }
-        i = i + 1;
     }
+    Ok(())
 }
 
-fn main() {
-    let mut bytes = io::large_buffer();
-    let n = book_file::read_book(&mut bytes);
+fn main(rt: HostRuntime) -> io::Result<()> {
+    let mut bytes = [0u8; ROOM];
+    let n = book_file::read_book(&rt, &mut bytes);
     let v = guarantee::guarantee(&bytes[..n]);
     let numbers = v.numbers();
     let code = v.code() as u64;
-    print(code / 256);
-    print(numbers[0]);
-    print(numbers[1]);
-    print_goals(numbers[2]);
-    io::write_all(STDOUT_FILENO, b"\n");
+    print(&rt, code / 256)?;
+    print(&rt, numbers[0])?;
+    print(&rt, numbers[1])?;
+    print_goals(&rt, numbers[2])?;
+    rt.write_all(b"\n")
 }

@@ -4,10 +4,13 @@
 #![tactic(auto)]
 
 ghost use Rattle.std.specs.Prelude.{◌≡◌, true, length};
-ghost use Rattle.io.specs.Counts.{IsPrefixLen};
+ghost use Rattle.book_file.specs.Counts.{IsPrefixLen};
 ghost use Rattle.replay.specs.Recorded.{WorkLeft, AsRecorded, with_book, with_query};
 
-use libc::STDOUT_FILENO;
+use book_file::{ROOM, read_full};
+use std::fs::File;
+use std::io;
+use std::io::Read;
 
 // How many books and queries were replayed, and how many replies differed.
 #[derive(Clone, Copy)]
@@ -16,6 +19,12 @@ struct Tally {
     queries: u64,
     differences: u64,
 }
+
+const NONE: Tally = Tally {
+    books: 0,
+    queries: 0,
+    differences: 0,
+};
 
 // ---- comparing
 
@@ -30,7 +39,7 @@ fn work_is_left(refusal: u64, work: &[u8], before: &[u8]) -> bool
     if 9 < refusal {
         return buffer::all_zero(work);
     }
-    check::same(work, before)
+    work == before
 }
 
 // Whether a reply is as it was recorded.
@@ -48,7 +57,7 @@ fn as_recorded(
     if code != recorded {
         return false;
     }
-    if !check::same(cache, after) {
+    if cache != after {
         return false;
     }
     work_is_left(code / 256, work, before)
@@ -57,22 +66,22 @@ fn as_recorded(
 // ---- the file
 
 // The next number: 8 bytes, the lowest first.
-fn number(file: i32) -> u64 {
+fn number(file: &mut impl Read) -> u64 {
     let mut bytes = [0u8; 8];
-    io::read_full(file, &mut bytes);
+    read_full(file, &mut bytes);
     buffer::read_u64(&bytes, 0)
 }
 
 // The next bytes, whose length stands before them, at the start of a buffer; none where
 // they do not fit.
-fn bytes(file: i32, buf: &mut [u8]) -> usize
+fn bytes(file: &mut impl Read, buf: &mut [u8]) -> usize
     ensures { IsPrefixLen result buf.new }
 {
     let n = number(file) as usize;
     if buf.len() < n {
         return 0;
     }
-    io::read_full(file, &mut buf[..n])
+    read_full(file, &mut buf[..n])
 }
 
 // ---- replaying
@@ -85,7 +94,12 @@ fn sevens() -> [u8; 1000000]
 }
 
 // Replays a query and says whether its reply is as it was recorded.
-fn replay_query(file: i32, book: &[u8], cache: &mut [u8], after: &mut [u8]) -> bool
+fn replay_query(
+    file: &mut impl Read,
+    book: &[u8],
+    cache: &mut [u8],
+    after: &mut [u8],
+) -> bool
     ensures { result ≡ true → cache.new ≡ after.new }
 {
     let goal = number(file) as usize;
@@ -113,7 +127,7 @@ impl Tally {
     fn with_query(self, same: bool) -> Tally
         ensures { result ≡ with_query same self }
     {
-        let queries = std::num::wrapping_add_u64(self.queries, 1);
+        let queries = self.queries.wrapping_add(1);
         if same {
             return Tally {
                 books: self.books,
@@ -124,7 +138,7 @@ impl Tally {
         Tally {
             books: self.books,
             queries,
-            differences: std::num::wrapping_add_u64(self.differences, 1),
+            differences: self.differences.wrapping_add(1),
         }
     }
 
@@ -132,54 +146,52 @@ impl Tally {
         ensures { result ≡ with_book self }
     {
         Tally {
-            books: std::num::wrapping_add_u64(self.books, 1),
+            books: self.books.wrapping_add(1),
             queries: self.queries,
             differences: self.differences,
         }
     }
 }
 
-fn say_difference(name: &[u8], query: u64) {
-    io::write_all(STDOUT_FILENO, b"differs: ");
-    io::write_all(STDOUT_FILENO, name);
-    io::write_all(STDOUT_FILENO, b", query ");
-    io::print_decimal(STDOUT_FILENO, query);
-    io::write_all(STDOUT_FILENO, b"\n");
+fn say_difference(rt: &impl Print, name: &[u8], query: u64) -> io::Result<()> {
+    rt.write_all(b"differs: ")?;
+    rt.write_all(name)?;
+    println!(rt; ", query {query}")
 }
 
 fn replay_queries(
-    file: i32,
+    rt: &impl Print,
+    file: &mut impl Read,
     name: &[u8],
     book: &[u8],
     cache: &mut [u8],
     after: &mut [u8],
     tally: Tally,
-) -> Tally {
+) -> io::Result<Tally> {
     let mut t = tally;
     let n = number(file);
-    let mut i: u64 = 0;
-    while i < n {
-        i = i + 1;
+    for i in 0..n {
         let same = replay_query(file, book, cache, after);
         if !same {
-            say_difference(name, i);
+            say_difference(rt, name, i + 1)?;
         }
         t = t.with_query(same);
     }
-    t
+    Ok(t)
 }
 
 // Replays a book's queries, with the cache carried from each to the next.
-fn replay_book(file: i32, tally: Tally) -> Tally {
-    let mut name = io::buffer();
-    let mut book = io::large_buffer();
-    let mut cache = io::large_buffer();
-    let mut after = io::large_buffer();
+fn replay_book(rt: &impl Print, file: &mut impl Read, tally: Tally) -> io::Result<Tally> {
+    let mut name = [0u8; 4096];
+    let mut book = [0u8; ROOM];
+    let mut cache = [0u8; ROOM];
+    let mut after = [0u8; ROOM];
     let n = bytes(file, &mut name);
     let b = bytes(file, &mut book);
     let c = bytes(file, &mut cache);
     let t = tally.with_book();
     replay_queries(
+        rt,
         file,
         &name[..n],
         &book[..b],
@@ -189,29 +201,25 @@ fn replay_book(file: i32, tally: Tally) -> Tally {
     )
 }
 
-fn replay(file: i32) -> Tally {
-    let mut t = Tally {
-        books: 0,
-        queries: 0,
-        differences: 0,
-    };
-    let mut left = number(file);
-    while 0 < left {
-        left = left - 1;
-        t = replay_book(file, t);
+fn replay(rt: &impl Print, file: &mut impl Read) -> io::Result<Tally> {
+    let mut t = NONE;
+    let books = number(file);
+    for _ in 0..books {
+        t = replay_book(rt, file, t)?;
     }
-    t
+    Ok(t)
 }
 
-fn main() {
-    let file = os::open_read(b"vectors.bin");
-    let t = replay(file);
-    libc::close(file);
-    io::write_all(STDOUT_FILENO, b"replayed ");
-    io::print_decimal(STDOUT_FILENO, t.books);
-    io::write_all(STDOUT_FILENO, b" books, ");
-    io::print_decimal(STDOUT_FILENO, t.queries);
-    io::write_all(STDOUT_FILENO, b" queries, ");
-    io::print_decimal(STDOUT_FILENO, t.differences);
-    io::write_all(STDOUT_FILENO, b" differences\n");
+// A file that cannot be opened has no books.
+fn main(rt: HostRuntime) -> io::Result<()> {
+    let t = match File::open(&rt, "vectors.bin") {
+        Ok(mut file) => replay(&rt, &mut file)?,
+        Err(_) => NONE,
+    };
+    let Tally {
+        books,
+        queries,
+        differences,
+    } = t;
+    println!(rt; "replayed {books} books, {queries} queries, {differences} differences")
 }

@@ -2,29 +2,30 @@
 // lines; where the book is refused, one line: the refusal's number, three columns.
 #![tactic(auto)]
 
-use libc::STDOUT_FILENO;
+use book_file::ROOM;
+use std::io;
 use tidy::Response;
 
-fn print_refusal(r: Response) {
+fn print_refusal(rt: &impl Print, r: Response) -> io::Result<()> {
     let columns = book::columns::of_number(r.refusal());
-    io::write_all(STDOUT_FILENO, &columns);
-    io::write_all(STDOUT_FILENO, b"\n");
+    rt.write_all(&columns)?;
+    rt.write_all(b"\n")
 }
 
-fn print_tidy(book: &[u8], out: &mut [u8]) {
+fn print_tidy(rt: &impl Print, book: &[u8], out: &mut [u8]) -> io::Result<()> {
     let r = tidy::tidy(book, out);
     match r {
         Response::Written(length) => {
             let n = length as usize;
-            io::write_all(STDOUT_FILENO, &out[..n]);
+            rt.write_all(&out[..n])
         }
-        _ => print_refusal(r),
+        _ => print_refusal(rt, r),
     }
 }
 
-fn main() {
-    let mut bytes = io::large_buffer();
-    let mut out = io::large_buffer();
-    let n = book_file::read_book(&mut bytes);
-    print_tidy(&bytes[..n], &mut out[..n]);
+fn main(rt: HostRuntime) -> io::Result<()> {
+    let mut bytes = [0u8; ROOM];
+    let mut out = [0u8; ROOM];
+    let n = book_file::read_book(&rt, &mut bytes);
+    print_tidy(&rt, &bytes[..n], &mut out[..n])
 }
