@@ -1,14 +1,6 @@
 -- The lengths of cache and workspace for a book that was opened, at most 16 goals.
-use mathlib.Core.Path.{◌≡◌, sym, ap, subst, ◌∙◌}
-use mathlib.Core.Bool.{Bool, true, ◌&&◌}
-use mathlib.Core.List.{List}
-use Prim.Native.Nat.{ℕ, ◌+◌, ◌*◌, ◌≤◌}
-use native.Mathlib.Omega.{arith}
-use native.Mathlib.Nat.{mul-le-mul}
-use lib.Dec.{leb}
-use lib.ListN.{length, take}
-use lib.Seq.{length-take-le}
-use borrow.Author.Tests.{le-leb}
+use Rattle.std.proofs.Common.{◌≡◌, sym, ap, subst, ◌∙◌, Bool, true, ◌&&◌, ℕ, ◌+◌, ◌*◌, ◌≤◌, leb, le-leb, List, length, take, length-take-le, arith}
+use Rattle.std.proofs.Math.Nat.{mul-le-mul}
 use Rattle.definition.specs.declared.format.Header.{Header}
 use Rattle.definition.specs.Reader.{read_book}
 use Rattle.definition.specs.CacheForm.{cache_length}

@@ -1,3 +1,2 @@
 pub mod Opening
-pub mod Turns
 pub mod Lengths

@@ -12,7 +12,6 @@ ghost use Rattle.ask.specs.declared.Opened.TheVariants.{Open};
 ghost use Rattle.ask.specs.Program.{opened_with, opened, replied, turned, turn, passes_asked, Lent, Ready};
 
 use book::BookRead;
-use book_file::ROOM;
 use definition::format::Header;
 use question::{Ending, Question};
 use std::env::{Env, FillError};
@@ -187,15 +186,15 @@ fn ask_book(
     requires { opened (read_book book.now) ≡ Open h }
 {
     let goals = h.goals;
-    let mut caches = [0u8; ROOM];
-    let mut works = [0u8; ROOM];
+    let mut caches = book_file::buffer();
+    let mut works = book_file::buffer();
     let c = query::cache_length(goals, h.top);
     let w = query::work_length(goals);
     ask(rt, input, book, &mut caches[..c], &mut works[..w], shows)
 }
 
 fn main(rt: HostRuntime) -> io::Result<()> {
-    let mut bytes = [0u8; ROOM];
+    let mut bytes = book_file::buffer();
     let n = book_file::read_book(&rt, &mut bytes);
     let book = &bytes[..n];
     let o = open(book);

@@ -1,14 +1,22 @@
 // The file that the programs read a book from.
 #![tactic(auto)]
 
+ghost use Rattle.std.specs.Prelude.{◌≡◌, length};
 ghost use Rattle.book_file.specs.Counts.{IsPrefixLen};
 
 use std::fs::File;
 use std::io::Read;
 use std::rt::Files;
 
-// How many bytes the programs keep of what they read: more than any book has.
+// How many bytes a program reads of a book at most: more than any book has that is accepted.
 pub const ROOM: usize = 65536;
+
+// Room for a book, or for another table of a program: zeros.
+pub fn buffer() -> [u8; ROOM]
+    ensures { 65536 ≡ length result }
+{
+    [0; ROOM]
+}
 
 // Reads the book and answers its length; a file that cannot be opened has none.
 pub fn read_book(files: &impl Files, bytes: &mut [u8]) -> usize

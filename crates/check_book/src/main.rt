@@ -3,7 +3,6 @@
 // inductive and a coinductive step inside one group, and the goals of that group.
 #![tactic(auto)]
 
-use book_file::ROOM;
 use std::io;
 
 // The last three digits of a number; no line has a longer one.
@@ -23,7 +22,7 @@ fn print_goals(rt: &impl Print, group: u64) -> io::Result<()> {
 }
 
 fn main(rt: HostRuntime) -> io::Result<()> {
-    let mut bytes = [0u8; ROOM];
+    let mut bytes = book_file::buffer();
     let n = book_file::read_book(&rt, &mut bytes);
     let v = guarantee::guarantee(&bytes[..n]);
     let numbers = v.numbers();

@@ -7,7 +7,7 @@ ghost use Rattle.std.specs.Prelude.{◌≡◌, true, length};
 ghost use Rattle.book_file.specs.Counts.{IsPrefixLen};
 ghost use Rattle.replay.specs.Recorded.{WorkLeft, AsRecorded, with_book, with_query};
 
-use book_file::{ROOM, read_full};
+use book_file::read_full;
 use std::fs::File;
 use std::io;
 use std::io::Read;
@@ -94,12 +94,7 @@ fn sevens() -> [u8; 1000000]
 }
 
 // Replays a query and says whether its reply is as it was recorded.
-fn replay_query(
-    file: &mut impl Read,
-    book: &[u8],
-    cache: &mut [u8],
-    after: &mut [u8],
-) -> bool
+fn replay_query(file: &mut impl Read, book: &[u8], cache: &mut [u8], after: &mut [u8]) -> bool
     ensures { result ≡ true → cache.new ≡ after.new }
 {
     let goal = number(file) as usize;
@@ -183,9 +178,9 @@ fn replay_queries(
 // Replays a book's queries, with the cache carried from each to the next.
 fn replay_book(rt: &impl Print, file: &mut impl Read, tally: Tally) -> io::Result<Tally> {
     let mut name = [0u8; 4096];
-    let mut book = [0u8; ROOM];
-    let mut cache = [0u8; ROOM];
-    let mut after = [0u8; ROOM];
+    let mut book = book_file::buffer();
+    let mut cache = book_file::buffer();
+    let mut after = book_file::buffer();
     let n = bytes(file, &mut name);
     let b = bytes(file, &mut book);
     let c = bytes(file, &mut cache);

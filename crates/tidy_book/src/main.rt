@@ -2,7 +2,6 @@
 // lines; where the book is refused, one line: the refusal's number, three columns.
 #![tactic(auto)]
 
-use book_file::ROOM;
 use std::io;
 use tidy::Response;
 
@@ -24,8 +23,8 @@ fn print_tidy(rt: &impl Print, book: &[u8], out: &mut [u8]) -> io::Result<()> {
 }
 
 fn main(rt: HostRuntime) -> io::Result<()> {
-    let mut bytes = [0u8; ROOM];
-    let mut out = [0u8; ROOM];
+    let mut bytes = book_file::buffer();
+    let mut out = book_file::buffer();
     let n = book_file::read_book(&rt, &mut bytes);
     print_tidy(&rt, &bytes[..n], &mut out[..n])
 }
