@@ -51,20 +51,20 @@ module _ (bytes : List ℕ) (h : Header) (is : opened (read_book bytes) ≡ Open
   work_known : (r : ℕ) → r ≡ work_length_or0 h.goals → r ≡ work_length h.goals
   work_known r e = e ∙ ap (λ (b : Bool). or_zero b (work_length h.goals)) goals_fit_lem
 
-  pub cache_fits_lem : (r n : ℕ) → r ≡ cache_length_or0 h.goals h.top → 65536 ≡ n → r ≤ n
-  cache_fits_lem r n e k =
-      let a = cache_known r e in
+  pub cache_fits_lem : (c n : ℕ) → c ≡ cache_length_or0 h.goals h.top → n ≡ 65536 → c ≤ n
+  cache_fits_lem c n e k =
+      let a = cache_known c e in
       let b = small_cache h.goals h.top few in_range.top_fits in
       omega arith
 
-  pub work_fits : (r n : ℕ) → r ≡ work_length_or0 h.goals → 65536 ≡ n → r ≤ n
-  work_fits r n e k =
-      let a = work_known r e in
+  pub work_fits : (w n : ℕ) → w ≡ work_length_or0 h.goals → n ≡ 65536 → w ≤ n
+  work_fits w n e k =
+      let a = work_known w e in
       let b = small_work h.goals few in
       omega arith
 
   -- the first bytes of two buffers
-  pub lent : (c w : ℕ) (xs ys : List ℕ) → c ≡ cache_length_or0 h.goals h.top → w ≡ work_length_or0 h.goals → 65536 ≡ length xs → 65536 ≡ length ys → Lent bytes (take c xs) (take w ys)
+  pub lent : (c w : ℕ) (xs ys : List ℕ) → c ≡ cache_length_or0 h.goals h.top → w ≡ work_length_or0 h.goals → length xs ≡ 65536 → length ys ≡ 65536 → Lent bytes (take c xs) (take w ys)
   lent c w xs ys ec ew lx ly = record {
     book = the_book.book;
     accepted = the_book.accepted;

@@ -13,7 +13,7 @@ pub const ROOM: usize = 65536;
 
 // Room for a book, or for another table of a program: zeros.
 pub fn buffer() -> [u8; ROOM]
-    ensures { 65536 ≡ length result }
+    ensures { length result ≡ ROOM }
 {
     [0; ROOM]
 }
