@@ -345,8 +345,7 @@ def render(before, pairs):
 
 
 def paths():
-    found = glob.glob("crates/*/must-fail/*.edit", root_dir=ROOT) + glob.glob("crates/*/must-fail/more/*.edit", root_dir=ROOT)
-    return [p for p in sorted(found)]
+    return sorted(p for folder in ("must-fail", "must-fail/more", "must-fail-more") for p in glob.glob(f"crates/*/{folder}/*.edit", root_dir=ROOT))
 
 
 def rewrite(landed):
