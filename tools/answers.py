@@ -14,7 +14,7 @@ import subprocess
 import sys
 
 NAME = r"[^\s(){}.;,@\"«»\[\]\\:λ→×]+"
-PATH = re.compile(r"(?<![\w.'’₀-])(\(start c\)|" + NAME + r")((?:\." + NAME + r")+)")
+PATH = re.compile(r"(?<![\w.'’₀-])(" + NAME + r")((?:\." + NAME + r")+)")
 dash = lambda s: s.replace("_", "-")
 
 
@@ -38,52 +38,34 @@ WORDS = {dash(w): w for w in re.findall(r"\b[a-z]\w*_\w+\b", "\n".join(SOURCE.va
 plain = lambda s: dash(s).lower().replace("«", "").replace("»", "")
 
 
-def FILE_OF(callee):
-    """The file of a function, by its whole name."""
-    parts = callee.split("::")
+def found_in(name, rest, flags=0):
+    """The file of a function, by its whole name, and the match of `rest` behind `fn NAME` in it; nothing where there is none."""
+    parts = name.split("::")
     for n in range(len(parts) - 1, 0, -1):
         base = "crates/" + parts[0] + "/src" + "".join("/" + p for p in parts[1:n])
         for path in (base + ".rt", base + "/lib.rt", base + "/main.rt", base + "/mod.rt"):
-            if path in SOURCE and re.search(r"fn " + re.escape(parts[-1]) + r"\b", SOURCE[path]):
-                return SOURCE[path]
-    return ""
-
-
-def SOURCE_OF(callee):
-    """The head of a function, by its whole name."""
-    parts = callee.split("::")
-    for n in range(len(parts) - 1, 0, -1):
-        base = "crates/" + parts[0] + "/src" + "".join("/" + p for p in parts[1:n])
-        for path in (base + ".rt", base + "/lib.rt", base + "/main.rt", base + "/mod.rt"):
-            found = path in SOURCE and re.search(r"fn " + re.escape(parts[-1]) + r"\s*(?:<[^>]*>)?\(([^)]*)\)", SOURCE[path])
+            found = path in SOURCE and re.search(r"fn " + re.escape(parts[-1]) + rest, SOURCE[path], flags)
             if found:
-                return found.group(1)
-    return ""
+                return SOURCE[path], found
+    return "", None
 
 
-def mut_params(callee):
-    """The `&mut` parameters of a function, by its whole name."""
-    parts = callee.split("::")
-    for n in range(len(parts) - 1, 0, -1):
-        base = "crates/" + parts[0] + "/src" + "".join("/" + p for p in parts[1:n])
-        for path in (base + ".rt", base + "/lib.rt", base + "/main.rt", base + "/mod.rt"):
-            found = path in SOURCE and re.search(r"fn " + re.escape(parts[-1]) + r"\s*(?:<[^>]*>)?\(([^)]*)\)", SOURCE[path])
-            if found:
-                return [p.split(":")[0].strip().split()[-1] for p in found.group(1).split(",") if re.search(r":\s*&('\w+ )?mut ", p)]
-    return []
+def parameters(name):
+    """A function's parameters, as they are written."""
+    found = found_in(name, r"\s*(?:<[^>]*>)?\(([^)]*)\)")[1]
+    return found.group(1) if found else ""
 
 
-def clauses(callee, kind):
+def mut_params(name):
+    """The names of a function's `&mut` parameters."""
+    return [p.split(":")[0].strip().split()[-1] for p in parameters(name).split(",") if re.search(r":\s*&('\w+ )?mut ", p)]
+
+
+def clauses(name, kind):
     """The names of a function's clauses of a kind, where it has several."""
-    parts = callee.split("::")
-    for n in range(len(parts) - 1, 0, -1):
-        base = "crates/" + parts[0] + "/src" + "".join("/" + p for p in parts[1:n])
-        for path in (base + ".rt", base + "/lib.rt", base + "/main.rt", base + "/mod.rt"):
-            found = path in SOURCE and re.search(r"fn " + re.escape(parts[-1]) + r"\s*(?:<[^>]*>)?\([^)]*\)[^{;]*?(?:requires|ensures)?.*?\n *\{\n", SOURCE[path], re.S)
-            if found:
-                names = re.findall(r"(?m)^ +" + kind + r" (\w+) \{", found.group(0))
-                return names if len(names) > 1 else []
-    return []
+    found = found_in(name, r"\s*(?:<[^>]*>)?\([^)]*\)[^{;]*?(?:requires|ensures)?.*?\n *\{\n", re.S)[1]
+    names = re.findall(r"(?m)^ +" + kind + r" (\w+) \{", found.group(0)) if found else []
+    return names if len(names) > 1 else []
 
 
 class Function:
@@ -105,10 +87,6 @@ class Function:
                 if callee:
                     self.called[plain(a)] = callee
         self.places = {dash(p[0]): n for p, n in zip(info["places"], info["places_by_name"])}
-        self.parents = {n: None for n in info["places_by_name"]}
-        old_to_new = {p[0]: n for p, n in zip(info["places"], info["places_by_name"])}
-        for p, n in zip(info["places"], info["places_by_name"]):
-            self.parents[n] = old_to_new.get(p[1])
         self.arms = []
         for arm in info["arms"]:
             if arm:
@@ -142,7 +120,7 @@ class Function:
         for old, path, arm, field in self.arms:
             if old == first and [dash(x) for x in rest[: len(path)]] == path:
                 return "." + ".".join([arm, field, *rest[len(path) :]])
-        if first == "args" and rest[:1] == ["result"] and re.search(r"\bres: ", SOURCE_OF(self.name)):
+        if first == "args" and rest[:1] == ["result"] and re.search(r"\bres: ", parameters(self.name)):
             rest = ["res", *rest[1:]]
             segments = ["args", *rest]
         if first == "requires" and self.cycle and rest[:1] == ["0"]:
@@ -186,9 +164,8 @@ class Function:
                 names = clauses(self.called[first], "ensures")
                 if int(rest[1]) < len(names):
                     rest = ["ensures", names[int(rest[1])], *rest[2:]]
-            of_field = new.startswith("if-not-") and re.search(r"!" + re.escape(new[7:].split("-")[0]) + r"\.\w+\b(?!\()", FILE_OF(self.name))
+            of_field = new.startswith("if-not-") and re.search(r"!" + re.escape(new[7:].split("-")[0]) + r"\.\w+\b(?!\()", found_in(self.name, r"\b")[0])
             if new.startswith("if-not-") and not of_field and rest in (["true"], ["false"]):
-                self.flips = True
                 return "." + new + "." + rest[0] + "!"
             return "." + ".".join([new, *[WORDS.get(r, r) for r in rest]])
         return "." + ".".join(WORDS.get(dash(s), s) if s not in ("0", "1") else s for s in segments)
@@ -291,11 +268,6 @@ def expanded(chunk, imported):
             end += 1
         rest, tail = chunk[m.end() : end], chunk[end:]
         if re.search(r"(λ[^.\n]*(?<![\w'-])" + re.escape(name) + r"(?![\w'-])[^.\n]*\.|\(" + re.escape(name) + r" :|let " + re.escape(name) + r" )", rest):
-            if re.search(r"let " + re.escape(name) + r" ", rest):
-                at = m.end()
-                continue
-            name2 = name + "'"
-            rest = rest
             at = m.end()
             continue
         rest = re.sub(r"(?<![\w.'’₀-])" + re.escape(name) + r"(?![\w'’₀-])" + (r"(?=\.)" if name in imported else ""), lambda k: path, rest)
@@ -369,7 +341,7 @@ def parted(text, name):
         if inside and line and not line.startswith(" "):
             inside = False
         lines.append(line[2:] if inside and line.startswith("  ") else line)
-    out, helpers, keep = [], [], False
+    out, helpers = [], []
     for block in blocks("\n".join(lines)):
         comments = [l for l in block if l.startswith("--")]
         code = [l for l in block if not l.startswith("--")]
@@ -429,8 +401,7 @@ def turn(folder, fn, crate, path, old_text, cycle=None, several=False):
     body = "\n".join(l for l in text.split("\n") if not l.startswith("use "))
     loops = list(fn.info["loops"])
     changed = list(fn.info["changed"])
-    inv, ans, nth, renamed = [], [], 0, {}
-    helpers, own = {}, {}
+    inv, ans, renamed = [], [], {}
     need_at = 0
     pending = []
     for block in blocks(body):
@@ -475,17 +446,11 @@ def turn(folder, fn, crate, path, old_text, cycle=None, several=False):
             need_at += 1
             new = by_old.get(old)
             if new is None and old:
-                for alt in (old.replace("loop-holds", "loop-init"), re.sub(r"-holds$", "-init", old), re.sub(r"-less$", "-smaller", old), re.sub(r"-again$", "-preserved", old)):
-                    new = new or by_old.get(alt)
-                m2 = re.sub(r"-holds$", "-init", re.sub(r"-less$", "-smaller", re.sub(r"-again$", "-preserved", old)))
-                new = new or by_old.get(m2)
-                if new is None and re.match(r"(sub|add|mul|cast|shl|shr|part|array|index)-", old):
-                    new = by_old.get(old)
+                new = by_old.get(re.sub(r"-holds$", "-init", re.sub(r"-less$", "-smaller", re.sub(r"-again$", "-preserved", old))))
             rest = "\n".join(code[1:])
             rhs = re.sub(r"^\S+( [^=\n]*?)? =\s*", "", re.sub(r"(?m)^unfolding .*\n", "", rest), count=1).strip()
             cited = len(re.findall(r"(?<![\w.'’₀-])" + re.escape(m.group(2)) + r" (?:c\b|\w+\b)", "\n".join(l for b in blocks(body) for l in b if not l.startswith(m.group(2) + " ")))) > 0
-            own[m.group(2)] = new
-            if (rhs == "search rules" and not cited):
+            if rhs == "search rules" and not cited:
                 pending = []
                 continue
             if new is None:
@@ -495,27 +460,17 @@ def turn(folder, fn, crate, path, old_text, cycle=None, several=False):
             unf = [l for l in code[1:] if l.startswith("unfolding ")]
             clause = [l for l in code[1:] if not l.startswith("unfolding ")]
             first = re.sub(r"^\S+", prefix + new + (" t" if cycle else ""), clause[0]).replace(" κs", "", 1)
-            place = dict((n, b) for n, (a, b) in zip([x[1] for x in fn.needs], fn.info["asked_at"])).get(new)
-            ans.append((pending + comments, [f"pub {prefix}{new} : goal.{prefix}{new}"] + unf, [first] + clause[1:], place))
+            ans.append((pending + comments, [f"pub {prefix}{new} : goal.{prefix}{new}"] + unf, [first] + clause[1:]))
             pending = []
             continue
         # a helper
-        ans.append((pending + comments, None, code, None))
+        ans.append((pending + comments, None, code))
         pending = []
         hm = re.match(r"^(?:abbrev )?(\S+) : \((\w+) : tie\.([^\s)]+)", head)
         if hm and re.search(r"→ tie\.\S+", head) and re.search(r"= \w+(\.before)+$", "\n".join(code)):
             code[0] = re.sub(r"→ tie\.\S+", "→ tie." + hm.group(3), head)
-        if hm:
-            helpers[hm.group(1)] = fn.places.get(dash(hm.group(3)))
 
-    def befores(frm, to):
-        n, at = 0, frm
-        while at is not None and at != to:
-            at = fn.parents.get(at)
-            n += 1
-        return n if at == to else None
-
-    def paths(chunk, place):
+    def paths(chunk):
         chunk = expanded(chunk, imported)
 
         def one(m):
@@ -541,14 +496,12 @@ def turn(folder, fn, crate, path, old_text, cycle=None, several=False):
     named = set()
     imported = {w.strip() for l in uses for w in re.sub(r"^.*\{|\}.*$", "", l).split(",")}
     lines = []
-    for comments, sig, clause, place in ans:
+    for comments, sig, clause in ans:
         if sig is None:
-            hm = re.match(r"^(?:abbrev )?(\S+) : \((\w+) : tie\.([^\s)]+)", clause[0])
-            place = helpers.get(hm.group(1)) if hm else None
-            lines += comments + paths("\n".join(clause), place).split("\n") + [""]
+            lines += comments + paths("\n".join(clause)).split("\n") + [""]
         else:
             goal = sig[0].split()[1][len(prefix) :]
-            body = paths("\n".join(clause), place)
+            body = paths("\n".join(clause))
             if goal.startswith("returns"):
                 body = recorded(body, clauses(fn.name, "ensures"))
             for step, callee in fn.called.items():
