@@ -1,7 +1,7 @@
 #!/usr/bin/env python3
 """Brings the texts of edits over to today's spelling, and says which do not stand in today's files.
 
-usage: tools/edits.py LANDED    rewrites crates/*/must-fail/**/*.edit and tests/wrong-definitions.edits, each from its text at the commit LANDED
+usage: tools/edits.py LANDED    rewrites crates/*/must-fail/*.edit, crates/*/must-fail-more/*.edit and tests/wrong-definitions.edits, each from its text at the commit LANDED
        tools/edits.py --check   says each edit of which a text does not stand once in today's file, pair after pair; status 1 where there is one
 
 An edit was written for the file as it was at LANDED, where each of its old texts stands once. That line is found in today's file (the
@@ -345,7 +345,7 @@ def render(before, pairs):
 
 
 def paths():
-    return sorted(p for folder in ("must-fail", "must-fail/more", "must-fail-more") for p in glob.glob(f"crates/*/{folder}/*.edit", root_dir=ROOT))
+    return sorted(p for folder in ("must-fail", "must-fail-more") for p in glob.glob(f"crates/*/{folder}/*.edit", root_dir=ROOT))
 
 
 def rewrite(landed):
@@ -353,8 +353,9 @@ def rewrite(landed):
     for path in paths():
         if path.split("/")[1] in CRATES_LEFT:
             continue
-        before = git("show", f"{landed}:{path}")
-        pairs, said = turner.turned(read_edit(path, before))
+        then = path.replace("/must-fail-more/", "/must-fail/more/")
+        before = git("show", f"{landed}:{then}")
+        pairs, said = turner.turned(read_edit(then, before))
         if said:
             left.append(f"{path}: {said}")
             continue
