@@ -199,12 +199,13 @@ class Module:
 
 # ---- Rattle
 
-CLAUSE = re.compile(r"^\s+(?:requires|ensures)\b[^{\n]*\{", re.M)
+CLAUSE = re.compile(r"^(?:\s+(?:requires|ensures)|[ \t]+ghost (?!use ))\b[^{\n]*\{", re.M)
 TACTIC = re.compile(r"^\s*#!?\[tactic\(([^\n]*)\)\]$", re.M)
 USE = re.compile(r"^(?:pub )?use ([\w:]+?)(?:::\{([^}]*)\})?(?: as (\w+))?;", re.M)
 GHOST_USE = re.compile(r"^ghost use ([^;]*);", re.M)
-ITEM = re.compile(r"^( *)(?:pub )?(extern \"C\" )?(?:fn|struct|enum|impl) (\w+)", re.M)
+ITEM = re.compile(r"^( *)(?:pub )?(extern \"C\" )?(?:fn|struct|enum|impl) (\w+)([^\n]*)", re.M)
 CALL = re.compile(r"(?<![\w:.])((?:\w+::)*)(\w+)\(|\.(\w+)\(")
+PASSED = re.compile(r"(?<=[(,])\s*(\w+)(?=\s*[,)])")  # an argument that is one name, of a function perhaps
 
 
 def blank(text):
@@ -241,12 +242,16 @@ class Source:
             self.contracts += tokens(text[m.end() - 1 : end], line_of(text, m.end()))
             text = text[: m.start()] + blank(text[m.start() : end]) + text[end:]
         for m in TACTIC.finditer(text):  # the lemmas that a function's proof may use
-            self.contracts += tokens(m[1], line_of(text, m.start()))
+            self.contracts += tokens(self.in_proofs(m[1]), line_of(text, m.start()))
         text = TACTIC.sub(lambda m: blank(m[0]), text)
         self.children = set(re.findall(r"^(?:pub )?mod (\w+);", text, re.M))
         self.ghosts, self.uses = [], {}  # antt imports; by name its path and line
         self.code = USE.sub(self.add_use, GHOST_USE.sub(self.add_ghost, text))
         self.find_functions()
+
+    def in_proofs(self, words):
+        """Paths of an attribute, crate::proofs::M::f, as those of antt."""
+        return re.sub(r"\bcrate::", f"Rattle.{self.crate}.", words).replace("::", ".")
 
     def add_ghost(self, m):
         self.ghosts += imported(tokens("use " + m[1], line_of(m.string, m.start())), 0, self.path)[0]
@@ -269,21 +274,23 @@ class Source:
 
     def find_functions(self):
         """Functions by whole path: their line, their body, and whether something outside calls them."""
-        self.functions, self.types, of_type = {}, set(), ""
+        self.functions, self.types, of_type, of_trait = {}, set(), "", False
         for m in ITEM.finditer(self.code):
             word = m[0].split()
             if "fn" not in word:
                 of_type = "::" + m[3] if "impl" in word else ""
+                of_trait = "impl" in word and " for " in m[4]
                 self.types.add(m[3])
                 continue
-            at = self.code.find("{", m.end())
+            at = self.code.find("{", m.end(3))
             path = self.module + (of_type if m[1] else "") + "::" + m[3]
-            outside = bool(m[2]) or (m[3] == "main" and self.path.endswith("src/main.rt"))
-            self.functions[path] = (line_of(self.code, m.start()), self.code[m.end() : closing(self.code, at)], outside)
+            # by C, by the start of the program, or by whoever calls a method of the trait
+            outside = bool(m[2]) or (m[3] == "main" and self.path.endswith("src/main.rt")) or bool(m[1] and of_trait)
+            self.functions[path] = (line_of(self.code, m.start()), self.code[m.end(3) : closing(self.code, at)], outside)
 
     def called(self, path, body):
         """The paths of the functions that a function's body calls; `.name` for a method of whatever type."""
-        found = set()
+        found = {self.module + "::" + m[1] for m in PASSED.finditer(body)}
         for m in CALL.finditer(body):
             if m[3]:
                 found.add("." + m[3])

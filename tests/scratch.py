@@ -34,8 +34,8 @@ def copy_tidy(root, folder):
     source, target = root + "/crates/tidy", folder + "/crates/tidy"
     os.makedirs(target + "/src")
     with open(source + "/src/lib.rt") as f, open(target + "/src/lib.rt", "w") as out:
-        response = re.search(r"^pub enum Response \{\n(?:.*\n)*?\}\n", f.read(), re.M).group(0)
-        out.write("use definition::replies::Refusal;\n" + response)
+        why = re.search(r"^pub enum Untidied \{\n(?:.*\n)*?\}\n", f.read(), re.M).group(0)
+        out.write("use definition::replies::Refusal;\n" + why)
     os.makedirs(target + "/specs")
     names = ["Reply", "Rules", "Tidy", "Write"]
     for name in names:

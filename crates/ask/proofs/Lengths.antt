@@ -8,7 +8,7 @@ use Rattle.definition.specs.Query.{work_length}
 use Rattle.book.specs.Read.{HeaderInRange}
 use Rattle.book.proofs.Books.{accepted_range}
 use Rattle.query.specs.Lengths.{or_zero, work_length_or0, cache_length_or0}
-use Rattle.ask.specs.declared.Opened.TheVariants.{Open}
+use Rattle.std.specs.Prelude.{Ok}
 use Rattle.ask.specs.Program.{opened, Lent}
 use Rattle.ask.proofs.Opening.{IsOpen, is_open}
 
@@ -29,7 +29,7 @@ small_work goals a =
     omega arith
 
 -- ---- a book that was opened
-module _ (bytes : List ℕ) (h : Header) (is : opened (read_book bytes) ≡ Open h) where
+module _ (bytes : List ℕ) (h : Header) (is : opened (read_book bytes) ≡ Ok h) where
   the_book : IsOpen bytes h
   the_book = is_open bytes h is
 

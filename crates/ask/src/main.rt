@@ -3,99 +3,70 @@
 // number more: how often the goal's part was run for the answer.
 #![tactic(auto)]
 
-ghost use Rattle.std.specs.Prelude.{◌≡◌};
+ghost use Rattle.std.specs.Prelude.{◌≡◌, Ok};
 ghost use Rattle.definition.specs.Reader.{read_book};
 ghost use Rattle.definition.specs.Query.{query};
 ghost use Rattle.query.specs.Carried.{Carried};
 ghost use Rattle.question.specs.Lines.{read_question};
-ghost use Rattle.ask.specs.declared.Opened.TheVariants.{Open};
-ghost use Rattle.ask.specs.Program.{opened_with, opened, replied, turned, turn, passes_asked, Lent, Ready};
+ghost use Rattle.ask.specs.Program.{opened, replied, turned, turn, passes_asked, Lent, Ready};
 
-use book::BookRead;
 use definition::format::Header;
 use question::{Ending, Question};
 use std::env::{Env, FillError};
 use std::io;
 use std::io::Read;
 
-// What the program makes of its book: it answers questions over it, or it ends.
-#[derive(Clone, Copy)]
-enum Opened {
-    Open(Header),
-    Closed(Ending),
-}
-
-// The line for a question, and whether another question is read after it.
-#[derive(Clone, Copy)]
-struct Turn {
-    line: [u8; 13],
-    more: bool,
-}
-
 const MOST_GOALS: usize = 16;
 
 // ---- what is read, and what is printed for it
 
-fn opened_with(h: Header) -> Opened
-    ensures { result ≡ opened_with h }
-{
-    if MOST_GOALS < h.goals {
-        return Opened::Closed(Ending::TooManyGoals);
-    }
-    Opened::Open(h)
-}
-
-fn open(book: &[u8]) -> Opened
+// The header of a book that the program answers questions over, or why it ends.
+fn open(book: &[u8]) -> Result<Header, Ending>
     ensures { result ≡ opened (read_book book.now) }
 {
     let mut starts = [0u16; 64];
-    let read = book::read(book, &mut starts);
-    match read {
-        BookRead::Accepted(h) => opened_with(h),
-        BookRead::Rejected(r) => Opened::Closed(Ending::Book(r)),
+    let h = book::read(book, &mut starts)?;
+    if MOST_GOALS < h.goals {
+        return Err(Ending::TooManyGoals);
     }
+    Ok(h)
 }
 
-// Answers a question.
-fn reply(book: &[u8], cache: &mut [u8], work: &mut [u8], goal: u16, depth: u16) -> Turn
-    ensures work_after { turned result cache.new work.new
-        ≡ replied goal depth (query book.now cache.old work.old goal depth) }
+// The line for a question.
+fn reply(book: &[u8], cache: &mut [u8], work: &mut [u8], q: Question) -> [u8; 13]
+    ensures work_after { turned (Ok result) cache.new work.new
+        ≡ replied q.goal q.depth (query book.now cache.old work.old q.goal q.depth) }
     ensures carried { Carried book.now cache.old
         → Carried book.now cache.new }
 {
-    let r = query::query(book, cache, work, goal as usize, depth as usize);
-    Turn {
-        line: question::reply_line(goal, depth, r),
-        more: true,
-    }
+    let r = query::query(book, cache, work, usize::from(q.goal), usize::from(q.depth));
+    question::reply_line(q.goal, q.depth, r)
 }
 
-// Answers a question line, or ends the program where it is ill-formed.
-fn answer_line(book: &[u8], cache: &mut [u8], work: &mut [u8], line: &[u8]) -> Turn
+// The line for a question line, after which the next is read, or why the program ends.
+fn answer_line(
+    book: &[u8],
+    cache: &mut [u8],
+    work: &mut [u8],
+    line: &[u8],
+) -> Result<[u8; 13], Ending>
     ensures work_after { turned result cache.new work.new
         ≡ turn book.now cache.old work.old line.now }
     ensures carried { Carried book.now cache.old
         → Carried book.now cache.new }
 {
-    let read = question::read_question(line);
-    let Question::Asked(goal, depth) = read else {
-        return Turn {
-            line: question::ending_line(Ending::QuestionLine),
-            more: false,
-        };
-    };
-    reply(book, cache, work, goal, depth)
+    let q = question::read_question(line).ok_or(Ending::QuestionLine)?;
+    Ok(reply(book, cache, work, q))
 }
 
 // How often the part of the goal that a question line asks was run for the answer, after it.
 fn passes(book: &[u8], cache: &[u8], line: &[u8]) -> u8
     ensures { result ≡ passes_asked book.now cache.now (read_question line.now) }
 {
-    let read = question::read_question(line);
-    let Question::Asked(goal, depth) = read else {
+    let Some(q) = question::read_question(line) else {
         return 0;
     };
-    query::passes::of_answer(book, cache, goal as usize, depth as usize)
+    query::passes::of_answer(book, cache, usize::from(q.goal), usize::from(q.depth))
 }
 
 // ---- the program's input and output
@@ -106,29 +77,12 @@ fn has_argument(env: &impl Env) -> bool {
 }
 
 // Prints a line, with the number of passes where that is asked for.
-fn print(rt: &impl Print, line: [u8; 13], shows: bool, passes: u8) -> io::Result<()> {
-    if shows {
-        rt.write_all(&line[..12])?;
-        let columns = book::columns::of_number(passes as u16);
-        rt.write_all(&columns)?;
-        return rt.write_all(b"\n");
-    }
-    rt.write_all(&line)
-}
-
-// Prints the reply to a question line.
-fn print_reply(
-    rt: &impl Print,
-    book: &[u8],
-    cache: &[u8],
-    line: &[u8],
-    reply: [u8; 13],
-    shows: bool,
-) -> io::Result<()> {
-    if shows {
-        return print(rt, reply, true, passes(book, cache, line));
-    }
-    print(rt, reply, false, 0)
+fn print(rt: &impl Print, line: [u8; 13], passes: Option<u8>) -> io::Result<()> {
+    let Some(n) = passes else {
+        return rt.write_all(&line);
+    };
+    rt.write_all(&line[..12])?;
+    println!(rt; "{n:3}")
 }
 
 // Reads a question line and prints its reply; false where no more is read. Cache and workspace are ready for the
@@ -149,9 +103,11 @@ fn ask_once(
     if n == 0 {
         return Ok(false);
     }
-    let t = answer_line(book, cache, work, &line[..n]);
-    print_reply(rt, book, cache, &line[..n], t.line, shows)?;
-    Ok(t.more)
+    let line = &line[..n];
+    let reply = answer_line(book, cache, work, line);
+    let passes = shows.then(|| passes(book, cache, line));
+    print(rt, reply.unwrap_or_else(question::ending_line), passes)?;
+    Ok(reply.is_ok())
 }
 
 // Answers all questions over a book that was accepted, from a cache of zeros. A proved
@@ -166,7 +122,7 @@ fn ask(
 ) -> io::Result<()>
     requires { Lent book.now cache.old work.old }
 {
-    buffer::fill_zero(cache);
+    cache.fill(0);
     for _ in 0..u64::MAX {
         if !ask_once(rt, input, book, cache, work, shows)? {
             break;
@@ -183,7 +139,7 @@ fn ask_book(
     h: Header,
     shows: bool,
 ) -> io::Result<()>
-    requires { opened (read_book book.now) ≡ Open h }
+    requires { opened (read_book book.now) ≡ Ok h }
 {
     let goals = h.goals;
     let mut caches = book_file::buffer();
@@ -197,10 +153,9 @@ fn main(rt: HostRuntime) -> io::Result<()> {
     let mut bytes = book_file::buffer();
     let n = book_file::read_book(&rt, &mut bytes);
     let book = &bytes[..n];
-    let o = open(book);
     let shows = has_argument(&rt);
-    match o {
-        Opened::Open(h) => ask_book(&rt, &mut rt.stdin(), book, h, shows),
-        Opened::Closed(e) => print(&rt, question::ending_line(e), shows, 0),
+    match open(book) {
+        Ok(h) => ask_book(&rt, &mut rt.stdin(), book, h, shows),
+        Err(e) => print(&rt, question::ending_line(e), shows.then_some(0)),
     }
 }

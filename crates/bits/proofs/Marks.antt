@@ -7,7 +7,7 @@ use native.Mathlib.Omega.{arith}
 use lib.ListN.{get_or, set, replicate}
 use Rattle.bits.specs.Masks.{flags, first_place, place_or}
 use Rattle.bits.proofs.Flags.{flags_zero}
-use Rattle.bits.proofs.Places.{first_some, first_set}
+use Rattle.bits.proofs.Ends.{first_some, first_set}
 
 -- a flag that is still set was set
 still_set : (xs : List Bool) (i j : ℕ) → get_or (set xs i false) j false ≡ true → get_or xs j false ≡ true

@@ -20,7 +20,9 @@ use Rattle.book.specs.Grammar.{after_part, after_bytes}
 use Rattle.book.specs.Parts.{part_read, part_in, Reads}
 use Rattle.book.specs.Read.{Started, no_line, whole_body, StartedBy}
 use Rattle.book.proofs.Lines.{lines_cons, lines_none}
-use Rattle.book.proofs.Sizes.{after_some, goal_short, if_goal, goal_line}
+use Rattle.std.specs.Prelude.{Some, None}
+use Rattle.std.specs.Prelude as prelude
+use Rattle.book.proofs.Sizes.{goal_short, if_goal, goal_line}
 use Rattle.book.proofs.Views.{never, of_some}
 use Rattle.book.proofs.Walk.{part_is, reads}
 
@@ -160,28 +162,28 @@ body_starts goals book starts h =
     }
 
 module _ (goals : ℕ) (book starts : List ℕ) (at g : ℕ) (b : Body goals book starts at g) where
-  module _ (lt : g < goals) (r : ℕ) (said : after_bytes r (take (length book - at) (drop at book)) ≡ after_part (read_goal goals g (lines_in (take (length book - at) (drop at book))))) where
+  module _ (lt : g < goals) (r : prelude.Option ℕ) (said : after_bytes r (take (length book - at) (drop at book)) ≡ after_part (read_goal goals g (lines_in (take (length book - at) (drop at book))))) where
     left : goals - g ≡ suc (goals - (g + 1))
     left = omega arith
 
     said' : after_bytes r (drop at book) ≡ after_part (read_goal goals g (lines_in (drop at book)))
     said' = rw part_from_lem at said
 
-    body_none : r ≡ 0 → read_goals goals 0 goals (lines_in (drop 16 book)) ≡ none
+    body_none : r ≡ None → read_goals goals 0 goals (lines_in (drop 16 book)) ≡ none
     body_none z =
         sym b.whole
         ∙ ap (with_front (start_parts goals book starts g)) (
         ap (λ (n : ℕ). read_goals goals g n (lines_in (drop at book))) left
-        ∙ goals_none goals g (goals - (g + 1)) (lines_in (drop at book)) (no_goal (read_goal goals g (lines_in (drop at book))) (ap (λ (n : ℕ). after_bytes n (drop at book)) (sym z) ∙ said'))
+        ∙ goals_none goals g (goals - (g + 1)) (lines_in (drop at book)) (no_goal (read_goal goals g (lines_in (drop at book))) (ap (λ (n : prelude.Option ℕ). after_bytes n (drop at book)) (sym z) ∙ said'))
         )
 
-    pub body_bad : (now : List ℕ) → r ≡ 0 → (false ≡ whole_body (read_goals goals 0 goals (lines_in (drop 16 book)))) × StartedBy (read_goals goals 0 goals (lines_in (drop 16 book))) goals book now
+    pub body_bad : (now : List ℕ) → r ≡ None → (false ≡ whole_body (read_goals goals 0 goals (lines_in (drop 16 book)))) × StartedBy (read_goals goals 0 goals (lines_in (drop 16 book))) goals book now
     body_bad now z =
         (ap whole_body (sym (body_none z)), subst (λ (x : Option TakenGoals). StartedBy x goals book now) (sym (body_none z)) tt)
 
-    module _ (ne : r ≡ 0 → ⊥) (room : r ≤ length (take (length book - at) (drop at book))) where
-      goal : Goal goals g (drop at book) (lines_in (drop (at + r) book))
-      goal = goal_of_lem goals g (drop at book) (lines_in (drop (at + r) book)) (sym said' ∙ after_some r (drop at book) ne ∙ ap (λ (s : List ℕ). some (lines_in s)) (drop-drop r at book))
+    module _ (n : ℕ) (is : r ≡ Some n) (room : n ≤ length (take (length book - at) (drop at book))) where
+      goal : Goal goals g (drop at book) (lines_in (drop (at + n) book))
+      goal = goal_of_lem goals g (drop at book) (lines_in (drop (at + n) book)) (sym said' ∙ ap (λ (m : prelude.Option ℕ). after_bytes m (drop at book)) is ∙ ap (λ (s : List ℕ). some (lines_in s)) (drop-drop n at book))
 
       pub line_room : at + 16 ≤ length book
       line_room = let a = rw length-drop at (goal_room goals g (drop at book) goal.taken goal.is) in let w = b.within in omega arith
@@ -209,7 +211,7 @@ module _ (goals : ℕ) (book starts : List ℕ) (at g : ℕ) (b : Body goals boo
             ap (start_parts goals book next) (add-one g)
             ∙ λ k. start_set goals book starts g (at + 16) g (omega arith) k ++ ((ap (λ (p : ℕ). part_in goals false (drop p book)) placed ∙ part_is goals false (drop (at + 16) book) goal.taken part_read_lem) k ∷ [])
 
-        pub body_good : Body goals book next (at + r) (g + 1)
+        pub body_good : Body goals book next (at + n) (g + 1)
         body_good =
             let l = rw (part_from_lem, length-drop) at room in
             let w = b.within in
@@ -218,8 +220,8 @@ module _ (goals : ℕ) (book starts : List ℕ) (at g : ℕ) (b : Body goals boo
               count = omega arith;
               places = next_place;
               whole =
-                  ap (λ (ps : List Part). with_front ps (read_goals goals (g + 1) (goals - (g + 1)) (lines_in (drop (at + r) book)))) next_parts
-                  ∙ front_front (start_parts goals book starts g) (goal.taken.part ∷ []) (read_goals goals (g + 1) (goals - (g + 1)) (lines_in (drop (at + r) book)))
+                  ap (λ (ps : List Part). with_front ps (read_goals goals (g + 1) (goals - (g + 1)) (lines_in (drop (at + n) book)))) next_parts
+                  ∙ front_front (start_parts goals book starts g) (goal.taken.part ∷ []) (read_goals goals (g + 1) (goals - (g + 1)) (lines_in (drop (at + n) book)))
                   ∙ ap (with_front (start_parts goals book starts g)) (
                   (λ k. with_front (goal.taken.part ∷ []) (read_goals goals (add-one g k) (goals - (g + 1)) (sym goal.after k)))
                   ∙ sym (goals_some goals g (goals - (g + 1)) (lines_in (drop at book)) goal.taken goal.is)

@@ -15,8 +15,7 @@ use Rattle.definition.specs.Part.{Part, Book}
 use Rattle.definition.specs.declared.replies.Refusal.TheVariants.{BookLength, BookLine, BookHeader, BookBody}
 use Rattle.definition.specs.Reader.{TakenGoals, read_goals, end_of_body, read_body, header_in_range, header_of, read_header, length_in_range, lines_of, read_book}
 use Rattle.definition.specs.Reader as reader
-use Rattle.book.specs.declared.BookRead.{BookRead}
-use Rattle.book.specs.declared.BookRead.TheVariants.{Accepted, Rejected}
+use Rattle.std.specs.Prelude.{Result, Ok, Err}
 use Rattle.book.specs.Lines.{line_in, lines_in, lines_if, all_fit}
 use Rattle.book.specs.Read.{header_read, Started, StartedIf, no_line, whole_body, StartedBy, HeaderInRange, IsBook, book_or, book_in}
 use Rattle.book.proofs.Tests.{refused, held}
@@ -39,18 +38,18 @@ abbrev by_goals : Header → Option TakenGoals → reader.BookRead
 by_goals h x = elim x [ none ↦ reader.Rejected BookBody | some ps ↦ end_of_body h ps ps.rest ]
 
 -- what is to be shown of `read`
-abbrev pub ReadTo : List ℕ → List ℕ → BookRead → Type 0
+abbrev pub ReadTo : List ℕ → List ℕ → Result Header Refusal → Type 0
 ReadTo book starts r = (r ≡ header_read (read_book book)) × StartedIf (read_book book) book starts
 
 module _ (book starts : List ℕ) where
-  to : (x : reader.BookRead) → read_book book ≡ x → (r : BookRead) → r ≡ header_read x → StartedIf x book starts → ReadTo book starts r
+  to : (x : reader.BookRead) → read_book book ≡ x → (r : Result Header Refusal) → r ≡ header_read x → StartedIf x book starts → ReadTo book starts r
   to x e r a b = (a ∙ ap header_read (sym e), subst (λ (y : reader.BookRead). StartedIf y book starts) (sym e) b)
 
-  pub wrong_length : (b : Bool) → b ≡ length_in_range (length book) → not b ≡ true → ReadTo book starts (Rejected BookLength)
+  pub wrong_length : (b : Bool) → b ≡ length_in_range (length book) → not b ≡ true → ReadTo book starts (Err BookLength)
   wrong_length b e h = to (reader.Rejected BookLength) (ap (λ (x : Bool). by_length x (lines_of book)) (refused e h)) _ refl tt
 
   module _ (long : length_in_range (length book) ≡ true) where
-    pub wrong_line : (b : Bool) → lines_of book ≡ lines_if b book → not b ≡ true → ReadTo book starts (Rejected BookLine)
+    pub wrong_line : (b : Bool) → lines_of book ≡ lines_if b book → not b ≡ true → ReadTo book starts (Err BookLine)
     wrong_line b e h = to (reader.Rejected BookLine) (ap (λ (x : Bool). by_length x (lines_of book)) long ∙ ap (by_length true) (e ∙ ap (λ (x : Bool). lines_if x book) (not-true b h))) _ refl tt
 
     module _ (fit : lines_of book ≡ some (lines_in book)) (l : Line) (is : l ≡ line_in book) where
@@ -62,7 +61,7 @@ module _ (book starts : List ℕ) where
           ∙ ap read_header (lines_cons book room)
           ∙ ap (λ (x : Line). by_header (header_in_range x) x (lines_in (drop 16 book))) (sym is)
 
-      pub wrong_header : (b : Bool) → b ≡ header_in_range l → not b ≡ true → ReadTo book starts (Rejected BookHeader)
+      pub wrong_header : (b : Bool) → b ≡ header_in_range l → not b ≡ true → ReadTo book starts (Err BookHeader)
       wrong_header b e h = to (reader.Rejected BookHeader) (in_lines ∙ ap (λ (x : Bool). by_header x l (lines_in (drop 16 book))) (refused e h)) _ refl tt
 
       module _ (good : header_in_range l ≡ true) where
@@ -84,19 +83,19 @@ module _ (book starts : List ℕ) where
         abbrev goals_of : Header → Option TakenGoals
         goals_of h = read_goals h.goals 0 h.goals (lines_in (drop 16 book))
 
-        pub wrong_body : (h : Header) → h ≡ header_of l → (b : Bool) → b ≡ whole_body (read_goals h.goals 0 h.goals (lines_in (drop 16 book))) → not b ≡ true → ReadTo book starts (Rejected BookBody)
+        pub wrong_body : (h : Header) → h ≡ header_of l → (b : Bool) → b ≡ whole_body (read_goals h.goals 0 h.goals (lines_in (drop 16 book))) → not b ≡ true → ReadTo book starts (Err BookBody)
         unfolding taken
         wrong_body h k b e n = to (reader.Rejected BookBody) (in_body ∙ not_whole taken (refused (e ∙ ap (λ (x : Header). whole_body (goals_of x)) k) n)) _ refl tt
 
-        whole : (x : Option TakenGoals) → read_book book ≡ by_goals (header_of l) x → whole_body x ≡ true → StartedBy x l.first book starts → (h : Header) → h ≡ header_of l → ReadTo book starts (Accepted h)
+        whole : (x : Option TakenGoals) → read_book book ≡ by_goals (header_of l) x → whole_body x ≡ true → StartedBy x l.first book starts → (h : Header) → h ≡ header_of l → ReadTo book starts (Ok h)
         whole none q e s h k = let z : ◌≡◌ {A = ℕ} 0 1 = cc in absurd (omega arith)
-        whole (some t) q e s h k = to (reader.Accepted (record { header = header_of l; parts = t.parts })) (q ∙ left t.rest e) (Accepted h) (ap Accepted k) s
+        whole (some t) q e s h k = to (reader.Accepted (record { header = header_of l; parts = t.parts })) (q ∙ left t.rest e) (Ok h) (ap Ok k) s
           where
             left : (ls : List Line) → no_line ls ≡ true → end_of_body (header_of l) t ls ≡ reader.Accepted (record { header = header_of l; parts = t.parts })
             left [] e = refl
             left (k ∷ ls) e = let z : ◌≡◌ {A = ℕ} 0 1 = cc in absurd (omega arith)
 
-        pub whole_book : (h : Header) → h ≡ header_of l → (b : Bool) → b ≡ whole_body (read_goals h.goals 0 h.goals (lines_in (drop 16 book))) → not b ≡ false → StartedBy (read_goals h.goals 0 h.goals (lines_in (drop 16 book))) h.goals book starts → ReadTo book starts (Accepted h)
+        pub whole_book : (h : Header) → h ≡ header_of l → (b : Bool) → b ≡ whole_body (read_goals h.goals 0 h.goals (lines_in (drop 16 book))) → not b ≡ false → StartedBy (read_goals h.goals 0 h.goals (lines_in (drop 16 book))) h.goals book starts → ReadTo book starts (Ok h)
         unfolding taken
         whole_book h k b e n s = whole taken in_body (held (e ∙ ap (λ (x : Header). whole_body (goals_of x)) k) n) (subst (λ (x : Header). StartedBy (goals_of x) x.goals book starts) k s) h k
 
@@ -159,11 +158,11 @@ module _ (b : Book) where
   accepted_range bytes e = let r = read_as_lem bytes e in subst HeaderInRange r.header (in_range (line_in bytes) r.in_range)
 
 -- what `read` tells where it accepts
-pub is_book : (bytes starts : List ℕ) (h : Header) → Accepted h ≡ header_read (read_book bytes) → StartedIf (read_book bytes) bytes starts → IsBook bytes starts h
+pub is_book : (bytes starts : List ℕ) (h : Header) → Ok h ≡ header_read (read_book bytes) → StartedIf (read_book bytes) bytes starts → IsBook bytes starts h
 unfolding book_in
 is_book bytes starts h e s = go (read_book bytes) refl e s
   where
-    go : (x : reader.BookRead) → read_book bytes ≡ x → Accepted h ≡ header_read x → StartedIf x bytes starts → IsBook bytes starts h
+    go : (x : reader.BookRead) → read_book bytes ≡ x → Ok h ≡ header_read x → StartedIf x bytes starts → IsBook bytes starts h
     go (reader.Rejected r) q e s = let z : ◌≡◌ {A = ℕ} 0 1 = cc in absurd (omega arith)
     go (reader.Accepted b) q e s =
         let i : b ≡ book_in bytes = ap book_or (sym q) in

@@ -2,20 +2,17 @@
 use mathlib.Core.Path.{◌≡◌, refl}
 use mathlib.Core.Bool.{Bool, true, false}
 use mathlib.Core.Option.{Option, none}
-use mathlib.Core.List.{List, [], ◌∷◌}
+use mathlib.Core.List.{List}
 use Prim.Native.Nat.{ℕ, zero, suc, ◌≤◌}
 use native.Mathlib.Omega.{arith}
 use lib.Dec.{eqb}
 use borrow.Author.Tests.{ne_eqb}
-use types.Run.{OneOf, miss}
-use denote.Enum.Declared.{tag_of}
 use Rattle.definition.specs.declared.format.Line.{Line}
 use Rattle.definition.specs.Reader.{TakenPart, read_call, read_undecided, read_node, read_pick, read_by_code}
 use Rattle.book.specs.declared.code.Op.TheVariants as kinds
 use Rattle.book.specs.declared.code.Code.{Code}
 use Rattle.book.specs.declared.code.Code.TheVariants as codes
-use Rattle.book.specs.Codes.{code_of, op_of, count_below}
-use Rattle.book.specs.contracts.code.Code.{the_type}
+use Rattle.book.specs.Codes.{code_of, op_of, is_node, count_below}
 
 abbrev pub is_goal : Code → Bool
 is_goal codes.Goal = true
@@ -24,6 +21,14 @@ is_goal (codes.Group op) = false
 is_goal codes.Pick = false
 is_goal codes.Undecided = false
 is_goal codes.Unknown = false
+
+pub no_goal : (code : Code) → (code ≡ codes.Goal → ⊥) → is_goal code ≡ false
+no_goal codes.Goal h = absurd (h refl)
+no_goal codes.Call h = refl
+no_goal (codes.Group op) h = refl
+no_goal codes.Pick h = refl
+no_goal codes.Undecided h = refl
+no_goal codes.Unknown h = refl
 
 module _ (goals : ℕ) (p : Bool) (inner : Bool → List Line → Option TakenPart) (l : Line) (ls : List Line) where
   abbrev pub read_as : Code → Option TakenPart
@@ -76,18 +81,6 @@ code_number_lem (suc (suc (suc (suc (suc zero))))) h = refl
 code_number_lem (suc (suc (suc (suc (suc (suc zero)))))) h = refl
 code_number_lem (suc (suc (suc (suc (suc (suc (suc n))))))) h = absurd (h refl)
 
--- any other number, which is none of these
-pub no_code : (n : ℕ) → (n ≡ 1 → ⊥) → (n ≡ 2 → ⊥) → (n ≡ 3 → ⊥) → (n ≡ 4 → ⊥) → (n ≡ 5 → ⊥) → (n ≡ 6 → ⊥)
-    → codes.Unknown ≡ code_of n
-no_code zero a b c d e f = refl
-no_code (suc zero) a b c d e f = absurd (a refl)
-no_code (suc (suc zero)) a b c d e f = absurd (b refl)
-no_code (suc (suc (suc zero))) a b c d e f = absurd (c refl)
-no_code (suc (suc (suc (suc zero)))) a b c d e f = absurd (d refl)
-no_code (suc (suc (suc (suc (suc zero))))) a b c d e f = absurd (e refl)
-no_code (suc (suc (suc (suc (suc (suc zero)))))) a b c d e f = absurd (f refl)
-no_code (suc (suc (suc (suc (suc (suc (suc n))))))) a b c d e f = refl
-
 -- a known code has one digit
 pub known_digit : (n : ℕ) → (code_of n ≡ codes.Unknown → ⊥) → n ≤ 6
 known_digit zero h = omega arith
@@ -99,19 +92,19 @@ known_digit (suc (suc (suc (suc (suc zero))))) h = omega arith
 known_digit (suc (suc (suc (suc (suc (suc zero)))))) h = omega arith
 known_digit (suc (suc (suc (suc (suc (suc (suc n))))))) h = absurd (h refl)
 
--- parts stand below a group and a pick, which are variants 2 and 3, and below no other line
-pub some_below : (code : Code) (n : ℕ) → OneOf (2 ∷ 3 ∷ []) (tag_of the_type code) → count_below code n ≡ n
-some_below codes.Goal n k = absurd (miss (2 ∷ 3 ∷ []) 0 tt k)
-some_below codes.Call n k = absurd (miss (2 ∷ 3 ∷ []) 1 tt k)
-some_below (codes.Group op) n k = refl
-some_below codes.Pick n k = refl
-some_below codes.Undecided n k = absurd (miss (2 ∷ 3 ∷ []) 4 tt k)
-some_below codes.Unknown n k = absurd (miss (2 ∷ 3 ∷ []) 5 tt k)
+-- parts stand below a group and a pick, and below no other line
+pub some_below : (code : Code) (n : ℕ) → is_node code ≡ true → count_below code n ≡ n
+some_below codes.Goal n e = cc
+some_below codes.Call n e = cc
+some_below (codes.Group op) n e = refl
+some_below codes.Pick n e = refl
+some_below codes.Undecided n e = cc
+some_below codes.Unknown n e = cc
 
-pub none_below : (code : Code) (n : ℕ) → OneOf (0 ∷ 1 ∷ 4 ∷ 5 ∷ []) (tag_of the_type code) → count_below code n ≡ 0
-none_below codes.Goal n k = refl
-none_below codes.Call n k = refl
-none_below (codes.Group op) n k = absurd (miss (0 ∷ 1 ∷ 4 ∷ 5 ∷ []) 2 tt k)
-none_below codes.Pick n k = absurd (miss (0 ∷ 1 ∷ 4 ∷ 5 ∷ []) 3 tt k)
-none_below codes.Undecided n k = refl
-none_below codes.Unknown n k = refl
+pub none_below : (code : Code) (n : ℕ) → is_node code ≡ false → count_below code n ≡ 0
+none_below codes.Goal n e = refl
+none_below codes.Call n e = refl
+none_below (codes.Group op) n e = cc
+none_below codes.Pick n e = cc
+none_below codes.Undecided n e = refl
+none_below codes.Unknown n e = refl

@@ -1,12 +1,12 @@
 -- The lines of bytes: one by one, and as the definition reads them.
-use mathlib.Core.Path.{◌≡◌, refl, sym, ap, ◌∙◌}
+use mathlib.Core.Path.{◌≡◌, refl, sym, ap, ◌∙◌, subst}
 use mathlib.Core.Bool.{Bool, true, false, ◌&&◌, and-eq-true_iff}
 use mathlib.Core.Option.{Option, none, some}
-use mathlib.Core.List.{List, [], ◌∷◌}
+use mathlib.Core.List.{List, [], ◌∷◌, ◌++◌}
 use Prim.Native.Nat.{ℕ, zero, suc, ◌+◌, ◌-◌, ◌/◌, ◌≤◌, ◌<◌}
 use native.Mathlib.Omega.{arith}
-use lib.ListN.{length, get_or, take, drop, length-drop}
-use lib.Seq.{get_or-take}
+use lib.ListN.{length, get_or, take, drop, length-drop, length-append, get_or-append}
+use lib.Seq.{get_or-take, drop-append_seam}
 use lib.Dec.{eqb}
 use Rattle.definition.specs.declared.format.Line.{Line}
 use Rattle.definition.specs.Line.{is_field, field_value, field_at, line_of, read_line, read_lines}
@@ -113,42 +113,34 @@ first_fits s h e = ((and-eq-true_iff _ _).0 (sym (all_cons s h) ∙ go (all_fit 
     go true q = refl
     go false q = let z : ◌≡◌ {A = ℕ} 0 1 = cc in absurd (omega arith)
 
--- ---- the tests of `first_fits` in their order
-module _ (s : List ℕ) where
-  pub bad_1 : field_fits s 0 ≡ false → false ≡ line_fits s
+-- ---- a turn of `all_fit`: the line x stands before the bytes t
+module _ (x t : List ℕ) (h : length x ≡ 16) where
+  column : (i : ℕ) → i < 16 → get_or (x ++ t) i 0 ≡ get_or x i 0
+  column i l = get_or-append x t 0 i (omega arith)
+
+  field_there : (i : ℕ) → i + 2 < 16 → field_fits (x ++ t) i ≡ field_fits x i
+  field_there i l = λ k. is_field (column i (omega arith) k) (column (i + 1) (omega arith) k) (column (i + 2) (omega arith) k)
+
+  line_there : line_fits (x ++ t) ≡ line_fits x
   unfolding line_fits
-  bad_1 e = stop _ _ e
+  line_there =
+      λ k. field_there 0 (omega arith) k && (field_there 3 (omega arith) k && (field_there 6 (omega arith) k && (field_there 9 (omega arith) k
+      && (field_there 12 (omega arith) k && eqb (column 15 (omega arith) k) 10))))
 
-  module _ (a : field_fits s 0 ≡ true) where
-    pub bad_2 : field_fits s 3 ≡ false → false ≡ line_fits s
-    unfolding line_fits
-    bad_2 e = pass _ _ _ a (stop _ _ e)
+  others : drop 16 (x ++ t) ≡ t
+  others = subst (λ (n : ℕ). drop n (x ++ t) ≡ t) h (drop-append_seam x t)
 
-    module _ (b : field_fits s 3 ≡ true) where
-      pub bad_3 : field_fits s 6 ≡ false → false ≡ line_fits s
-      unfolding line_fits
-      bad_3 e = pass _ _ _ a (pass _ _ _ b (stop _ _ e))
+  room : 16 ≤ length (x ++ t)
+  room = rw length-append (omega arith)
 
-      module _ (c : field_fits s 6 ≡ true) where
-        pub bad_4 : field_fits s 9 ≡ false → false ≡ line_fits s
-        unfolding line_fits
-        bad_4 e = pass _ _ _ a (pass _ _ _ b (pass _ _ _ c (stop _ _ e)))
+  module _ (book s : List ℕ) (is : s ≡ x ++ t) (inv : all_fit s ≡ all_fit book) where
+    pub turn_bad : line_fits x ≡ false → lines_of book ≡ none
+    turn_bad e =
+        lines_of_lem book
+        ∙ ap (λ (b : Bool). lines_if b book) (sym inv ∙ ap all_fit is ∙ all_cons (x ++ t) room ∙ sym (stop _ _ (line_there ∙ e)))
 
-        module _ (d : field_fits s 9 ≡ true) where
-          pub bad_5 : field_fits s 12 ≡ false → false ≡ line_fits s
-          unfolding line_fits
-          bad_5 e = pass _ _ _ a (pass _ _ _ b (pass _ _ _ c (pass _ _ _ d (stop _ _ e))))
-
-          pub only_newline : field_fits s 12 ≡ true → eqb (get_or s 15 0) 10 ≡ line_fits s
-          unfolding line_fits
-          only_newline e = pass _ _ _ a (pass _ _ _ b (pass _ _ _ c (pass _ _ _ d (pass _ _ _ e refl))))
-
--- ---- a turn of `all_fit`
-pub turn_bad : (book t : List ℕ) → 16 ≤ length t → all_fit t ≡ all_fit book → line_fits t ≡ false → lines_of book ≡ none
-turn_bad book t h inv e = lines_of_lem book ∙ ap (λ (b : Bool). lines_if b book) (sym inv ∙ all_cons t h ∙ sym (stop _ _ e))
-
-pub turn_good : (book t : List ℕ) → 16 ≤ length t → all_fit t ≡ all_fit book → line_fits t ≡ true → all_fit (take (length t - 16) (drop 16 t)) ≡ all_fit book
-turn_good book t h inv e = rw part_from_lem (pass _ _ _ e refl ∙ sym (all_cons t h) ∙ inv)
+    pub turn_good : line_fits x ≡ true → all_fit t ≡ all_fit book
+    turn_good e = pass _ _ _ (line_there ∙ e) (ap all_fit (sym others)) ∙ sym (all_cons (x ++ t) room) ∙ sym (ap all_fit is) ∙ inv
 
 pub turn_end : (book t : List ℕ) → length t < 16 → all_fit t ≡ all_fit book → lines_of book ≡ some (lines_in book)
 turn_end book t h inv = lines_of_lem book ∙ ap (λ (b : Bool). lines_if b book) (sym inv ∙ all_none t h)

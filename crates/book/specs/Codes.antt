@@ -1,5 +1,5 @@
 -- What the code of a line says.
-use Rattle.std.specs.Prelude.{ℕ, zero, suc}
+use Rattle.std.specs.Prelude.{ℕ, zero, suc, Bool, true, false}
 use Rattle.definition.specs.declared.format.Line.{Line}
 use Rattle.definition.specs.Part as part
 use Rattle.book.specs.declared.code.Op.{Op}
@@ -21,6 +21,24 @@ code_of (suc (suc (suc (suc zero)))) = Group Any
 code_of (suc (suc (suc (suc (suc zero))))) = Pick
 code_of (suc (suc (suc (suc (suc (suc zero)))))) = Undecided
 code_of (suc (suc (suc (suc (suc (suc (suc n))))))) = Unknown
+
+-- all or any
+abbrev pub is_group : Code → Bool
+is_group Goal = false
+is_group Call = false
+is_group (Group op) = true
+is_group Pick = false
+is_group Undecided = false
+is_group Unknown = false
+
+-- all, any or pick
+abbrev pub is_node : Code → Bool
+is_node Goal = false
+is_node Call = false
+is_node (Group op) = true
+is_node Pick = true
+is_node Undecided = false
+is_node Unknown = false
 
 -- how many parts stand below a part's first line: n, where it starts a group or a pick
 abbrev pub count_below : Code → ℕ → ℕ

@@ -1,10 +1,10 @@
 -- What the grammar check says, by counts of bytes.
-use Rattle.std.specs.Prelude.{ℕ, zero, suc, Bool, true, false, not, ◌&&◌, List, eqb, leb, ltb, drop}
+use Rattle.std.specs.Prelude.{ℕ, ◌≤◌, Bool, not, ◌&&◌, List, length, eqb, leb, ltb, drop, Some, None, IfSome}
+use Rattle.std.specs.Prelude as prelude
 use Rattle.std.proofs.Math.Option.{Option, none, some}
 use Rattle.definition.specs.declared.format.Line.{Line}
 use Rattle.definition.specs.Reader.{TakenPart, TakenParts, uses_first, read_parts}
 use Rattle.book.specs.declared.grammar.Opened.{Opened}
-use Rattle.book.specs.declared.grammar.Opened.TheVariants.{Parts, Nothing}
 use Rattle.book.specs.Lines.{lines_in}
 
 -- ---- the lines after what was read
@@ -16,21 +16,21 @@ abbrev pub after_parts : Option TakenParts → Option (List Line)
 after_parts none = none
 after_parts (some t) = some t.rest
 
--- the lines after so many bytes; 0 bytes say that nothing was read
-abbrev pub after_bytes : ℕ → List ℕ → Option (List Line)
-after_bytes zero s = none
-after_bytes (suc n) s = some (lines_in (drop (suc n) s))
+-- the lines after so many bytes, where something was read
+abbrev pub after_bytes : prelude.Option ℕ → List ℕ → Option (List Line)
+after_bytes None s = none
+after_bytes (Some n) s = some (lines_in (drop n s))
+
+-- the bytes have so many
+abbrev pub Within : prelude.Option ℕ → List ℕ → Type 0
+Within r s = IfSome r (λ n. n ≤ length s)
 
 -- the lines after the parts that a line opens
-abbrev pub after_opened : Opened → (Bool → List Line → Option TakenPart) → List Line → Option (List Line)
-after_opened (Parts n in_pick) inner ls = after_parts (read_parts (inner in_pick) n ls)
-after_opened Nothing inner ls = none
+abbrev pub after_opened : prelude.Option Opened → (Bool → List Line → Option TakenPart) → List Line → Option (List Line)
+after_opened None inner ls = none
+after_opened (Some o) inner ls = after_parts (read_parts (inner o.in_pick) o.parts ls)
 
 -- ---- the tests on a line
-abbrev pub opened_if : Bool → ℕ → Bool → Opened
-opened_if true n in_pick = Parts n in_pick
-opened_if false n in_pick = Nothing
-
 abbrev pub goal_fits : ℕ → Line → Bool
 goal_fits goal l = eqb l.first goal && uses_first l
 

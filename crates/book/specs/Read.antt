@@ -1,19 +1,18 @@
 -- What reading a book comes to.
-use Rattle.std.specs.Prelude.{◌≡◌, ℕ, ◌≤◌, ◌<◌, Bool, true, false, List, [], ◌∷◌, length, get_or, drop}
+use Rattle.std.specs.Prelude.{◌≡◌, ℕ, ◌≤◌, ◌<◌, Bool, true, false, List, [], ◌∷◌, length, get_or, drop, Result, Ok, Err}
 use Rattle.std.proofs.Math.Option.{Option, none, some}
 use Rattle.definition.specs.declared.format.Line.{Line}
 use Rattle.definition.specs.declared.format.Header.{Header}
+use Rattle.definition.specs.declared.replies.Refusal.{Refusal}
 use Rattle.definition.specs.Part.{Part, Book, part_at}
 use Rattle.definition.specs.Reader.{TakenGoals}
 use Rattle.definition.specs.Reader as reader
-use Rattle.book.specs.declared.BookRead.{BookRead}
-use Rattle.book.specs.declared.BookRead.TheVariants.{Accepted, Rejected}
 use Rattle.book.specs.Parts.{part_in, Reads}
 
 -- the book's header, or the refusal
-abbrev pub header_read : reader.BookRead → BookRead
-header_read (reader.Accepted b) = Accepted b.header
-header_read (reader.Rejected r) = Rejected r
+abbrev pub header_read : reader.BookRead → Result Header Refusal
+header_read (reader.Accepted b) = Ok b.header
+header_read (reader.Rejected r) = Err r
 
 -- ---- the places of the goals' parts
 

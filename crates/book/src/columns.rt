@@ -6,7 +6,7 @@ ghost use Rattle.definition.specs.Line.{leading_column, last_column, columns};
 pub fn last(n: u16) -> u8
     ensures { result ≡ last_column n }
 {
-    48 + (n % 10) as u8
+    b'0' + (n % 10) as u8
 }
 
 // A column before the last: the last digit of what is left of the number, or a space
@@ -14,10 +14,7 @@ pub fn last(n: u16) -> u8
 pub fn leading(n: u16) -> u8
     ensures { result ≡ leading_column n }
 {
-    if n == 0 {
-        return 32;
-    }
-    last(n)
+    if n == 0 { b' ' } else { last(n) }
 }
 
 // All three.

@@ -7,25 +7,13 @@ use definition::format::{Header, Line};
 pub fn in_range(l: Line) -> bool
     ensures { result ≡ header_in_range l }
 {
-    if 1 < l.code {
-        return false;
-    }
-    if l.first < 1 {
-        return false;
-    }
-    if 64 < l.first {
-        return false;
-    }
-    if 63 < l.second {
-        return false;
-    }
-    if 99 < l.third {
-        return false;
-    }
-    if l.fourth < 1 {
-        return false;
-    }
-    l.fourth <= 99
+    l.code <= 1
+        && 1 <= l.first
+        && l.first <= 64
+        && l.second <= 63
+        && l.third <= 99
+        && 1 <= l.fourth
+        && l.fourth <= 99
 }
 
 pub fn of_line(l: Line) -> Header
@@ -33,9 +21,9 @@ pub fn of_line(l: Line) -> Header
 {
     Header {
         provisional: l.code == 1,
-        goals: l.first as usize,
-        top: l.second as usize,
-        limit: l.third as usize,
-        divisor: l.fourth as usize,
+        goals: usize::from(l.first),
+        top: usize::from(l.second),
+        limit: usize::from(l.third),
+        divisor: usize::from(l.fourth),
     }
 }

@@ -17,22 +17,10 @@ ghost use Rattle.book.specs.Read.{header_read, StartedIf, whole_body, StartedBy}
 use definition::format::Header;
 use definition::replies::Refusal;
 
-#[derive(Clone, Copy)]
-pub enum BookRead {
-    Accepted(Header),
-    Rejected(Refusal),
-}
-
 fn length_fits(n: usize) -> bool
     ensures { result ≡ length_in_range n }
 {
-    if n % 16 != 0 {
-        return false;
-    }
-    if n < 48 {
-        return false;
-    }
-    n <= 16000
+    n % 16 == 0 && 48 <= n && n <= 16000
 }
 
 // Whether the goals follow the header in order, each with its part, and nothing else.
@@ -44,39 +32,36 @@ fn read_body(book: &[u8], starts: &mut [u16], goals: usize) -> bool
         starts.new }
 {
     let mut at: usize = 16;
-    let mut g: usize = 0;
-    while g < goals {
-        let n = grammar::goal_size(&book[at..], goals, g);
-        if n == 0 {
+    for g in 0..goals {
+        let Some(n) = grammar::goal_size(&book[at..], goals, g) else {
             return false;
-        }
+        };
         starts[g] = (at + 16) as u16;
-        at = at + n;
-        g = g + 1;
+        at += n;
     }
     book.len() - at < 16
 }
 
 // The book's header, or refusal 1 to 4. `starts` takes the place of each goal's part.
-pub fn read(book: &[u8], starts: &mut [u16]) -> BookRead
+pub fn read(book: &[u8], starts: &mut [u16]) -> Result<Header, Refusal>
     requires { length starts.old ≡ 64 }
     ensures { (result ≡ header_read (read_book book.now))
         × StartedIf (read_book book.now) book.now starts.new }
 {
     if !length_fits(book.len()) {
-        return BookRead::Rejected(Refusal::BookLength);
+        return Err(Refusal::BookLength);
     }
     if !line::all_fit(book) {
-        return BookRead::Rejected(Refusal::BookLine);
+        return Err(Refusal::BookLine);
     }
     let l = line::first(book);
     if !header::in_range(l) {
-        return BookRead::Rejected(Refusal::BookHeader);
+        return Err(Refusal::BookHeader);
     }
     let h = header::of_line(l);
     let goals = h.goals;
     if !read_body(book, starts, goals) {
-        return BookRead::Rejected(Refusal::BookBody);
+        return Err(Refusal::BookBody);
     }
-    BookRead::Accepted(h)
+    Ok(h)
 }

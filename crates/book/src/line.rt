@@ -1,58 +1,37 @@
 // A line of a book: 16 bytes, five fields of three columns and a newline.
 ghost use Rattle.std.specs.Prelude.{◌≡◌, ◌&&◌, ◌+◌, ◌≤◌, ◌<◌, eqb, length};
-ghost use Rattle.definition.specs.Line.{is_digit, is_space, is_leading_digit, is_field, digit_value, field_value};
+ghost use Rattle.definition.specs.Line.{is_space, is_leading_digit, is_field, digit_value, field_value};
 ghost use Rattle.definition.specs.Reader.{lines_of};
 ghost use Rattle.book.specs.Lines.{field_in, line_in, field_fits, line_fits, lines_if};
 
 use definition::format::Line;
 
-fn is_digit(c: u8) -> bool
-    ensures { result ≡ is_digit c }
-{
-    if c < 48 {
-        return false;
-    }
-    c <= 57
-}
-
 // A digit that can stand first.
 fn is_leading_digit(c: u8) -> bool
     ensures { result ≡ is_leading_digit c }
 {
-    if c < 49 {
-        return false;
-    }
-    c <= 57
-}
-
-fn wide(c: u8) -> u32
-    ensures { (result ≡ c) × (result ≤ 255) }
-{
-    c as u32
+    matches!(c, b'1'..=b'9')
 }
 
 // Whether two columns are spaces, by one comparison.
 fn both_spaces(x: u8, y: u8) -> bool
     ensures { result ≡ is_space x && is_space y }
 {
-    wide(x) + 256 * wide(y) == 8224
+    u32::from(x) + 256 * u32::from(y) == 8224
 }
 
 // Whether three columns are a field: right-justified after spaces, no leading zero.
 pub fn is_field(x: u8, y: u8, z: u8) -> bool
     ensures { result ≡ is_field x y z }
 {
-    if !is_digit(z) {
+    if !z.is_ascii_digit() {
         return false;
     }
     if both_spaces(x, y) {
         return true;
     }
-    if x != 32 {
-        if is_leading_digit(x) {
-            return is_digit(y);
-        }
-        return false;
+    if x != b' ' {
+        return is_leading_digit(x) && y.is_ascii_digit();
     }
     is_leading_digit(y)
 }
@@ -61,10 +40,7 @@ pub fn is_field(x: u8, y: u8, z: u8) -> bool
 fn digit(c: u8) -> u16
     ensures { (result ≡ digit_value c) × (result ≤ 207) }
 {
-    if c < 48 {
-        return 0;
-    }
-    (c - 48) as u16
+    u16::from(c.saturating_sub(b'0'))
 }
 
 // The number that a field says.
@@ -81,19 +57,11 @@ pub fn field(x: u8, y: u8, z: u8) -> u16
 fn is_zero(x: u8, y: u8, z: u8) -> bool
     ensures { result ≡ eqb (field_value x y z) 0 }
 {
-    if 48 < z {
-        return false;
-    }
-    if both_spaces(x, y) {
-        return true;
-    }
-    if 48 < x {
-        return false;
-    }
-    y <= 48
+    z <= b'0' && (both_spaces(x, y) || x <= b'0' && y <= b'0')
 }
 
-// The number of the field whose first column is at place i.
+// The number of the field whose first column is at place i. (`is_zero_at` and `fits_at` hand the same
+// columns to another function: one that takes the function would be no shorter.)
 pub fn field_at(s: &[u8], i: usize) -> u16
     requires { i + 2 < length s.now }
     ensures { result ≡ field_in s.now i }
@@ -118,6 +86,7 @@ pub fn is_zero_at(s: &[u8], i: usize) -> bool
 }
 
 // The numbers of the first line.
+#[tactic(auto, unfolding(crate::specs::Lines::line_in))]
 pub fn first(s: &[u8]) -> Line
     requires { 16 ≤ length s.now }
     ensures { result ≡ line_in s.now }
@@ -140,38 +109,27 @@ fn fits_at(s: &[u8], i: usize) -> bool
 }
 
 // Whether the first line is well-formed.
+#[tactic(auto, unfolding(crate::specs::Lines::line_fits))]
 fn first_fits(s: &[u8]) -> bool
     requires { 16 ≤ length s.now }
     ensures { result ≡ line_fits s.now }
 {
-    if !fits_at(s, 0) {
-        return false;
-    }
-    if !fits_at(s, 3) {
-        return false;
-    }
-    if !fits_at(s, 6) {
-        return false;
-    }
-    if !fits_at(s, 9) {
-        return false;
-    }
-    if !fits_at(s, 12) {
-        return false;
-    }
-    s[15] == 10
+    fits_at(s, 0)
+        && fits_at(s, 3)
+        && fits_at(s, 6)
+        && fits_at(s, 9)
+        && fits_at(s, 12)
+        && s[15] == b'\n'
 }
 
 // Whether every line of a book is well-formed.
 pub fn all_fit(book: &[u8]) -> bool
     ensures { lines_of book.now ≡ lines_if result book.now }
 {
-    let mut t = book;
-    while 16 <= t.len() {
+    for t in book.chunks_exact(16) {
         if !first_fits(t) {
             return false;
         }
-        t = &t[16..];
     }
     true
 }

@@ -11,7 +11,7 @@ use crate::line;
 use definition::paths::PathKind;
 
 // A call line.
-#[derive(Clone, Copy)]
+#[derive(Debug, Clone, Copy, PartialEq, Eq)]
 pub struct Call {
     pub goal: usize,
     pub step: PathKind,
@@ -23,16 +23,17 @@ pub fn of_goal<'a>(book: &'a [u8], starts: &[u16], goal: usize) -> &'a [u8]
     requires { (goal < length starts.now) × (get_or starts.now goal 0 ≤ length book.now) }
     ensures { result.now ≡ drop (get_or starts.now goal 0) book.now }
 {
-    let at = starts[goal] as usize;
+    let at = usize::from(starts[goal]);
     &book[at..]
 }
 
 // What the code of the first line says.
+#[tactic(auto, using(crate::proofs::Walk::part_line, crate::proofs::Walk::code_digit), unfolding(crate::specs::Lines::line_in))]
 pub fn code(part: &[u8]) -> Code
     requires { StartsPart part.now }
     ensures { result ≡ code_of (line_in part.now).code }
 {
-    Code::of_number(line::digit_at(part, 0))
+    Code::from(line::digit_at(part, 0))
 }
 
 // How many parts stand below the first line of a group.
@@ -40,7 +41,7 @@ pub fn count(part: &[u8]) -> usize
     requires { StartsPart part.now }
     ensures { (result ≡ (line_in part.now).first) × (result < 65536) }
 {
-    line::field_at(part, 3) as usize
+    usize::from(line::field_at(part, 3))
 }
 
 // How many parts stand below the first line.
@@ -48,14 +49,11 @@ fn below(part: &[u8]) -> usize
     requires { StartsPart part.now }
     ensures { (result ≡ parts_below (line_in part.now)) × (result < 65536) }
 {
-    let first = code(part);
-    match first {
-        Code::Group(_) | Code::Pick => count(part),
-        _ => 0,
-    }
+    if code(part).is_node() { count(part) } else { 0 }
 }
 
-// Passes over the part that the bytes start with, and hands back the rest.
+// Passes over the part that the bytes start with, and hands back the rest. The count goes down by each line and up by
+// each part below it, so that it is no range's.
 pub fn next(part: &[u8]) -> &[u8]
     requires { StartsPart part.now }
     ensures { Passed part.now result.now }
@@ -69,27 +67,23 @@ pub fn next(part: &[u8]) -> &[u8]
     t
 }
 
-// The kind of a step, by its number.
+// The kind of a step, by its number; every number above 3 is read as 3.
 pub fn kind(number: u16) -> PathKind
     ensures { result ≡ kind_of number }
 {
-    match number {
-        0 => PathKind::Inductive,
-        1 => PathKind::Unknown,
-        2 => PathKind::Coinductive,
-        3..=65535 => PathKind::ForcedAmbiguity,
-    }
+    PathKind::from(number.min(3) as u8)
 }
 
 impl Call {
     // The call of the first line.
+    #[tactic(auto, using(crate::proofs::Walk::part_line, crate::proofs::Walk::call_digits), unfolding(crate::specs::Lines::line_in))]
     pub fn first(part: &[u8]) -> Call
         requires { StartsPart part.now × (code_of (line_in part.now).code ≡ Code.Call) }
         ensures { result ≡ call_of (line_in part.now) }
     {
         let step = kind(line::digit_at(part, 6));
         Call {
-            goal: line::field_at(part, 3) as usize,
+            goal: usize::from(line::field_at(part, 3)),
             step,
             lower: line::digit_at(part, 9) == 1,
         }

@@ -29,6 +29,7 @@ pub fn read_book(files: &impl Files, bytes: &mut [u8]) -> usize
 }
 
 // Reads until the buffer is full, the input ends or a read fails, and answers how many bytes it put at the buffer's start.
+// The library's `read_exact` does not tell how many those are where the input ends before the buffer is full.
 pub fn read_full(input: &mut impl Read, bytes: &mut [u8]) -> usize
     ensures { IsPrefixLen result bytes.new }
 {

@@ -1,4 +1,3 @@
-pub mod Loops
 pub mod Numbers
 pub mod Regions
 pub mod Sized

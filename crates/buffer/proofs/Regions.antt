@@ -1,13 +1,13 @@
 -- What a write of bytes at an offset does to a region, once, over offset and size.
 use mathlib.Core.Path.{◌≡◌, refl, sym, ap, ◌∙◌, subst}
-use mathlib.Core.List.{List, [], ◌∷◌, ◌++◌, append_assoc, append-nil}
+use mathlib.Core.List.{List, [], ◌∷◌, ◌++◌, append-nil}
 use Prim.Native.Nat.{ℕ, zero, suc, ◌+◌, ◌-◌, ◌≤◌, ◌<◌}
 use native.Mathlib.Nat.{zero-add, suc-add}
 use native.Mathlib.Numerals.{add-one}
 use native.Mathlib.Decide.{dec_lt}
 use native.Mathlib.Omega.{arith}
-use lib.ListN.{length, get_or, take, drop, set, length-append, length-drop, get_or-append, take-append-drop, drop_of_length-le}
-use lib.Seq.{ext_get_or, get_or-take, get_or-drop, take-nil, drop_at, drop-drop, drop-cons, take-suc, take-append-le, take-take, take-append_seam, take-append-add, append_snoc, length-take-le, set_at, set_split}
+use lib.ListN.{length, get_or, take, drop, set, length-append, length-drop, get_or-append, drop_of_length-le}
+use lib.Seq.{ext_get_or, get_or-take, get_or-drop, take-nil, drop_at, drop-drop, take-append-le, take-take, take-append_seam, take-append-add, length-take-le, set_split}
 use Rattle.buffer.specs.Regions.{region, overwrite}
 
 pub drop_take : (b n : ℕ) (l : List ℕ) → drop b (take (b + n) l) ≡ take n (drop b l)
@@ -30,10 +30,6 @@ region_region a m b n bs h =
 -- a byte of a region
 pub byte_at : (a n : ℕ) (bs : List ℕ) (i : ℕ) → i < n → get_or (region a n bs) i 0 ≡ get_or bs (a + i) 0
 byte_at a n bs i lt = get_or-take n (drop a bs) i 0 lt ∙ get_or-drop a bs i 0
-
--- one byte more
-pub region_snoc : (a n : ℕ) (bs : List ℕ) → a + n < length bs → region a (suc n) bs ≡ region a n bs ++ (get_or bs (a + n) 0 ∷ [])
-region_snoc a n bs h = take-suc (drop a bs) n 0 (rw length-drop (omega arith)) ∙ ap (λ (b : ℕ). region a n bs ++ (b ∷ [])) (get_or-drop a bs n 0)
 
 -- ---- a write of ys at a
 module _ (bs : List ℕ) (a : ℕ) (ys : List ℕ) (fits : a + length ys ≤ length bs) where
@@ -90,19 +86,6 @@ module _ (bs : List ℕ) (a : ℕ) (ys : List ℕ) (fits : a + length ys ≤ len
       ∙ ap (λ (l : List ℕ). get_or l k 0) past
       ∙ get_or-drop (a + length ys) bs k 0
       ∙ ap (λ (m : ℕ). get_or bs m 0) e
-
-  -- one byte more, past the others
-  pub overwrite_snoc : (v : ℕ) → a + length ys < length bs → set (overwrite bs a ys) (a + length ys) v ≡ overwrite bs a (ys ++ (v ∷ []))
-  overwrite_snoc v h =
-      let d : List ℕ = drop a bs in
-      let n : ℕ = length ys in
-      let inner : n < length d = rw length-drop (omega arith) in
-      let grown : suc n ≡ length (ys ++ (v ∷ [])) = rw length-append (omega arith) in
-      ap (λ (l : List ℕ). set (take a bs ++ (ys ++ l)) (a + n) v) (drop-cons d n 0 inner)
-      ∙ ap (λ (l : List ℕ). set l (a + n) v) (sym (append_assoc (take a bs) ys (get_or d n 0 ∷ drop (suc n) d)))
-      ∙ set_at (take a bs ++ ys) (get_or d n 0) (drop (suc n) d) v (a + n) (length-append (take a bs) ys ∙ ap (λ (m : ℕ). m + n) front)
-      ∙ append_assoc (take a bs) ys (v ∷ drop (suc n) d)
-      ∙ ap (λ (l : List ℕ). take a bs ++ l) (sym (append_snoc ys v (drop (suc n) d)) ∙ ap (λ (m : ℕ). (ys ++ (v ∷ [])) ++ drop m d) grown)
 
 -- a write, seen from a place before it on, and up to a place past it
 drop_overwrite : (a k : ℕ) (bs ys : List ℕ) → a ≤ length bs → drop a (overwrite bs (a + k) ys) ≡ overwrite (drop a bs) k ys
@@ -169,13 +152,6 @@ overwrite_one bs i v h = ap (λ (l : List ℕ). take i bs ++ (v ∷ l)) (drop-dr
 -- a write of the whole buffer
 pub overwrite_all : (bs ys : List ℕ) → length ys ≡ length bs → overwrite bs 0 ys ≡ ys
 overwrite_all bs ys e = ap (λ (l : List ℕ). ys ++ l) (drop_of_length-le bs {i = length ys} (omega arith)) ∙ append-nil ys
-
--- a write of what is there
-pub overwrite_back : (bs : List ℕ) (a n : ℕ) → a + n ≤ length bs → overwrite bs a (region a n bs) ≡ bs
-overwrite_back bs a n h =
-    ap (λ (m : ℕ). take a bs ++ (region a n bs ++ drop m (drop a bs))) (length_region a n bs h)
-    ∙ ap (λ (l : List ℕ). take a bs ++ l) (take-append-drop n (drop a bs))
-    ∙ take-append-drop a bs
 
 -- the bytes that come back from a part `[a..e]` that was borrowed, with ys in it
 pub overwrite_part : (bs : List ℕ) (a e : ℕ) (ys : List ℕ) → length ys ≡ e - a → take a bs ++ (ys ++ drop (e - a) (drop a bs)) ≡ overwrite bs a ys

@@ -9,6 +9,7 @@ use lib.Bits.{bit_or, and_le_l, and_le_r, or_add_and}
 use lib.Dec.{eqb}
 use lib.ListN.{length, take, drop, length-drop, take-append-drop}
 use lib.Seq.{take_all, take-take, take-add}
+use Rattle.std.specs.List.{list_all}
 use Rattle.buffer.specs.Numbers.{number_of}
 use Rattle.buffer.specs.Regions.{region, all_zero}
 
@@ -43,8 +44,10 @@ number_zero : (bs : List ℕ) → number_of bs ≡ 0 → So (all_zero bs)
 number_zero [] e = refl
 number_zero (b ∷ bs) e = (and-eq-true_iff (eqb b 0) (all_zero bs)).1 (eq-eqb b 0 (omega arith), number_zero bs (omega arith))
 
-pub number_tells : (bs : List ℕ) → eqb (number_of bs) 0 ≡ all_zero bs
-number_tells bs = tells_zero (number_of bs) (all_zero bs) (number_zero bs) (zero_number bs)
+-- a test of each of the bytes
+pub zero_each : (bs : List ℕ) → list_all (λ (b : ℕ). eqb b 0) bs ≡ all_zero bs
+zero_each [] = refl
+zero_each (b ∷ bs) = ap (λ (t : Bool). eqb b 0 && t) (zero_each bs)
 
 -- ---- `all_zero`
 -- what the first i words and the last 8 bytes, joined, tell

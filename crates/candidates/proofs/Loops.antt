@@ -90,11 +90,11 @@ module _ (goals own : ℕ) (old : List ℕ) where
               ∙ inv.rest;
         }
 
-    pub merge_done : left ≤ 0 → MergedWritten goals own (merge_usages (merged_of goals own old) (candidate_usages_of goals (stack_of goals (own + 1) (graph_in goals old)))) old now
+    pub merge_done : left ≡ 0 → MergedWritten goals own (merge_usages (merged_of goals own old) (candidate_usages_of goals (stack_of goals (own + 1) (graph_in goals old)))) old now
     merge_done h =
         record {
           written =
-              sym (merge_none (merged_of goals own now) (keep (flags 64 left) (tracked_of goals (top_of goals own old))) (none_left no_usages left h (tracked_of goals (top_of goals own old))))
+              sym (merge_none (merged_of goals own now) (keep (flags 64 left) (tracked_of goals (top_of goals own old))) (none_left no_usages left (omega arith) (tracked_of goals (top_of goals own old))))
               ∙ inv.rest
               ∙ sym (ap (λ (s : Stack). merge_usages (merged_of goals own old) (candidate_usages_of goals s)) (stack_top goals own (graph_in goals old)));
           others = inv.written.others;
@@ -143,8 +143,8 @@ module _ (own : ℕ) (hs : CycleHeads) (us : List HeadUsages) where
       pub cover_stops : t ≡ false → false ≡ heads_cover own hs us
       cover_stops e = sym (cover_fails own hs us i (turn_below left i pos inv.small is own inv.below) (ap (usages_cover (usages_at hs i)) (sym is-u) ∙ sym is-t ∙ e))
 
-    pub cover_done : left ≤ 0 → true ≡ heads_cover own hs us
-    cover_done h = sym (cover_none own hs (keep (flags 64 left) us) (none_left no_usages left h us)) ∙ inv.rest
+    pub cover_done : left ≡ 0 → true ≡ heads_cover own hs us
+    cover_done h = sym (cover_none own hs (keep (flags 64 left) us) (none_left no_usages left (omega arith) us)) ∙ inv.rest
 
 -- ---- `can_ignore`
 module _ (goals own : ℕ) (work f b : List ℕ) (w : WorkBytes goals work) (lt : own < goals) (is_f : f ≡ top_bytes goals own work) (is_b : b ≡ merged_bytes goals own work) (t : Bool)
@@ -216,11 +216,11 @@ module _ (goals own : ℕ) (lt : own < goals) (old : List ℕ) (bytes : WorkByte
               ∙ inv.rest;
         }
 
-    pub ignore_done : left ≤ 0 → FrameWritten goals own (ignore_heads (merged_of goals own old) (top_of goals own old)) old now
+    pub ignore_done : left ≡ 0 → FrameWritten goals own (ignore_heads (merged_of goals own old) (top_of goals own old)) old now
     ignore_done h =
         let us : List HeadUsages = merged_of goals own old in
         let f : Frame = top_of goals own now in
-        let is : f ≡ ignore_heads us (top_of goals own old) = ap (with_heads f) (sym (ignore_none f.heads (keep (flags 64 left) us) (none_left no_usages left h us))) ∙ inv.rest in
+        let is : f ≡ ignore_heads us (top_of goals own old) = ap (with_heads f) (sym (ignore_none f.heads (keep (flags 64 left) us) (none_left no_usages left (omega arith) us))) ∙ inv.rest in
         frame_same goals own f old now inv.written (ignore_heads us (top_of goals own old)) is
 
 -- ---- `ignore`

@@ -1,38 +1,23 @@
--- The verdict's numbers, written one by one.
-use mathlib.Core.Path.{◌≡◌, refl, ap, ◌∙◌}
-use mathlib.Core.List.{List, [], ◌∷◌}
-use Prim.Native.Nat.{ℕ}
-use lib.ListN.{get_or, set}
+-- The verdict's numbers, over the first places of what is lent.
+use mathlib.Core.Path.{◌≡◌, refl, ap}
+use mathlib.Core.List.{List, [], ◌∷◌, ◌++◌}
+use Prim.Native.Nat.{ℕ, zero, suc, min}
+use native.Mathlib.Omega.{arith}
+use lib.ListN.{length, take, drop}
 use Rattle.guarantee.specs.declared.Verdict.{Verdict}
 use Rattle.guarantee.specs.declared.Verdict.TheVariants.{Refused, Given, Broken}
-use Rattle.guarantee.specs.Codes.{verdict_code, verdict_numbers}
-use Rattle.capi.specs.Verdicts.{over, Judged}
+use Rattle.guarantee.specs.Codes.{verdict_numbers}
+use Rattle.capi.specs.Verdicts.{over}
 
-abbrev written : List ℕ → List ℕ → List ℕ
-written ns out = set (set (set out 0 (get_or ns 0 0)) 1 (get_or ns 1 0)) 2 (get_or ns 2 0)
+pub over_prefix : (n : ℕ) (ns out : List ℕ) → n ≡ min (length out) (length ns) → take n ns ++ drop n out ≡ over ns out
+over_prefix zero [] out e = refl
+over_prefix (suc n) [] out e = absurd (omega arith)
+over_prefix zero (x ∷ ns) [] e = refl
+over_prefix (suc n) (x ∷ ns) [] e = absurd (omega arith)
+over_prefix zero (x ∷ ns) (y ∷ out) e = absurd (omega arith)
+over_prefix (suc n) (x ∷ ns) (y ∷ out) e = ap (λ (l : List ℕ). x ∷ l) (over_prefix n ns out (omega arith))
 
-three : (a b c : ℕ) (out : List ℕ) → written (a ∷ b ∷ c ∷ []) out ≡ over (a ∷ b ∷ c ∷ []) out
-three a b c [] = refl
-three a b c (x ∷ []) = refl
-three a b c (x ∷ y ∷ []) = refl
-three a b c (x ∷ y ∷ z ∷ out) = refl
-
-numbers : (v : Verdict) (out : List ℕ) → written (verdict_numbers v) out ≡ over (verdict_numbers v) out
-numbers (Refused r) out = three 0 0 0 out
-numbers Given out = three 0 0 0 out
-numbers (Broken c) out = three c.inductive c.coinductive c.group out
-
-pub judged : (v w : Verdict) (code : ℕ) (ns out first second third : List ℕ) → v ≡ w → code ≡ verdict_code v
-    → ns ≡ verdict_numbers v
-    → first ≡ set out 0 (get_or ns 0 0) → second ≡ set first 1 (get_or ns 1 0) → third ≡ set second 2 (get_or ns 2 0)
-    → Judged code third out w
-judged v w code ns out first second third is k n a b c =
-    record {
-      code_is = k ∙ ap verdict_code is;
-      out_is =
-          c
-          ∙ ap (λ (l : List ℕ). set l 2 (get_or ns 2 0)) (b ∙ ap (λ (l : List ℕ). set l 1 (get_or ns 1 0)) a)
-          ∙ ap (λ (l : List ℕ). written l out) n
-          ∙ numbers v out
-          ∙ ap (λ (x : Verdict). over (verdict_numbers x) out) is;
-    }
+pub three : (v : Verdict) → length (verdict_numbers v) ≡ 3
+three (Refused r) = refl
+three Given = refl
+three (Broken c) = refl

@@ -1,31 +1,16 @@
 -- The counters of `HeadUsages`.
-use mathlib.Core.Path.{◌≡◌, refl, sym, ap, ◌∙◌}
-use mathlib.Core.Bool.{Bool, true, ◌&&◌}
+use mathlib.Core.Path.{◌≡◌, refl, sym, ◌∙◌}
+use mathlib.Core.Bool.{true, ◌&&◌}
 use mathlib.Core.Option.{Option, none, some}
 use Prim.Native.Nat.{ℕ, ◌+◌, ◌-◌, ◌≤◌, ◌<◌, min}
 use native.Mathlib.Omega.{arith}
-use native.Mathlib.Decide.{dec_lt, ℕ_discrete}
-use borrow.Author.Tests.{le-leb, lt-leb, eq-eqb, ne_eqb}
-use lib.Bits.{bit_or, and_le_l, and_le_r, or_add_and}
-use lib.Dec.{eqb, leb}
+use native.Mathlib.Decide.{dec_lt}
+use borrow.Author.Tests.{le-leb, lt-leb}
+use lib.Dec.{leb}
 use Rattle.definition.specs.declared.usages.HeadUsages.{HeadUsages}
 use Rattle.definition.specs.declared.heads.CycleHead.{CycleHead}
 use Rattle.definition.specs.Usages.{counter_limit, add_counter, subtract_counter, counter_covers, no_usages, add_usages, ignore_usages, usages_cover}
 use Rattle.definition.specs.Heads.{ignore_at_head}
-
--- a join is 0 where both numbers are
-none_of : (a b : ℕ) → eqb (bit_or a b) 0 ≡ (eqb a 0 && eqb b 0)
-none_of a b =
-    elim (ℕ_discrete a 0) [
-      | yes a0 ↦ elim (ℕ_discrete b 0) [
-        | yes b0 ↦ rw (a0, b0)
-        | no b1 ↦ rw (ne_eqb b 0 b1, eq-eqb a 0 a0) (ne_eqb (bit_or a b) 0 (λ e. b1 (omega (arith, or_add_and a b, and_le_l a b))))
-      ]
-      | no a1 ↦ rw (ne_eqb a 0 a1) (ne_eqb (bit_or a b) 0 (λ e. a1 (omega (arith, or_add_and a b, and_le_r a b))))
-    ]
-
-pub none_of_three : (a b c : ℕ) → eqb (bit_or (bit_or a b) c) 0 ≡ (eqb a 0 && eqb b 0 && eqb c 0)
-none_of_three a b c = none_of (bit_or a b) c ∙ ap (λ (t : Bool). t && eqb c 0) (none_of a b)
 
 -- a counter that has come to the limit, and one that has not
 module _ (a b : ℕ) where
@@ -46,6 +31,8 @@ module _ (a b : ℕ) where
 
   pub covers_less : a < counter_limit → leb b a ≡ counter_covers a b
   covers_less h = rw (lt-leb counter_limit a h, counter_covers)
+
+pub ruleset by_limit = (add_full, add_less, subtract_full, subtract_less, covers_full, covers_less)
 
 -- ---- nothing to add, to take away or to cover
 pub add-zero : (a : ℕ) → add_counter a 0 ≡ a

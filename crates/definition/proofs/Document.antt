@@ -4,7 +4,7 @@ use mathlib.Core.Path.{◌≡◌, refl}
 use mathlib.Core.List.{List, [], ◌∷◌}
 use lib.ListN.{replicate, take, get_or}
 use Rattle.definition.specs.declared.replies.Refusal.TheVariants.{ProvisionalCacheFull, CacheConflict}
-use Rattle.definition.specs.declared.replies.Response.TheVariants.{Refused}
+use Rattle.std.specs.Prelude.{Err}
 use Rattle.definition.specs.Answers.{combine}
 use Rattle.definition.specs.Usages.{counter_limit}
 use Rattle.definition.specs.Query.{query, work_length}
@@ -65,12 +65,12 @@ book10 =
     ∷ line 1 1 0 0 0 ∷ line 2 0 0 1 0 ∷ line 1 2 0 0 0 ∷ line 2 0 0 1 0 ∷ [])
 
 pub refusal_10 : query book10 (replicate 84 0) (work_for 3) 0 2
-    ≡ record { response = Refused ProvisionalCacheFull; cache = replicate 84 0; work = replicate (work_length 3) 0 }
+    ≡ record { response = Err ProvisionalCacheFull; cache = replicate 84 0; work = replicate (work_length 3) 0 }
 unfolding counter_limit combine
 refusal_10 = refl
 
 -- refusal 11: a cache written by hand says Yes, required depth 5, for an empty any, asked at depth 3
 pub refusal_11 : query (get_or table 0 no_example).bytes (1 ∷ 1 ∷ 5 ∷ 1 ∷ 0 ∷ replicate 30 0) (work_for 1) 0 3
-    ≡ record { response = Refused CacheConflict; cache = replicate 35 0; work = replicate (work_length 1) 0 }
+    ≡ record { response = Err CacheConflict; cache = replicate 35 0; work = replicate (work_length 1) 0 }
 unfolding counter_limit combine
 refusal_11 = refl

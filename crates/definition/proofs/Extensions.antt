@@ -172,3 +172,7 @@ module _ (table : List ℕ) (right : Extensions table) (p q : ℕ) (byte-p : p <
       high =
           eqb→eq (bit_and p 224) (p / 32 * 32)
           (at_number (λ n. eqb (bit_and n 224) (n / 32 * 32)) 256 tt p byte-p)
+
+pub ruleset by_table = (of_sets, of_no_kind, of_beyond)
+
+pub ruleset by_flags = (extend_keeps, extend_replaces)

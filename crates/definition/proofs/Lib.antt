@@ -1,7 +1,7 @@
-pub mod Combined
 pub mod Combining
 pub mod Counters
 pub mod Document
+pub mod Equality
 pub mod Everywhere
 pub mod Example
 pub mod Extensions

@@ -6,8 +6,7 @@ use Rattle.definition.specs.declared.answers.Answer.{Answer}
 use Rattle.definition.specs.declared.answers.Answer.TheVariants.{No, Yes, Undecided, Overflow}
 use Rattle.definition.specs.declared.replies.Refusal.{Refusal}
 use Rattle.definition.specs.declared.replies.Refusal.TheVariants.{BookLength, BookLine, BookHeader, BookBody, UnknownGoal, DepthAboveTop, CacheLength, CacheForm, WorkLength, ProvisionalCacheFull, CacheConflict, Unreachable}
-use Rattle.definition.specs.declared.replies.Response.{Response}
-use Rattle.definition.specs.declared.replies.Response.TheVariants.{Answered, Refused}
+use Rattle.std.specs.Prelude.{Result, Ok, Err}
 
 abbrev pub answer_number : Answer → ℕ
 answer_number No = 0
@@ -67,11 +66,15 @@ refusal_number ProvisionalCacheFull = 10
 refusal_number CacheConflict = 11
 refusal_number Unreachable = 255
 
+-- what a query comes to
+abbrev pub Response : Type 0
+Response = Result Answer Refusal
+
 -- a refused query carries answer 0, which is then no verdict; refusal 0 says that it was accepted
 abbrev pub response_answer : Response → ℕ
-response_answer (Answered a) = answer_number a
-response_answer (Refused r) = 0
+response_answer (Ok a) = answer_number a
+response_answer (Err r) = 0
 
 abbrev pub response_refusal : Response → ℕ
-response_refusal (Answered a) = 0
-response_refusal (Refused r) = refusal_number r
+response_refusal (Ok a) = 0
+response_refusal (Err r) = refusal_number r

@@ -1,5 +1,6 @@
 pub mod Paths
 pub mod Table
+pub mod Options
 pub mod Usages
 pub mod Answers
 pub mod Heads

@@ -4,8 +4,8 @@ use Rattle.std.proofs.Math.Option.{Option, none, some}
 use Rattle.definition.specs.declared.paths.PathKind.TheVariants.{Inductive}
 use Rattle.definition.specs.declared.replies.Refusal.{Refusal}
 use Rattle.definition.specs.declared.replies.Refusal.TheVariants.{UnknownGoal, DepthAboveTop, CacheLength, CacheForm, WorkLength}
-use Rattle.definition.specs.declared.replies.Response.{Response}
-use Rattle.definition.specs.declared.replies.Response.TheVariants.{Answered, Refused}
+use Rattle.definition.specs.Answers.{Response}
+use Rattle.std.specs.Prelude.{Ok, Err}
 use Rattle.definition.specs.Part.{Book}
 use Rattle.definition.specs.Graph.{Graph, Outcome, Done, Stopped}
 use Rattle.definition.specs.Reader.{Accepted, Rejected, read_book}
@@ -56,12 +56,12 @@ zeros xs = replicate (length xs) 0
 
 -- refusals 1 to 9 leave cache and workspace untouched
 abbrev pub untouched : Refusal → List ℕ → List ℕ → Reply
-untouched r cache work = record { response = Refused r; cache = cache; work = work }
+untouched r cache work = record { response = Err r; cache = cache; work = work }
 
 -- refusals 10 and 11 fill both with zeros; an accepted query fills the workspace with zeros
 abbrev pub reply_of : List ℕ → List ℕ → Outcome → Reply
-reply_of cache work (Done g a) = record { response = Answered a; cache = g.global_cache; work = zeros work }
-reply_of cache work (Stopped r) = record { response = Refused r; cache = zeros cache; work = zeros work }
+reply_of cache work (Done g a) = record { response = Ok a; cache = g.global_cache; work = zeros work }
+reply_of cache work (Stopped r) = record { response = Err r; cache = zeros cache; work = zeros work }
 
 abbrev pub query_book : Book → List ℕ → List ℕ → ℕ → ℕ → Reply
 query_book b cache work goal depth =

@@ -1,11 +1,11 @@
 // Answers of goals.
 ghost use Rattle.std.specs.Prelude.{◌≡◌};
-ghost use Rattle.definition.specs.Answers.{answer_number, answer_of, same_answer, combine, initial_provisional_result, initial_kind, is_ambiguous};
+ghost use Rattle.definition.specs.Answers.{answer_number, answer_of, combine, initial_provisional_result, initial_kind, is_ambiguous};
 
 use crate::paths::PathKind;
 
-// What a goal comes to. Undecided and Overflow are ambiguous.
-#[derive(Clone, Copy)]
+// What a goal comes to, in the order of document 01's numbers. Undecided and Overflow are ambiguous.
+#[derive(Debug, Clone, Copy, PartialEq, Eq, PartialOrd, Ord, Hash)]
 pub enum Answer {
     No,
     Yes,
@@ -13,22 +13,25 @@ pub enum Answer {
     Overflow,
 }
 
-impl Answer {
-    pub fn number(self) -> u8
-        ensures { result ≡ answer_number self }
-    {
-        match self {
+// Document 01's number.
+impl From<Answer> for u8 {
+    ghost from_gives = { λ a n. n ≡ answer_number a };
+
+    fn from(answer: Answer) -> u8 {
+        match answer {
             Answer::No => 0,
             Answer::Yes => 1,
             Answer::Undecided => 2,
             Answer::Overflow => 3,
         }
     }
+}
 
-    // The answer of a number; every number above 3 is read as 3.
-    pub fn from_number(n: u8) -> Answer
-        ensures { result ≡ answer_of n }
-    {
+// The answer of a number; every number above 3 is read as 3.
+impl From<u8> for Answer {
+    ghost from_gives = { λ n a. a ≡ answer_of n };
+
+    fn from(n: u8) -> Answer {
         match n {
             0 => Answer::No,
             1 => Answer::Yes,
@@ -36,29 +39,19 @@ impl Answer {
             3..=255 => Answer::Overflow,
         }
     }
+}
 
-    pub fn same(self, other: Answer) -> bool
-        ensures { result ≡ same_answer self other }
-    {
-        self.number() == other.number()
-    }
-
+impl Answer {
     // Of two answers that decide nothing: undecided where one of them is, else the one with the
     // higher number.
+    #[tactic(auto, unfolding(crate::specs::Answers::combine))]
     pub fn combine(self, other: Answer) -> Answer
         ensures { result ≡ combine self other }
     {
-        if self.same(Answer::Undecided) {
+        if self == Answer::Undecided || other == Answer::Undecided {
             return Answer::Undecided;
         }
-        if other.same(Answer::Undecided) {
-            return Answer::Undecided;
-        }
-        if self.number() <= other.number() {
-            other
-        } else {
-            self
-        }
+        self.max(other)
     }
 
     pub fn is_ambiguous(self) -> bool

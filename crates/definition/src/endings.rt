@@ -3,15 +3,15 @@ use crate::answers::Answer;
 use crate::paths::PathKind;
 
 // A fixpoint: at the first one the cycles were given the initial result of a kind, at a later one
-// the provisional result. The Rust has an `Option` of a kind.
-#[derive(Clone, Copy)]
+// the provisional result. The Rust has an `Option` of a kind, whose `None` does not say that.
+#[derive(Debug, Clone, Copy, PartialEq, Eq)]
 pub enum Fixpoint {
     First(PathKind),
     Later,
 }
 
 // Why provisional entries are rebased.
-#[derive(Clone, Copy)]
+#[derive(Debug, Clone, Copy, PartialEq, Eq)]
 pub enum RebaseReason {
     NoCycleUsages,
     Ambiguity(Answer),
@@ -20,7 +20,7 @@ pub enum RebaseReason {
 
 // What follows when a frame is taken off the stack: nothing for a goal that heads no ring, rebasing
 // for one of four reasons, or clearing the entries that depend on it before it runs again.
-#[derive(Clone, Copy)]
+#[derive(Debug, Clone, Copy, PartialEq, Eq)]
 pub enum Ending {
     Nothing,
     Fixpoint(Fixpoint),

@@ -1,12 +1,12 @@
 // Paths between goals.
 ghost use Rattle.std.specs.Prelude.{◌≡◌};
-ghost use Rattle.definition.specs.Paths.{kind_number, kind_of, same_kind, extend, empty_path, flag_of, weaker_flags};
+ghost use Rattle.definition.specs.Paths.{kind_number, kind_of, extend, empty_path, flag_of, weaker_flags};
 ghost use Rattle.definition.specs.Paths.{contains_path, extend_with, extend_with_paths};
 ghost use Rattle.definition.specs.Table.{Extensions};
 ghost use Rattle.definition.specs.declared.paths.PathKind.{PathKind};
 
 // The kind of a path, in the order of `extend`.
-#[derive(Clone, Copy)]
+#[derive(Debug, Clone, Copy, PartialEq, Eq, PartialOrd, Ord, Hash)]
 pub enum PathKind {
     Inductive,
     Unknown,
@@ -16,28 +16,30 @@ pub enum PathKind {
 
 // A set of paths: flags in a byte, the empty path 1, inductive 2, unknown 4,
 // coinductive 8, forced ambiguity 16.
-#[derive(Clone, Copy)]
+#[derive(Debug, Clone, Copy, PartialEq, Eq)]
 pub struct PathsToNested {
     pub bits: u8,
 }
 
-impl PathKind {
-    // The number that a call line has for the kind.
-    pub fn number(self) -> u8
-        ensures { result ≡ kind_number self }
-    {
-        match self {
+// The number that a call line has for the kind.
+impl From<PathKind> for u8 {
+    ghost from_gives = { λ kind n. n ≡ kind_number kind };
+
+    fn from(kind: PathKind) -> u8 {
+        match kind {
             PathKind::Inductive => 0,
             PathKind::Unknown => 1,
             PathKind::Coinductive => 2,
             PathKind::ForcedAmbiguity => 3,
         }
     }
+}
 
-    // The kind of a number; every number above 3 is read as 3.
-    pub fn from_number(n: u8) -> PathKind
-        ensures { result ≡ kind_of n }
-    {
+// The kind of a number; every number above 3 is read as 3.
+impl From<u8> for PathKind {
+    ghost from_gives = { λ n kind. kind ≡ kind_of n };
+
+    fn from(n: u8) -> PathKind {
         match n {
             0 => PathKind::Inductive,
             1 => PathKind::Unknown,
@@ -45,22 +47,14 @@ impl PathKind {
             3..=255 => PathKind::ForcedAmbiguity,
         }
     }
+}
 
-    pub fn same(self, other: PathKind) -> bool
-        ensures { result ≡ same_kind self other }
-    {
-        self.number() == other.number()
-    }
-
+impl PathKind {
     // The kind of a path of this kind that goes on with a path of kind `rest`.
     pub fn extend(self, rest: PathKind) -> PathKind
         ensures { result ≡ extend self rest }
     {
-        if self.number() <= rest.number() {
-            rest
-        } else {
-            self
-        }
+        self.max(rest)
     }
 
     // The kind's flag in a set of paths.
@@ -89,6 +83,7 @@ impl PathKind {
 }
 
 // The set with a kind's flag for those below it, given both.
+#[tactic(auto, using(crate::proofs::Extensions::by_flags))]
 pub fn replace_weaker(bits: u8, weaker: u8, flag: u8) -> u8
     ensures { (kind : PathKind)
         → weaker ≡ weaker_flags kind → flag ≡ flag_of kind → result ≡ extend_with bits kind }
@@ -99,18 +94,21 @@ pub fn replace_weaker(bits: u8, weaker: u8, flag: u8) -> u8
     (bits & !weaker) | flag
 }
 
+// The set of a path of a kind.
+impl From<PathKind> for PathsToNested {
+    ghost from_gives = { λ kind paths. paths.bits ≡ flag_of kind };
+
+    fn from(kind: PathKind) -> PathsToNested {
+        PathsToNested { bits: kind.flag() }
+    }
+}
+
 impl PathsToNested {
     // The set of the empty path.
     pub fn empty_path() -> PathsToNested
         ensures { result.bits ≡ empty_path }
     {
         PathsToNested { bits: 1 }
-    }
-
-    pub fn from_kind(kind: PathKind) -> PathsToNested
-        ensures { result.bits ≡ flag_of kind }
-    {
-        PathsToNested { bits: kind.flag() }
     }
 
     pub fn contains(self, kind: PathKind) -> bool
@@ -134,17 +132,15 @@ impl PathsToNested {
     // The paths, each gone on with by each path of `rest` but the empty one: read in the table of
     // extensions. Flags beyond the five, which no set of paths has, are no kinds in `rest`, and
     // in `self` each extension keeps them.
+    #[tactic(auto, using(crate::proofs::Extensions::by_table))]
     pub fn extend_with_paths(self, rest: PathsToNested, table: &[u8; 1024]) -> PathsToNested
         requires { Extensions table.now }
         ensures { result.bits ≡ extend_with_paths self.bits rest.bits }
     {
         let a = self.bits % 32;
         let b = rest.bits % 32;
-        let extended = table[32 * (a as usize) + (b as usize)];
-        if self.bits < 32 {
-            return PathsToNested { bits: extended };
-        }
-        if b < 2 {
+        let extended = table[32 * usize::from(a) + usize::from(b)];
+        if self.bits < 32 || b < 2 {
             return PathsToNested { bits: extended };
         }
         PathsToNested {

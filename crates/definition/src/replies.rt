@@ -5,7 +5,7 @@ ghost use Rattle.definition.specs.Answers.{refusal_number, response_answer, resp
 use crate::answers::Answer;
 
 // Why a query is refused, in the order of document 01's table.
-#[derive(Clone, Copy)]
+#[derive(Debug, Clone, Copy, PartialEq, Eq)]
 pub enum Refusal {
     BookLength,
     BookLine,
@@ -22,19 +22,15 @@ pub enum Refusal {
     Unreachable,
 }
 
-// What a query comes to.
-#[derive(Clone, Copy)]
-pub enum Response {
-    Answered(Answer),
-    Refused(Refusal),
-}
+// What a query comes to: an answer, or why it is refused.
+pub type Response = Result<Answer, Refusal>;
 
-impl Refusal {
-    // Document 01's number.
-    pub fn number(self) -> u32
-        ensures { result ≡ refusal_number self }
-    {
-        match self {
+// Document 01's number.
+impl From<Refusal> for u32 {
+    ghost from_gives = { λ refusal n. n ≡ refusal_number refusal };
+
+    fn from(refusal: Refusal) -> u32 {
+        match refusal {
             Refusal::BookLength => 1,
             Refusal::BookLine => 2,
             Refusal::BookHeader => 3,
@@ -51,20 +47,12 @@ impl Refusal {
     }
 }
 
-fn wide(n: u8) -> u32
-    ensures { result ≡ n }
+// Answer and refusal in one number.
+pub fn code(response: Response) -> u32
+    ensures { result ≡ response_answer response + 256 * response_refusal response }
 {
-    n as u32
-}
-
-impl Response {
-    // Answer and refusal in one number.
-    pub fn code(self) -> u32
-        ensures { result ≡ response_answer self + 256 * response_refusal self }
-    {
-        match self {
-            Response::Answered(answer) => wide(answer.number()),
-            Response::Refused(refusal) => 256 * refusal.number(),
-        }
+    match response {
+        Ok(answer) => u32::from(u8::from(answer)),
+        Err(refusal) => 256 * u32::from(refusal),
     }
 }

@@ -3,10 +3,11 @@ use mathlib.Core.Path.{◌≡◌, refl, sym, ap, ◌∙◌, subst}
 use mathlib.Core.Bool.{Bool, true, false}
 use mathlib.Core.List.{List}
 use Prim.Native.Nat.{ℕ, ◌*◌, ◌≤◌}
+use Rattle.std.specs.Prelude.{Ok, Err}
 use native.Mathlib.Omega.{arith}
+use Rattle.definition.specs.declared.replies.Refusal.{Refusal}
 use Rattle.definition.specs.declared.answers.Answer.{Answer}
 use Rattle.definition.specs.declared.answers.Answer.TheVariants.{No, Yes}
-use Rattle.definition.specs.declared.replies.Refusal.{Refusal}
 use Rattle.definition.specs.Answers.{combine, same_answer}
 use Rattle.definition.specs.Part.{Part, Parts, Then}
 use Rattle.definition.specs.Part as part
@@ -16,13 +17,11 @@ use Rattle.definition.specs.Evaluate.{Evaluator, eval_part}
 use Rattle.book.specs.declared.code.Op.{Op}
 use Rattle.book.specs.declared.code.Op.TheVariants.{All, Any}
 use Rattle.layout.specs.Work.{graph_of}
-use Rattle.evaluation.specs.declared.Outcome.{Outcome}
-use Rattle.evaluation.specs.declared.Outcome.TheVariants.{Done, Stopped}
-use Rattle.evaluation.specs.Outcomes.{outcome_of}
+use Rattle.std.specs.declared.ops.ControlFlow.TheVariants.{Continue, Break}
+use Rattle.evaluation.specs.declared.Done.{Done}
+use Rattle.evaluation.specs.Outcomes.{Outcome, outcome_of}
 use Rattle.delegate.specs.declared.group.Group.{Group}
-use Rattle.delegate.specs.declared.group.Weighed.{Weighed}
-use Rattle.delegate.specs.declared.group.Weighed.TheVariants.{Ended, More}
-use Rattle.delegate.specs.Groups.{deciding, rest_of, next_of, rest, next, left_of, FewLeft, unless_decided}
+use Rattle.delegate.specs.Groups.{Weighed, deciding, rest_of, next_of, rest, next, left_of, FewLeft, unless_decided}
 use Rattle.delegate.specs.Groups.{GroupStarted, GroupWeighed, GroupClosed}
 
 -- ---- the first part, then the others
@@ -61,75 +60,71 @@ module _ (op : Op) (combined by answer : Answer) (entries : ℕ) (b : Bool) (sam
       → unless_decided x op combined by answer entries ≡ unless_decided (same_answer answer by) op combined by answer entries
   by_test x e = ap (λ (y : Bool). unless_decided y op combined by answer entries) (sym e ∙ same)
 
-  pub decided : b ≡ true → Ended (Done by entries) ≡ unless_decided (same_answer answer by) op combined by answer entries
+  pub decided : b ≡ true → Break (Ok (record { answer = by; entries = entries })) ≡ unless_decided (same_answer answer by) op combined by answer entries
   decided t = by_test true t
 
   pub undecided : (c : Answer) → b ≡ false → c ≡ combine combined answer
-      → More (record { op = op; combined = c; entries = entries })
+      → Continue (record { op = op; combined = c; entries = entries })
       ≡ unless_decided (same_answer answer by) op combined by answer entries
-  undecided c f e = ap (λ (x : Answer). More (record { op = op; combined = x; entries = entries })) e ∙ by_test false f
+  undecided c f e = ap (λ (x : Answer). Continue (record { op = op; combined = x; entries = entries })) e ∙ by_test false f
 
 -- ---- `weigh`
-module _ (group : Group) (answer : Answer) (entries : ℕ) (op : Op) where
+module _ (group : Group) (done : Done) (op : Op) where
   -- by whether the answer decides
   after : Bool → Weighed
-  after b = unless_decided b op group.combined (deciding op) answer entries
+  after b = unless_decided b op group.combined (deciding op) done.answer done.entries
 
   left_after : (evaluate : Evaluator) (goals root height : ℕ) (ps : Parts) (bytes cache : List ℕ) (b : Bool)
       → left_of evaluate goals root height ps bytes cache (after b)
       ≡ elim b [
-        | true ↦ graph.Done (graph_of goals root height entries bytes cache) (deciding op)
+        | true ↦ graph.Done (graph_of goals root height done.entries bytes cache) (deciding op)
         | false ↦
-            rest_of evaluate goals op (combine group.combined answer) ps (graph_of goals root height entries bytes cache)
+            rest_of evaluate goals op (combine group.combined done.answer) ps
+            (graph_of goals root height done.entries bytes cache)
       ]
   unfolding after left_of outcome_of
   left_after evaluate goals root height ps bytes cache true = refl
   left_after evaluate goals root height ps bytes cache false = refl
 
-  few_after : (goals : ℕ) → entries ≤ 2 * goals → (b : Bool) → FewLeft goals (after b)
+  few_after : (goals : ℕ) → done.entries ≤ 2 * goals → (b : Bool) → FewLeft goals (after b)
   unfolding after
   few_after goals few true = few
   few_after goals few false = few
 
-  pub weighed : (r : Weighed) → group.op ≡ op
-      → r ≡ unless_decided (same_answer answer (deciding op)) op group.combined (deciding op) answer entries
-      → GroupWeighed (Done answer entries) group r
+  weighed_done : (r : Weighed) → group.op ≡ op
+      → r ≡ unless_decided (same_answer done.answer (deciding op)) op group.combined (deciding op) done.answer done.entries
+      → GroupWeighed (Ok done) group r
   unfolding after outcome_of
-  weighed r e is =
+  weighed_done r e is =
       record {
         whole = λ evaluate goals root height ps bytes cache.
-            ap (left_of evaluate goals root height ps bytes cache) is
-            ∙ left_after evaluate goals root height ps bytes cache (same_answer answer (deciding op))
-            ∙ ap (λ (o : Op). next_of evaluate goals o group.combined ps (graph_of goals root height entries bytes cache) answer)
+            ap (λ (w : Weighed). left_of evaluate goals root height ps bytes cache w) is
+            ∙ left_after evaluate goals root height ps bytes cache (same_answer done.answer (deciding op))
+            ∙ ap (λ (o : Op). next_of evaluate goals o group.combined ps
+            (graph_of goals root height done.entries bytes cache) done.answer)
             (sym e);
-        few = λ goals few. subst (FewLeft goals) (sym is) (few_after goals few (same_answer answer (deciding op)));
-        answered = λ x more. tt;
+        few = λ goals few. subst (λ (w : Weighed). FewLeft goals w) (sym is)
+            (few_after goals few (same_answer done.answer (deciding op)));
+        answered = λ n e. tt;
       }
 
-ended_more : {x : Outcome} {y : Group} → Ended x ≡ More y → ⊥
-ended_more e = let z : ◌≡◌ {A = ℕ} 0 1 = cc in absurd (omega arith)
-
-module _ (o : Outcome) (group : Group) where
-  pub weighed_done : (answer : Answer) (entries : ℕ) (r : Weighed) → o ≡ Done answer entries
-      → GroupWeighed (Done answer entries) group r
+  pub weighed : (o : Outcome) → o ≡ Ok done → (r : Weighed) → group.op ≡ op
+      → r ≡ unless_decided (same_answer done.answer (deciding op)) op group.combined (deciding op) done.answer done.entries
       → GroupWeighed o group r
-  weighed_done answer entries r e w = subst (λ (x : Outcome). GroupWeighed x group r) (sym e) w
+  weighed o was r e is = subst (λ (x : Outcome). GroupWeighed x group r) (sym was) (weighed_done r e is)
 
-  pub weighed_stopped : (x : Refusal) → o ≡ Stopped x → GroupWeighed o group (Ended (Stopped x))
-  unfolding left_of outcome_of
-  weighed_stopped x e = subst (λ (y : Outcome). GroupWeighed y group (Ended (Stopped x))) (sym e) stops
-    where
-      stops : GroupWeighed (Stopped x) group (Ended (Stopped x))
-      stops = record { whole = λ evaluate goals root height ps bytes cache. refl; few = λ goals few. few; answered = λ y more. ended_more more }
+-- a refusal
+pub weighed_refused : (group : Group) (o : Outcome) (x : Refusal) → o ≡ Err x → GroupWeighed o group (Break (Err x))
+unfolding left_of outcome_of
+weighed_refused group o x was =
+    subst (λ (y : Outcome). GroupWeighed y group (Break (Err x))) (sym was)
+    (record { whole = λ evaluate goals root height ps bytes cache. refl; few = λ goals few. tt; answered = λ n e. let z : ◌≡◌ {A = ℕ} 0 1 = cc in absurd (omega arith) })
 
 -- ---- `close`
-pub closed : (group : Group) → GroupClosed group (Done group.combined group.entries)
-unfolding outcome_of rest_of
+pub closed : (group : Group) → GroupClosed group (record { answer = group.combined; entries = group.entries })
+unfolding rest_of
 closed group =
-    record {
-      whole = λ evaluate goals root height bytes cache. none_left evaluate goals group.op group.combined _;
-      few = λ goals few. few;
-    }
+    record { whole = λ evaluate goals g. none_left evaluate goals group.op group.combined g; count = refl }
   where
     none_left : (evaluate : Evaluator) (goals : ℕ) (op : Op) (combined : Answer) (g : Graph)
         → graph.Done g combined ≡ rest_of evaluate goals op combined part.End g

@@ -1,5 +1,7 @@
 -- A group of parts that asks for all of them, or for any: what the functions of `group` say.
-use Rattle.std.specs.Prelude.{◌≡◌, Bool, true, false, List, ℕ, ◌*◌, ◌≤◌}
+use Rattle.std.specs.Prelude.{◌≡◌, Bool, true, false, List, ℕ, ◌*◌, ◌≤◌, Ok}
+use Rattle.std.specs.declared.ops.ControlFlow.{ControlFlow}
+use Rattle.std.specs.declared.ops.ControlFlow.TheVariants.{Continue, Break}
 use Rattle.definition.specs.declared.answers.Answer.{Answer}
 use Rattle.definition.specs.declared.answers.Answer.TheVariants.{No, Yes}
 use Rattle.definition.specs.Answers.{combine, same_answer}
@@ -12,12 +14,9 @@ use Rattle.book.specs.declared.code.Op.{Op}
 use Rattle.book.specs.declared.code.Op.TheVariants.{All, Any}
 use Rattle.book.specs.Codes.{op_of}
 use Rattle.layout.specs.Work.{graph_of}
-use Rattle.evaluation.specs.declared.Outcome.{Outcome}
-use Rattle.evaluation.specs.declared.Outcome.TheVariants.{Done}
-use Rattle.evaluation.specs.Outcomes.{outcome_of, IsDone, FewEntries}
+use Rattle.evaluation.specs.declared.Done.{Done}
+use Rattle.evaluation.specs.Outcomes.{Outcome, outcome_of, IsDone, FewEntries}
 use Rattle.delegate.specs.declared.group.Group.{Group}
-use Rattle.delegate.specs.declared.group.Weighed.{Weighed}
-use Rattle.delegate.specs.declared.group.Weighed.TheVariants.{Ended, More}
 
 -- the answer of a part that decides the group
 abbrev pub deciding : Op → Answer
@@ -52,34 +51,35 @@ pub record GroupStarted (op : Op) (entries : ℕ) (group : Group) : Type 0 where
   pub count : group.entries ≡ entries
 
 -- ---- `weigh`, with `height` frames on the stack of the graph that the bytes hold
+abbrev pub Weighed : Type 0
+Weighed = ControlFlow Outcome Group
 
 -- what is left to do after a part
 unfoldable pub left_of : Evaluator → ℕ → ℕ → ℕ → Parts → List ℕ → List ℕ → Weighed → graph.Outcome
-left_of evaluate goals root height ps bytes cache (Ended o) = outcome_of goals root height bytes cache o
-left_of evaluate goals root height ps bytes cache (More group) =
+left_of evaluate goals root height ps bytes cache (Break o) = outcome_of goals root height bytes cache o
+left_of evaluate goals root height ps bytes cache (Continue group) =
     rest evaluate goals group ps (graph_of goals root height group.entries bytes cache)
 
 -- no more provisional entries than the graph has room for
 abbrev pub FewLeft : ℕ → Weighed → Type 0
-FewLeft goals (Ended o) = FewEntries goals o
-FewLeft goals (More group) = group.entries ≤ 2 * goals
+FewLeft goals (Break o) = FewEntries goals o
+FewLeft goals (Continue group) = group.entries ≤ 2 * goals
 
 pub record GroupWeighed (o : Outcome) (group : Group) (r : Weighed) : Type 0 where
   pub whole : (evaluate : Evaluator) (goals root height : ℕ) (ps : Parts) (bytes cache : List ℕ)
       → left_of evaluate goals root height ps bytes cache r
       ≡ and_then (outcome_of goals root height bytes cache o) (next evaluate goals group ps)
   pub few : (goals : ℕ) → FewEntries goals o → FewLeft goals r
-  pub answered : (next-group : Group) → r ≡ More next-group → IsDone o
+  pub answered : (next-group : Group) → r ≡ Continue next-group → IsDone o
 
 -- decided by an answer, or going on
 abbrev pub unless_decided : Bool → Op → Answer → Answer → Answer → ℕ → Weighed
-unless_decided true op combined by answer entries = Ended (Done by entries)
+unless_decided true op combined by answer entries = Break (Ok (record { answer = by; entries = entries }))
 unless_decided false op combined by answer entries =
-    More (record { op = op; combined = combine combined answer; entries = entries })
+    Continue (record { op = op; combined = combine combined answer; entries = entries })
 
 -- ---- `close`
-pub record GroupClosed (group : Group) (o : Outcome) : Type 0 where
-  pub whole : (evaluate : Evaluator) (goals root height : ℕ) (bytes cache : List ℕ)
-      → outcome_of goals root height bytes cache o
-      ≡ rest evaluate goals group part.End (graph_of goals root height group.entries bytes cache)
-  pub few : (goals : ℕ) → group.entries ≤ 2 * goals → FewEntries goals o
+pub record GroupClosed (group : Group) (done : Done) : Type 0 where
+  pub whole : (evaluate : Evaluator) (goals : ℕ) (g : Graph)
+      → graph.Done g done.answer ≡ rest evaluate goals group part.End g
+  pub count : done.entries ≡ group.entries

@@ -1,9 +1,10 @@
 -- A pick among candidates: what the functions of `pick` say, with `height` frames on the stack. The merged usages are
 -- those of the top frame.
-use Rattle.std.specs.Prelude.{◌≡◌, Bool, not, ◌&&◌, ◌||◌, List, ℕ, ◌+◌, ◌*◌, ◌-◌, ◌≤◌, ◌<◌}
+use Rattle.std.specs.Prelude.{◌≡◌, Bool, not, ◌&&◌, ◌||◌, List, ℕ, ◌+◌, ◌*◌, ◌-◌, ◌≤◌, ◌<◌, Result, Ok, Err}
 use Rattle.std.proofs.Math.Option.{Option, none}
 use Rattle.definition.specs.declared.answers.Answer.{Answer}
 use Rattle.definition.specs.declared.answers.Answer.TheVariants.{Yes}
+use Rattle.definition.specs.declared.replies.Refusal.{Refusal}
 use Rattle.definition.specs.declared.usages.HeadUsages.{HeadUsages}
 use Rattle.definition.specs.Answers.{combine, same_answer}
 use Rattle.definition.specs.Part.{Parts, Node}
@@ -14,13 +15,10 @@ use Rattle.definition.specs.Candidates.{set_candidate_usages, candidate_usages_o
 use Rattle.definition.specs.Candidates.{enter_single_candidate, finish_single_candidate}
 use Rattle.definition.specs.Evaluate.{Evaluator, merge_unless, end_pick, eval_part, eval_pick}
 use Rattle.layout.specs.Work.{entries_of, merged_of, graph_of}
-use Rattle.evaluation.specs.declared.Outcome.{Outcome}
 use Rattle.evaluation.specs.Workspace.{graph_in, stack_in}
-use Rattle.evaluation.specs.Outcomes.{outcome_of, IsDone, FewEntries}
+use Rattle.evaluation.specs.Outcomes.{Outcome, outcome_of, IsDone, FewEntries}
 use Rattle.candidates.specs.Written.{MergedWritten}
 use Rattle.delegate.specs.declared.pick.Pick.{Pick}
-use Rattle.delegate.specs.declared.pick.Tried.{Tried}
-use Rattle.delegate.specs.declared.pick.Tried.TheVariants.{Ended, More}
 
 -- the graph that a workspace holds
 abbrev pub graph_at : ℕ → ℕ → ℕ → ℕ → List ℕ → List ℕ → Graph
@@ -63,26 +61,27 @@ pub record CandidateEntered (goals height : ℕ) (old new : List ℕ) : Type 0 w
 -- ---- `finish_candidate`
 
 -- what is left to do after a candidate
-unfoldable pub left_of : Evaluator → ℕ → ℕ → ℕ → Parts → List ℕ → List ℕ → Tried → graph.Outcome
-left_of evaluate goals root height ps work cache (Ended o) = outcome_of goals root height (graph_in goals work) cache o
-left_of evaluate goals root height ps work cache (More pick) =
+unfoldable pub left_of : Evaluator → ℕ → ℕ → ℕ → Parts → List ℕ → List ℕ → Result Pick Refusal → graph.Outcome
+left_of evaluate goals root height ps work cache (Ok pick) =
     rest evaluate goals pick ps (merged_of goals (height - 1) work)
     (graph_at goals root height pick.entries work cache)
+left_of evaluate goals root height ps work cache (Err r) = graph.Stopped r
 
 -- no more provisional entries than the graph has room for
-abbrev pub FewLeft : ℕ → Tried → Type 0
-FewLeft goals (Ended o) = FewEntries goals o
-FewLeft goals (More pick) = pick.entries ≤ 2 * goals
+abbrev pub FewLeft : ℕ → Result Pick Refusal → Type 0
+FewLeft goals (Ok pick) = pick.entries ≤ 2 * goals
+FewLeft goals (Err r) = Unit {0}
 
-pub record CandidateFinished (goals height : ℕ) (o : Outcome) (pick : Pick) (old new : List ℕ) (r : Tried) : Type 0 where
+pub record CandidateFinished (goals height : ℕ) (o : Outcome) (pick : Pick) (old new : List ℕ)
+    (r : Result Pick Refusal) : Type 0 where
   pub whole : (evaluate : Evaluator) (ps : Parts) (root : ℕ) (cache : List ℕ)
       → left_of evaluate goals root height ps new cache r
       ≡ and_then (outcome_of goals root height (graph_in goals old) cache o)
       (next evaluate goals pick ps (merged_of goals (height - 1) old))
   pub few : FewLeft goals r
   pub kept : KeptBelow goals (height - 1) old new
-  pub answered : (next_pick : Pick) → r ≡ More next_pick → IsDone o
-  pub stack : (next_pick : Pick) → r ≡ More next_pick
+  pub answered : (next_pick : Pick) → r ≡ Ok next_pick → IsDone o
+  pub stack : (next_pick : Pick) → r ≡ Ok next_pick
       → stack_in goals height new ≡ set_candidate_usages none (stack_in goals height old)
 
 -- ---- `end`
@@ -109,12 +108,3 @@ tracked_in goals own work = candidate_usages_of goals (stack_in goals (own + 1) 
 abbrev pub MergedUnless : Bool → ℕ → ℕ → List ℕ → List ℕ → Type 0
 MergedUnless first goals own old new =
     MergedWritten goals own (merge_unless first (merged_of goals own old) (tracked_in goals own old)) old new
-
--- `r` is the pick after a candidate's answer
-pub record Counted (goals own : ℕ) (answer : Answer) (entries : ℕ) (pick : Pick) (old new : List ℕ) (r : Pick) : Type 0 where
-  pub whole : (evaluate : Evaluator) (ps : Parts) (root n : ℕ) (cache : List ℕ)
-      → rest evaluate goals r ps (merged_of goals own new) (graph_at goals root (own + 1) n new cache)
-      ≡ next evaluate goals pick ps (merged_of goals own old) (graph_at goals root (own + 1) n old cache) answer
-  pub count : r.entries ≡ entries
-  pub kept : KeptBelow goals own old new
-  pub stack : stack_in goals (own + 1) new ≡ set_candidate_usages none (stack_in goals (own + 1) old)

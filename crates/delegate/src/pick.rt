@@ -1,34 +1,24 @@
 // A pick among candidates. The usages of all but the first Yes are merged in the workspace,
 // behind the graph, at the place of the top frame, which has index `height - 1`.
-ghost use Rattle.std.specs.Prelude.{◌≡◌, not, ◌&&◌, ◌*◌, ◌≤◌, ◌<◌};
+ghost use Rattle.std.specs.Prelude.{◌*◌, ◌≤◌, ◌<◌};
 ghost use Rattle.std.proofs.Math.Option.{none};
-ghost use Rattle.definition.specs.declared.answers.Answer.TheVariants.{Yes};
-ghost use Rattle.definition.specs.Answers.{same_answer};
 ghost use Rattle.evaluation.specs.Workspace.{WorkBytes};
 ghost use Rattle.evaluation.specs.Outcomes.{FewEntries};
 ghost use Rattle.delegate.specs.Picks.{PickBegun, CandidateEntered, CandidateFinished, PickEnded};
-ghost use Rattle.delegate.specs.Picks.{Tracked, MergedUnless, Counted};
+ghost use Rattle.delegate.specs.Picks.{Tracked, MergedUnless};
 
-use buffer::scalars;
 use definition::answers::Answer;
 use definition::replies::Refusal;
-use evaluation::Outcome;
+use evaluation::{Done, Outcome};
 use layout::offsets;
 
 // A pick so far: whether a Yes was met, the answers combined, and how many provisional
-// entries there are.
-#[derive(Clone, Copy)]
+// entries there are. (`met` makes no Option of `combined`, which counts without a Yes.)
+#[derive(Debug, Clone, Copy)]
 pub struct Pick {
     pub met: bool,
     pub combined: Answer,
     pub entries: usize,
-}
-
-// After a candidate: the outcome of the pick, or the pick for its next candidate.
-#[derive(Clone, Copy)]
-pub enum Tried {
-    Ended(Outcome),
-    More(Pick),
 }
 
 // Before the first candidate: nothing is merged.
@@ -62,16 +52,6 @@ fn untrack(work: &mut [u8], goals: usize, own: usize)
     candidates::finish_single_candidate(&mut work[0..n], goals, own);
 }
 
-// Whether an answer is the first Yes.
-fn is_first_yes(met: bool, answer: Answer) -> bool
-    ensures { result ≡ (not met && same_answer answer Yes) }
-{
-    if met {
-        return false;
-    }
-    answer.same(Answer::Yes)
-}
-
 // The usages of a candidate are merged, unless it is the first Yes.
 fn merge_unless(first: bool, work: &mut [u8], goals: usize, own: usize)
     requires { WorkBytes goals work.old × (own < goals) }
@@ -83,45 +63,28 @@ fn merge_unless(first: bool, work: &mut [u8], goals: usize, own: usize)
     candidates::merge(work, goals, own);
 }
 
-// After a candidate that came to an answer; the top frame has index `own`.
-fn count(
-    answer: Answer,
-    entries: usize,
-    pick: Pick,
-    work: &mut [u8],
-    goals: usize,
-    own: usize,
-) -> Pick
-    requires { WorkBytes goals work.old × (own < goals) }
-    ensures { Counted goals own answer entries pick work.old work.new result }
-{
-    let combined = pick.combined;
-    merge_unless(is_first_yes(pick.met, answer), work, goals, own);
-    untrack(work, goals, own);
-    Pick {
-        met: scalars::either(pick.met, answer.same(Answer::Yes)),
-        combined: combined.combine(answer),
-        entries,
-    }
-}
-
-// After each candidate.
+// After each candidate. A refusal of the candidate is the pick's, and leaves the workspace as it is.
 pub fn finish_candidate(
     o: Outcome,
     pick: Pick,
     work: &mut [u8],
     goals: usize,
     height: usize,
-) -> Tried
+) -> Result<Pick, Refusal>
     requires { WorkBytes goals work.old × ((1 ≤ height) × ((height ≤ goals) × FewEntries goals o)) }
     ensures { CandidateFinished goals height o pick work.old work.new result }
 {
-    match o {
-        Outcome::Stopped(r) => Tried::Ended(Outcome::Stopped(r)),
-        Outcome::Done(answer, entries) => {
-            Tried::More(count(answer, entries, pick, work, goals, height - 1))
-        }
-    }
+    let done = o?;
+    let own = height - 1;
+    let yes = done.answer == Answer::Yes;
+    merge_unless(!pick.met & yes, work, goals, own);
+    untrack(work, goals, own);
+    let combined = pick.combined;
+    Ok(Pick {
+        met: pick.met | yes,
+        combined: combined.combine(done.answer),
+        entries: done.entries,
+    })
 }
 
 // After all candidates. Where a Yes was met, what the other candidates used counts no more.
@@ -130,14 +93,20 @@ pub fn end(pick: Pick, work: &mut [u8], goals: usize, height: usize) -> Outcome
     requires entries_bound { pick.entries ≤ 2 * goals }
     ensures { PickEnded goals height pick work.old work.new result }
 {
+    let entries = pick.entries;
     if !pick.met {
-        let combined = pick.combined;
-        return Outcome::Done(combined, pick.entries);
+        return Ok(Done {
+            answer: pick.combined,
+            entries,
+        });
     }
     let own = height - 1;
     if !candidates::can_ignore(work, goals, own) {
-        return Outcome::Stopped(Refusal::Unreachable);
+        return Err(Refusal::Unreachable);
     }
     candidates::ignore(work, goals, own);
-    Outcome::Done(Answer::Yes, pick.entries)
+    Ok(Done {
+        answer: Answer::Yes,
+        entries,
+    })
 }

@@ -4,48 +4,22 @@ use mathlib.Core.Bool.{Bool, true, false, So, ◌&&◌, ◌||◌, and-false}
 use mathlib.Core.List.{List, [], ◌∷◌}
 use Prim.Native.Nat.{ℕ, zero, suc, ◌+◌, ◌*◌, ◌-◌, ◌^◌, ◌≤◌, ◌<◌}
 use native.Mathlib.Nat.{add-mul}
-use native.Mathlib.Decide.{ℕ_discrete, dec_le}
+use native.Mathlib.Decide.{ℕ_discrete}
 use native.Mathlib.Numerals.{add-one}
 use native.Mathlib.Omega.{arith}
-use borrow.Author.Tests.{le-leb, lt-leb, eq-eqb, ne_eqb}
-use lib.Dec.{leb, eqb, eqb-suc-suc}
+use borrow.Author.Tests.{lt-leb, ne_eqb}
+use lib.Dec.{leb, eqb}
 use lib.ListN.{length, get_or, take, drop}
-use Rattle.buffer.specs.Numbers.{number_of}
 use Rattle.buffer.specs.Regions.{region, all_zero}
 use Rattle.buffer.proofs.Regions.{region_region}
 use Rattle.buffer.proofs.Tables.{apart}
-use Rattle.buffer.proofs.Zeros.{zero_split, zero_region, number_tells}
+use Rattle.buffer.proofs.Zeros.{zero_split, zero_region}
 use Rattle.definition.specs.declared.format.Header.{Header}
-use Rattle.definition.specs.CacheForm.{all_at_most, depth_fits, most_passes, passes_fit, slot_fits, slots_fit, goals_fit}
+use Rattle.definition.specs.CacheForm.{all_at_most, depth_fits, passes_fit, slot_fits, slots_fit, goals_fit}
 use Rattle.definition.specs.GlobalCache.{slot_size, slots_per_goal, slot_start, slot_at}
 use Rattle.definition.proofs.Lists.{part_from_lem}
 use Rattle.global_cache.specs.Cache.{overflow_slots}
-
--- the depth of an overflow slot
-pub own_depth : (h : Header) (slot depth : ℕ) → (slot ≡ 0 → ⊥) → eqb (depth + 1) slot ≡ depth_fits h slot depth
-own_depth h zero depth e = absurd (e refl)
-own_depth h (suc k) depth e = ap (λ (n : ℕ). eqb n (suc k)) (add-one depth) ∙ eqb-suc-suc depth k
-
-pub any_depth : (h : Header) (slot depth : ℕ) → slot ≡ 0 → leb depth h.top ≡ depth_fits h slot depth
-any_depth h slot depth e = ap (λ (k : ℕ). depth_fits h k depth) (sym e)
-
--- ---- `passes_fit`
-pub no_pass : (h : Header) (n : ℕ) → n ≡ 0 → false ≡ passes_fit h n
-no_pass h n e = sym (ap (λ (t : Bool). t && leb n (most_passes h)) (lt-leb 1 n (omega arith)))
-
-some_passes : (h : Header) (n : ℕ) → 1 ≤ n → leb n (most_passes h) ≡ passes_fit h n
-some_passes h n e = sym (ap (λ (t : Bool). t && leb n (most_passes h)) (le-leb 1 n e))
-
-pub one_pass : (h : Header) (n : ℕ) → n ≡ 1 → true ≡ passes_fit h n
-one_pass h n e = sym (le-leb n (most_passes h) (omega arith)) ∙ some_passes h n (omega arith)
-
--- more than one: the limit decides
-pub more_passes : (h : Header) (n : ℕ) → (n ≡ 0 → ⊥) → (n ≡ 1 → ⊥) → leb n h.limit ≡ passes_fit h n
-more_passes h n e f = by (dec_le n h.limit) ∙ some_passes h n (omega arith)
-  where
-    by : Dec (n ≤ h.limit) → leb n h.limit ≡ leb n (most_passes h)
-    by (yes l) = le-leb n h.limit l ∙ sym (le-leb n (most_passes h) (omega arith))
-    by (no l) = lt-leb n h.limit (omega arith) ∙ sym (lt-leb n (most_passes h) (omega arith))
+use Rattle.global_cache.proofs.Slots.{slot_room}
 
 -- ---- bytes that are all zeros
 none_below : (n : ℕ) → eqb n 0 ≡ leb n 0
@@ -55,30 +29,6 @@ none_below (suc n) = ne_eqb (suc n) 0 (λ e. omega arith) ∙ sym (lt-leb (suc n
 at_most_zero : (s : List ℕ) → all_at_most 0 s ≡ all_zero s
 at_most_zero [] = refl
 at_most_zero (x ∷ xs) = ap₂ ◌&&◌ (sym (none_below x)) (at_most_zero xs)
-
--- ---- `is_vacant`
-
--- the first four bytes as one number, in two pairs
-module _ (s : List ℕ) (room : 4 ≤ length s) (low high : ℕ) (is-low : low ≡ get_or s 0 0 + 256 * get_or s 1 0)
-    (is-high : high ≡ get_or s 2 0 + 256 * get_or s 3 0) where
-  four : (s : List ℕ) → 4 ≤ length s
-      → get_or s 0 0 + 256 * get_or s 1 0 + 65536 * (get_or s 2 0 + 256 * get_or s 3 0) ≡ number_of (take 4 s)
-  four [] h = absurd (omega arith)
-  four (a ∷ []) h = absurd (omega arith)
-  four (a ∷ b ∷ []) h = absurd (omega arith)
-  four (a ∷ b ∷ c ∷ []) h = absurd (omega arith)
-  four (a ∷ b ∷ c ∷ d ∷ s) h = omega arith
-
-  fields_tell : all_at_most 0 (take 4 s) ≡ eqb (low + 65536 * high) 0
-  fields_tell =
-      let e : low + 65536 * high ≡ number_of (take 4 s) = omega (arith, four s room) in
-      at_most_zero (take 4 s) ∙ sym (ap (λ (n : ℕ). eqb n 0) e ∙ number_tells (take 4 s))
-
-  pub some_field : (low + 65536 * high ≡ 0 → ⊥) → (n : ℕ) → false ≡ (all_at_most 0 (take 4 s) && eqb n 0)
-  some_field ne n = sym (ap (λ (t : Bool). t && eqb n 0) (fields_tell ∙ ne_eqb (low + 65536 * high) 0 ne))
-
-  pub no_field : low + 65536 * high ≡ 0 → (n : ℕ) → eqb n 0 ≡ (all_at_most 0 (take 4 s) && eqb n 0)
-  no_field e n = sym (ap (λ (t : Bool). t && eqb n 0) (fields_tell ∙ eq-eqb (low + 65536 * high) 0 e))
 
 -- ---- `slot_fits`
 abbrev or_held : Header → ℕ → List ℕ → Bool → Bool
@@ -107,35 +57,10 @@ module _ (h : Header) (k : ℕ) (s : List ℕ) (n : ℕ) (tells : (j : ℕ) → 
   pub vacant : zeros ≡ true → true ≡ slot_fits h k s
   vacant e = zeros_fit h k s (all_zeros ∙ e)
 
-  module _ (some : zeros ≡ false) where
-    held : (eqb (get_or s 0 0) 1 && leb (get_or s 1 0) 3 && depth && passes && leb n 31) ≡ slot_fits h k s
-    held =
-        ap (λ (t : Bool). eqb (get_or s 0 0) 1 && leb (get_or s 1 0) 3 && depth && passes && t) (tells 5)
-        ∙ sym (ap (or_held h k s) (all_zeros ∙ some))
-
-    pub not_held : (get_or s 0 0 ≡ 1 → ⊥) → false ≡ slot_fits h k s
-    not_held e = sym (ap (λ (t : Bool). t && leb (get_or s 1 0) 3 && depth && passes && leb n 31) (ne_eqb (get_or s 0 0) 1 e)) ∙ held
-
-    module _ (one : get_or s 0 0 ≡ 1) where
-      is_held : (leb (get_or s 1 0) 3 && depth && passes && leb n 31) ≡ slot_fits h k s
-      is_held = sym (ap (λ (t : Bool). t && leb (get_or s 1 0) 3 && depth && passes && leb n 31) (eq-eqb (get_or s 0 0) 1 one)) ∙ held
-
-      pub no_result : 3 < get_or s 1 0 → false ≡ slot_fits h k s
-      no_result e = sym (ap (λ (t : Bool). t && depth && passes && leb n 31) (lt-leb (get_or s 1 0) 3 e)) ∙ is_held
-
-      pub has_answer : get_or s 1 0 ≤ 3 → (depth && passes && leb n 31) ≡ slot_fits h k s
-      has_answer e = sym (ap (λ (t : Bool). t && depth && passes && leb n 31) (le-leb (get_or s 1 0) 3 e)) ∙ is_held
-
--- the three tests that are left
-module _ (p q r x : Bool) (all : (p && q && r) ≡ x) where
-  pub first_fails : p ≡ false → false ≡ x
-  first_fails e = sym (ap (λ (t : Bool). t && q && r) e) ∙ all
-
-  pub second_fails : p ≡ true → q ≡ false → false ≡ x
-  second_fails e f = sym (λ i. e i && f i && r) ∙ all
-
-  pub third_decides : p ≡ true → q ≡ true → r ≡ x
-  third_decides e f = sym (λ i. e i && f i && r) ∙ all
+  pub held : zeros ≡ false → (eqb (get_or s 0 0) 1 && leb (get_or s 1 0) 3 && depth && passes && leb n 31) ≡ slot_fits h k s
+  held some =
+      ap (λ (t : Bool). eqb (get_or s 0 0) 1 && leb (get_or s 1 0) 3 && depth && passes && t) (tells 5)
+      ∙ sym (ap (or_held h k s) (all_zeros ∙ some))
 
 -- the flags of the part `[4..]`
 pub part_tells : (s : List ℕ) (n : ℕ) → ((j : ℕ) → leb n (2 ^ j - 1) ≡ all_at_most (2 ^ j - 1) (take (length s - 4) (drop 4 s)))
@@ -200,3 +125,7 @@ module _ (h : Header) (cache : List ℕ) (goal : ℕ) (t : Bool) (told : t ≡ s
 
   pub goals_more : true ≡ goals_fit h cache goal → t ≡ true → true ≡ goals_fit h cache (goal + 1)
   goals_more a e = all_more (λ k. slots_fit h cache k (slots_per_goal h)) (goals_fit h cache) (λ k. refl) goal a (sym told ∙ e)
+
+pub ruleset by_slot = (slots_fail, slots_more, slots_vacant, slot_room)
+
+pub ruleset by_goal = (goals_fail, goals_more)

@@ -1,6 +1,6 @@
 -- How many slots and bytes there are.
 use Prim.Native.Nat.{ℕ, ◌+◌, ◌*◌, ◌≤◌, ◌<◌}
-use native.Mathlib.Nat.{add-mul, mul-le-mul, mul-le-mul_right}
+use native.Mathlib.Nat.{mul-le-mul}
 use native.Mathlib.Omega.{arith}
 use Rattle.buffer.proofs.Tables.{apart}
 
@@ -22,9 +22,3 @@ place_in goals top place h = apart place (goals * (top + 2)) (goals + 4) h
 -- a goal's slots are among all
 pub goal_in : (goals top goal : ℕ) → goal < goals → goal * (top + 2) + (top + 2) ≤ goals * (top + 2)
 goal_in goals top goal h = apart goal goals (top + 2) h
-
--- and so are those behind its first
-pub row_in : (goals top goal : ℕ) → goal < goals → (goal * (top + 2) + 1) * (goals + 4) + (top + 1) * (goals + 4) ≤ goals * (top + 2) * (goals + 4)
-row_in goals top goal h =
-    let among : goal * (top + 2) + 1 + (top + 1) ≤ goals * (top + 2) = omega (arith, goal_in goals top goal h) in
-    omega (arith, add-mul (goal * (top + 2) + 1) (top + 1) (goals + 4), mul-le-mul_right (goals + 4) among)

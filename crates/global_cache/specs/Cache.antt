@@ -1,5 +1,5 @@
 -- What the contracts say of a cache with the definition's functions. These use only a header's number of goals and its top depth.
-use Rattle.std.specs.Prelude.{ℕ, ◌+◌, ◌*◌, ◌≤◌, ◌≡◌, Bool, false, List, [], length}
+use Rattle.std.specs.Prelude.{ℕ, ◌+◌, ◌*◌, ◌≤◌, ◌≡◌, Bool, false, List, [], length, Result, Ok, Err}
 use Rattle.std.proofs.Math.Option.{Option, none, some}
 use Rattle.buffer.specs.Regions.{region}
 use Rattle.definition.specs.declared.answers.Answer.{Answer}
@@ -8,8 +8,7 @@ use Rattle.definition.specs.Nested.{NestedGoals}
 use Rattle.definition.specs.Graph.{EvaluationResult}
 use Rattle.definition.specs.GlobalCache.{slot_size, slot_start}
 use Rattle.definition.specs.CacheForm.{cache_length}
-use Rattle.global_cache.specs.declared.Insertion.{Insertion}
-use Rattle.global_cache.specs.declared.Insertion.TheVariants.{Kept, Conflict}
+use Rattle.global_cache.specs.declared.Conflict.{Conflict}
 
 -- a header with these; its other fields say nothing
 abbrev pub header_with : ℕ → ℕ → Header
@@ -43,6 +42,6 @@ evaluated overflow required nested result passes =
     }
 
 -- what `insert` leaves: the cache, or nothing after a conflict
-abbrev pub inserted : Insertion → List ℕ → Option (List ℕ)
-inserted Kept cache = some cache
-inserted Conflict cache = none
+abbrev pub inserted : Result (Unit {0}) Conflict → List ℕ → Option (List ℕ)
+inserted (Ok kept) cache = some cache
+inserted (Err conflict) cache = none

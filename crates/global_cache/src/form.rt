@@ -1,9 +1,8 @@
 // The form of a cache's bytes.
-ghost use Rattle.std.specs.Prelude.{◌≡◌, ◌&&◌, ◌+◌, ◌≤◌, ◌<◌, eqb, length, take};
+ghost use Rattle.std.specs.Prelude.{◌≡◌, ◌&&◌, ◌+◌, ◌≤◌, ◌<◌, eqb, leb, get_or, length, take};
 ghost use Rattle.definition.specs.CacheForm.{all_at_most, depth_fits, passes_fit, slot_fits, slots_fit, cache_fits};
 ghost use Rattle.global_cache.specs.Cache.{CacheBytes};
 
-use buffer::scalars;
 use definition::format::Header;
 use layout::nested;
 
@@ -23,13 +22,7 @@ fn depth_fits(h: Header, slot: usize, depth: usize) -> bool
 fn passes_fit(h: Header, passes: usize) -> bool
     ensures { result ≡ passes_fit h passes }
 {
-    if passes == 0 {
-        return false;
-    }
-    if passes == 1 {
-        return true;
-    }
-    passes <= h.limit
+    1 <= passes && passes <= h.limit.max(1)
 }
 
 // Whether a slot is all zeros; `paths` are those to all nested goals together. The first
@@ -40,10 +33,21 @@ fn is_vacant(s: &[u8], paths: u8) -> bool
 {
     let low = buffer::load_pair(s, 0);
     let high = buffer::load_pair(s, 2);
-    if low + 65536 * high != 0 {
-        return false;
-    }
-    paths == 0
+    low + 65536 * high == 0 && paths == 0
+}
+
+// Whether a slot is held and in form; `paths` as above.
+fn held_fits(s: &[u8], h: Header, slot: usize, paths: u8) -> bool
+    requires { 4 ≤ length s.now }
+    ensures { result
+        ≡ (eqb (get_or s.now 0 0) 1 && leb (get_or s.now 1 0) 3 && depth_fits h slot (get_or s.now 2 0)
+        && passes_fit h (get_or s.now 3 0) && leb paths 31) }
+{
+    s[0] == 1
+        && s[1] <= 3
+        && depth_fits(h, slot, usize::from(s[2]))
+        && passes_fit(h, usize::from(s[3]))
+        && paths <= 31
 }
 
 // Whether a slot is vacant, or held and in form. Its bytes are all read before the first
@@ -53,25 +57,11 @@ fn slot_fits(s: &[u8], h: Header, slot: usize) -> bool
     ensures { result ≡ slot_fits h slot s.now }
 {
     let paths = nested::all_paths(&s[crate::slot::FIELDS..]);
-    if is_vacant(s, paths) {
-        return true;
-    }
-    if s[0] != 1 {
-        return false;
-    }
-    if 3 < s[1] {
-        return false;
-    }
-    if !depth_fits(h, slot, scalars::wide(s[2])) {
-        return false;
-    }
-    if !passes_fit(h, scalars::wide(s[3])) {
-        return false;
-    }
-    paths <= 31
+    is_vacant(s, paths) || held_fits(s, h, slot, paths)
 }
 
 // Whether the slots of a goal fit.
+#[tactic(auto, using(crate::proofs::Fits::by_slot))]
 fn slots_fit(cache: &[u8], h: Header, goal: usize) -> bool
     requires { CacheBytes h.goals h.top cache.now × (goal < h.goals) }
     ensures { result ≡ slots_fit h cache.now goal (h.top + 2) }
@@ -85,28 +75,25 @@ fn slots_fit(cache: &[u8], h: Header, goal: usize) -> bool
     if buffer::all_zero(row) {
         return true;
     }
-    let mut slot: usize = 1;
-    while slot < h.top + 2 {
+    for slot in 1..h.top + 2 {
         let s = crate::slot_at(cache, h.goals, h.top, goal, slot);
         if !slot_fits(s, h, slot) {
             return false;
         }
-        slot = slot + 1;
     }
     true
 }
 
 // Whether every slot of a cache of the right length is in form.
+#[tactic(auto, using(crate::proofs::Fits::by_goal))]
 pub fn cache_fits(cache: &[u8], h: Header) -> bool
     requires { CacheBytes h.goals h.top cache.now }
     ensures { result ≡ cache_fits h cache.now }
 {
-    let mut goal: usize = 0;
-    while goal < h.goals {
+    for goal in 0..h.goals {
         if !slots_fit(cache, h, goal) {
             return false;
         }
-        goal = goal + 1;
     }
     true
 }

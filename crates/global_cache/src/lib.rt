@@ -2,22 +2,29 @@
 // success slot, then an overflow slot for each required depth 0 to T.
 #![tactic(auto)]
 
-ghost use Rattle.std.specs.Prelude.{◌≡◌, List, ℕ, ◌+◌, ◌*◌, ◌≤◌, ◌<◌, length};
+ghost use Rattle.std.specs.Prelude.{◌≡◌, List, ℕ, ◌+◌, ◌*◌, ◌≤◌, ◌<◌, length, OnErr};
 ghost use Rattle.definition.specs.declared.answers.Answer.{Answer};
+ghost use Rattle.definition.specs.declared.replies.Refusal.TheVariants.{CacheConflict};
 ghost use Rattle.definition.specs.GlobalCache.{slot_at, slot_for, cache_insert};
 ghost use Rattle.definition.specs.CacheForm.{cache_length};
 ghost use Rattle.global_cache.specs.Cache.{header_with, Sizes, CacheBytes, overflow_slots, evaluated, inserted};
 
 use definition::answers::Answer;
+use definition::replies::Refusal;
 
 pub mod form;
 pub mod slot;
 
-#[derive(Clone, Copy)]
-pub enum Insertion {
-    Kept,
-    // the slot holds a different result
-    Conflict,
+// The slot that a result belongs to holds a different one.
+#[derive(Debug, Clone, Copy, PartialEq, Eq)]
+pub struct Conflict;
+
+impl From<Conflict> for Refusal {
+    ghost from_gives = { λ _ refusal. refusal ≡ CacheConflict };
+
+    fn from(_conflict: Conflict) -> Refusal {
+        Refusal::CacheConflict
+    }
 }
 
 pub fn cache_length(goals: usize, top: usize) -> usize
@@ -34,6 +41,9 @@ fn start_of(goals: usize, top: usize, place: usize) -> usize
 {
     place * (goals + slot::FIELDS)
 }
+
+// The bytes stay the caller's, with the header's two sizes beside them: a struct of the three would
+// be made anew at each call, once lent to read and once to write, and say no more.
 
 // A goal's slot; nothing where it would lie past the end.
 pub fn slot_at(cache: &[u8], goals: usize, top: usize, goal: usize, slot: usize) -> &[u8]
@@ -73,6 +83,7 @@ fn slot_for(overflow: bool, required: usize) -> usize
 }
 
 // GlobalCache::insert; an equal result replaces the entry.
+// What is inserted stands in arguments of its own: a struct of them would be made for one call.
 pub fn insert(
     cache: &mut [u8],
     goals: usize,
@@ -83,21 +94,21 @@ pub fn insert(
     res: Answer,
     passes: usize,
     nested: &[u8],
-) -> Insertion
+) -> Result<(), Conflict>
     requires { CacheBytes goals top cache.old × (goal < goals) × (required ≤ top)
         × (passes < 256) × (length nested.now ≡ goals) }
     ensures passes_value { cache_insert (header_with goals top) cache.old goal
         (evaluated overflow required nested.now res passes) ≡ inserted result cache.new }
-    ensures unchanged { result ≡ Insertion.Conflict → cache.new ≡ cache.old }
+    ensures unchanged { OnErr result (cache.new ≡ cache.old) }
 {
     let slot = slot_for(overflow, required);
     let place = goal * (top + 2) + slot;
     let a = start_of(goals, top, place);
     let e = a + (goals + slot::FIELDS);
-    let n = res.number();
+    let n = u8::from(res);
     if slot::conflicts(&cache[a..e], n) {
-        return Insertion::Conflict;
+        return Err(Conflict);
     }
     slot::write(&mut cache[a..e], n, required as u8, passes as u8, nested);
-    Insertion::Kept
+    Ok(())
 }

@@ -1,9 +1,8 @@
 // A slot's bytes: held 0 or 1, result, required depth, how often the goal's part was run
 // for it, then the nested goals, a byte for each goal.
-ghost use Rattle.std.specs.Prelude.{◌≡◌, not, ◌&&◌, ◌∷◌, ◌++◌, ◌+◌, eqb, length, get_or, take};
+ghost use Rattle.std.specs.Prelude.{◌≡◌, not, ◌&&◌, ◌∷◌, ◌+◌, eqb, length, get_or};
 ghost use Rattle.definition.specs.GlobalCache.{slot_held, slot_result, slot_depth, slot_passes, slot_nested};
 
-use buffer::scalars;
 use definition::answers::Answer;
 
 // How many bytes stand before the nested goals.
@@ -15,16 +14,17 @@ pub fn is_held(slot: &[u8]) -> bool
     buffer::get(slot, 0) == 1
 }
 
+// (Each field is a byte that is read as another type, so that one function for all would say less.)
 pub fn result_of(slot: &[u8]) -> Answer
     ensures { result ≡ slot_result slot.now }
 {
-    Answer::from_number(buffer::get(slot, 1))
+    Answer::from(buffer::get(slot, 1))
 }
 
 pub fn depth_of(slot: &[u8]) -> usize
     ensures { result ≡ slot_depth slot.now }
 {
-    scalars::wide(buffer::get(slot, 2))
+    usize::from(buffer::get(slot, 2))
 }
 
 // How often the goal's part was run.
@@ -43,26 +43,11 @@ pub fn nested_of(slot: &[u8]) -> &[u8]
     &slot[FIELDS..]
 }
 
-// Whether the slot holds another result.
+// Whether the slot holds another result than `res`, which is a byte as the slot's is.
 pub fn conflicts(slot: &[u8], res: u8) -> bool
     ensures { result ≡ (slot_held slot.now && not (eqb (get_or slot.now 1 0) res)) }
 {
-    if is_held(slot) {
-        return buffer::get(slot, 1) != res;
-    }
-    false
-}
-
-// The nested goals, behind the slot's first bytes.
-fn write_nested(slot: &mut [u8], nested: &[u8])
-    requires { length slot.old ≡ 4 + length nested.now }
-    ensures { slot.new ≡ take 4 slot.old ++ nested.now }
-{
-    let mut i: usize = 0;
-    while i < nested.len() {
-        slot[FIELDS + i] = nested[i];
-        i = i + 1;
-    }
+    is_held(slot) && buffer::get(slot, 1) != res
 }
 
 // The bytes of a held slot.
@@ -70,9 +55,6 @@ pub fn write(slot: &mut [u8], res: u8, required: u8, passes: u8, nested: &[u8])
     requires { length slot.old ≡ 4 + length nested.now }
     ensures { slot.new ≡ 1 ∷ res ∷ required ∷ passes ∷ nested.now }
 {
-    slot[0] = 1;
-    slot[1] = res;
-    slot[2] = required;
-    slot[3] = passes;
-    write_nested(slot, nested);
+    slot[..FIELDS].copy_from_slice(&[1, res, required, passes]);
+    slot[FIELDS..].copy_from_slice(nested);
 }

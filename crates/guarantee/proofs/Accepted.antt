@@ -15,7 +15,7 @@ use Rattle.definition.specs.Reader.{Accepted, lines_of, read_book}
 use Rattle.definition.proofs.Tests.{and_left, and_right}
 use Rattle.book.specs.Lines.{lines_in}
 use Rattle.book.specs.Read.{IsAccepted, book_in}
-use Rattle.book.proofs.Books.{read_as_lem, length_fits, accepted_range}
+use Rattle.book.proofs.Books.{read_as_lem, accepted_range}
 use Rattle.soundness.specs.Groups.{StepLine, step_lines, StepsAreLines, calls_some, has_step, linked}
 use Rattle.soundness.proofs.Calls.{BookOk, calls_step, exactly, step_calls}
 use Rattle.soundness.proofs.Logic.{both, same_bool}
@@ -36,9 +36,6 @@ is_false x h = same_bool x false h (λ t. absurd t)
 module _ (b : Book) where
   pub accepted_lines : (bytes : List ℕ) → read_book bytes ≡ Accepted b → lines_of bytes ≡ some (lines_in bytes)
   accepted_lines bytes e = (read_as_lem b bytes e).lines
-
-  pub accepted_long : (bytes : List ℕ) → read_book bytes ≡ Accepted b → 16 ≤ length bytes
-  accepted_long bytes e = let f = length_fits (length bytes) (read_as_lem b bytes e).long in omega (arith, f.0)
 
 module _ (bytes : List ℕ) (is : IsAccepted bytes) where
   pub few_goals : (book_in bytes).header.goals ≤ 64

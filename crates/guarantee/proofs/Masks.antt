@@ -1,6 +1,6 @@
 -- Masks of goals: what they have in common, one goal more, and loops that add goals.
 use mathlib.Core.Path.{◌≡◌, refl, sym, ap, ◌∙◌}
-use mathlib.Core.Bool.{Bool, true, false, not, ◌&&◌, ◌||◌, or_assoc, or-false, or-true, and-true}
+use mathlib.Core.Bool.{Bool, true, false, not, ◌&&◌, ◌||◌, or_assoc, or-false, or-true, and-true, and-false}
 use mathlib.Core.List.{List, [], ◌∷◌}
 use Prim.Native.Nat.{ℕ, zero, suc, ◌+◌, ◌*◌, ◌/◌, ◌%◌, ◌^◌, ◌≤◌, ◌<◌}
 use native.Mathlib.Nat.{pow-suc}
@@ -97,14 +97,6 @@ mask_with m' m i h e k = ap (λ (xs : List Bool). get_or xs k false) e ∙ go (�
         get_or-set_other (flags 64 m) i k true false n
         ∙ sym (ap (λ (t : Bool). in_mask m k || (t && true)) (ne_eqb k i n) ∙ or-false (in_mask m k))
 
--- none more
-pub mask_still : (m i k : ℕ) → in_mask m k ≡ (in_mask m k || (eqb k i && false))
-mask_still m i k = sym (by (eqb k i) ∙ or-false (in_mask m k))
-  where
-    by : (t : Bool) → (in_mask m k || (t && false)) ≡ (in_mask m k || false)
-    by true = refl
-    by false = refl
-
 -- ---- a loop over the goals, which adds those that pass a test
 abbrev pub Upto : Goals → Goals → ℕ → ℕ → Type 0
 Upto start p i m = (k : ℕ) → in_mask m k ≡ (start k || (ltb k i && p k))
@@ -113,7 +105,7 @@ module _ (start p : Goals) where
   pub upto_none : (m : ℕ) → ((k : ℕ) → in_mask m k ≡ start k) → Upto start p 0 m
   upto_none m h k = h k ∙ sym (ap (λ (t : Bool). start k || (t && p k)) (le-ltb k 0 (omega arith)) ∙ or-false (start k))
 
-  pub upto_more : (m m' i : ℕ) (yes : Bool) → Upto start p i m → p i ≡ yes
+  upto_more : (m m' i : ℕ) (yes : Bool) → Upto start p i m → p i ≡ yes
       → ((k : ℕ) → in_mask m' k ≡ (in_mask m k || (eqb k i && yes))) → Upto start p (i + 1) m'
   upto_more m m' i t inv is step k = step k ∙ ap (λ (x : Bool). x || (eqb k i && t)) (inv k) ∙ go (ℕ_discrete k i)
     where
@@ -130,6 +122,14 @@ module _ (start p : Goals) where
           same : Dec (k < i) → ltb k i ≡ ltb k (i + 1)
           same (yes l) = lt-ltb k i l ∙ sym (lt-ltb k (i + 1) (omega arith))
           same (no l) = le-ltb k i (omega arith) ∙ sym (le-ltb k (i + 1) (omega arith))
+
+  pub upto_with : (m m' i : ℕ) → Upto start p i m → p i ≡ true → i < 64 → flags 64 m' ≡ set (flags 64 m) i true
+      → Upto start p (i + 1) m'
+  upto_with m m' i inv is l e = upto_more m m' i true inv is (mask_with m' m i l e)
+
+  pub upto_still : (m m' i : ℕ) → Upto start p i m → p i ≡ false → m' ≡ m → Upto start p (i + 1) m'
+  upto_still m m' i inv is e = upto_more m m' i false inv is λ k.
+      ap (λ (n : ℕ). in_mask n k) e ∙ sym (ap (λ (t : Bool). in_mask m k || t) (and-false (eqb k i)) ∙ or-false (in_mask m k))
 
   -- after the last
   pub upto_all : (m i : ℕ) → 64 ≤ i → Upto start p i m → (k : ℕ) → k < 64 → in_mask m k ≡ (start k || p k)

@@ -3,11 +3,10 @@ use mathlib.Core.Path.{◌≡◌, sym, ap, ap₂, ◌∙◌}
 use mathlib.Core.Bool.{Bool, false, ◌&&◌, ◌||◌}
 use mathlib.Core.List.{List}
 use Prim.Native.Nat.{ℕ, suc, ◌+◌, ◌-◌, ◌≤◌, ◌<◌}
-use native.Mathlib.Decide.{ℕ_discrete, dec_lt}
+use native.Mathlib.Decide.{dec_lt}
 use native.Mathlib.Omega.{arith}
 use lib.Dec.{eqb, ltb}
-use lib.ListN.{length, get_or, set, get_or-eq_default}
-use lib.Seq.{get_or-set_same, get_or-set_other}
+use lib.ListN.{length, get_or, get_or-eq_default}
 use borrow.Author.Tests.{ne_eqb, lt-ltb, le-ltb}
 use Rattle.definition.specs.Part.{Book}
 use Rattle.soundness.specs.Sets.{Goals, iter}
@@ -61,17 +60,6 @@ module _ (b : Book) (goal : ℕ) where
 -- ---- the masks of the goals below i
 abbrev pub ReachBelow : Book → ℕ → List ℕ → Type 0
 ReachBelow b i masks = (goal : ℕ) → goal < i → IsMask (λ from. reaches b from goal) (get_or masks goal 0)
-
-pub reach_more : (b : Book) (i m : ℕ) (masks : List ℕ) → i < length masks → ReachBelow b i masks
-    → IsMask (λ from. reaches b from i) m
-    → ReachBelow b (i + 1) (set masks i m)
-reach_more b i m masks l inv is goal h = go (ℕ_discrete goal i)
-  where
-    go : Dec (goal ≡ i) → IsMask (λ from. reaches b from goal) (get_or (set masks i m) goal 0)
-    go (yes z) k =
-        ap (λ (a : ℕ). in_mask a k) (ap (λ (j : ℕ). get_or (set masks i m) j 0) z ∙ get_or-set_same masks i m 0 l) ∙ is k
-        ∙ ap (reaches b k) (sym z)
-    go (no n) k = ap (λ (a : ℕ). in_mask a k) (get_or-set_other masks i goal m 0 n) ∙ inv goal (omega arith) k
 
 -- ---- a group
 abbrev pub nobody : Goals

@@ -1,20 +1,14 @@
--- What the engine's masks and lines mean.
-use Rattle.std.specs.Prelude.{◌≡◌, Bool, true, false, ◌&&◌, ◌||◌, List, [], ◌∷◌, ℕ, ◌<◌, eqb, ltb, length, get_or}
+-- What the engine's masks and steps mean.
+use Rattle.std.specs.Prelude.{◌≡◌, Bool, false, ◌&&◌, ◌||◌, List, [], ◌∷◌, ℕ, ◌*◌, ◌<◌, ltb, length, drop, get_or}
 use Rattle.std.proofs.Math.Option.{Option, none, some}
-use Rattle.definition.specs.declared.format.Line.{Line}
-use Rattle.definition.specs.Paths.{kind_of}
 use Rattle.definition.specs.Part.{Book}
 use Rattle.bits.specs.Masks.{flags, pairwise}
+use Rattle.book.specs.Lines.{lines_in}
 use Rattle.book.specs.Read.{IsAccepted, book_in}
 use Rattle.soundness.specs.Sets.{Goals}
-use Rattle.soundness.specs.Groups.{StepLine, calls_some, reaches, linked}
-use Rattle.guarantee.specs.declared.Conflict.{Conflict}
-use Rattle.guarantee.specs.declared.Verdict.{Verdict}
-use Rattle.guarantee.specs.declared.Verdict.TheVariants.{Given, Broken}
-use Rattle.guarantee.specs.declared.steps.Seen.{Seen}
-use Rattle.guarantee.specs.declared.steps.Found.{Found}
-use Rattle.guarantee.specs.declared.steps.Found.TheVariants.{At, Nothing}
-use Rattle.guarantee.specs.Guarantee.{conflict_with}
+use Rattle.soundness.specs.Groups.{StepLine, step_lines_from, calls_some, reaches, linked}
+use Rattle.guarantee.specs.declared.steps.Step.{Step}
+use Rattle.guarantee.specs.declared.steps.StepsLeft.{StepsLeft}
 
 -- ---- masks
 
@@ -53,39 +47,17 @@ pub record Ready (bytes reach : List ℕ) : Type 0 where
   pub places : length reach ≡ 64
   pub reached : ReachMasks (book_in bytes) reach
 
--- ---- lines
+-- ---- steps
+abbrev pub step_line : Step → StepLine
+step_line s = record { line = s.line; caller = s.caller; goal = s.goal; kind = s.kind }
 
--- what a line says of steps, where the goal line before it is the caller's
-abbrev pub seen_in : ℕ → Line → Seen
-seen_in caller l =
-    record {
-      step = eqb l.code 2;
-      caller = elim (eqb l.code 1) [ true ↦ l.first | false ↦ caller ];
-      goal = l.first;
-      kind = kind_of l.second;
-    }
+-- of bytes whose first line is line n, in the part of `caller` unless it is a goal's line
+unfoldable pub steps_in : ℕ → ℕ → List ℕ → List StepLine
+steps_in n caller bytes = step_lines_from n caller (lines_in bytes)
 
-abbrev pub step_at : ℕ → Seen → StepLine
-step_at n s = record { line = n; caller = s.caller; goal = s.goal; kind = s.kind }
+abbrev pub steps_left : StepsLeft → List StepLine
+steps_left s = steps_in s.line s.caller (drop (16 * s.line) s.book.now)
 
 abbrev pub line_of : Option StepLine → Option ℕ
 line_of none = none
 line_of (some s) = some s.line
-
-abbrev pub found_line : Found → Option ℕ
-found_line (At n) = some n
-found_line Nothing = none
-
--- ---- conflicts
-abbrev pub verdict_of : Option Conflict → Verdict
-verdict_of none = Given
-verdict_of (some c) = Broken c
-
--- of the line n, where it is a step
-abbrev pub conflict_at : Book → List StepLine → ℕ → Seen → Option Conflict
-conflict_at b ss n s = elim s.step [ true ↦ conflict_with b ss (step_at n s) | false ↦ none ]
-
--- the step that the line is, if any, and others
-abbrev pub cons_if : Bool → StepLine → List StepLine → List StepLine
-cons_if true s ss = s ∷ ss
-cons_if false s ss = ss

@@ -6,29 +6,31 @@
 pub mod reach;
 mod steps;
 
-ghost use Rattle.std.specs.Prelude.{◌≡◌, true, ◌<◌};
+ghost use Rattle.std.specs.Prelude.{◌≡◌, ◌<◌};
 ghost use Rattle.book.specs.Lines.{lines_in};
 ghost use Rattle.book.specs.Read.{IsAccepted, book_in};
 ghost use Rattle.soundness.specs.Groups.{step_lines};
-ghost use Rattle.guarantee.specs.Guarantee.{first_conflict, guarantee_of};
+ghost use Rattle.guarantee.specs.Guarantee.{conflict_with, first_conflict, guarantee_of};
 ghost use Rattle.guarantee.specs.Codes.{verdict_code, verdict_numbers};
-ghost use Rattle.guarantee.specs.Engine.{Ready, verdict_of, conflict_at};
+ghost use Rattle.guarantee.specs.Engine.{Ready, step_line};
+ghost use Rattle.definition.specs.Options.{maybe_of};
 
-use book::BookRead;
 use definition::paths::PathKind;
-use definition::replies::{Refusal, Response};
-use steps::{Found, Seen};
+use definition::replies::{self, Refusal};
+use steps::Step;
 
 // An inductive and a coinductive step inside one group: their lines, the header being
 // line 0, and the goals of the group, bit i for goal i.
-#[derive(Clone, Copy)]
+#[derive(Debug, Clone, Copy, PartialEq, Eq)]
 pub struct Conflict {
     pub inductive: usize,
     pub coinductive: usize,
     pub group: u64,
 }
 
-#[derive(Clone, Copy)]
+// Three cases, each with a name, and two methods for C: a `Result<Option<Conflict>, Refusal>` would
+// say `Ok(None)` for the guarantee that is given.
+#[derive(Debug, Clone, Copy, PartialEq, Eq)]
 pub enum Verdict {
     Refused(Refusal),
     Given,
@@ -41,7 +43,7 @@ impl Verdict {
         ensures { result ≡ verdict_code self }
     {
         match self {
-            Verdict::Refused(r) => Response::Refused(r).code(),
+            Verdict::Refused(r) => replies::code(Err(r)),
             Verdict::Given => 0,
             Verdict::Broken(_) => 0,
         }
@@ -61,25 +63,21 @@ impl Verdict {
 
 // The conflict of an inductive step inside its caller's group with the first
 // coinductive step inside that group.
-fn conflict_with(book: &[u8], reach: &[u64], s: Seen, line: usize) -> Verdict
+fn conflict_with(book: &[u8], reach: &[u64], s: Step) -> Option<Conflict>
     requires { Ready book.now reach.now }
-    ensures { (s.step ≡ true → s.caller < (book_in book.now).header.goals)
-        → result ≡ verdict_of (conflict_at (book_in book.now) (step_lines (lines_in book.now)) line s) }
+    ensures { s.caller < (book_in book.now).header.goals
+        → maybe_of result ≡ conflict_with (book_in book.now) (step_lines (lines_in book.now)) (step_line s) }
 {
-    let caller = s.caller;
-    let group = reach::group(reach, caller);
-    if !steps::is_within(s, group, PathKind::Inductive) {
-        return Verdict::Given;
+    let group = reach::group(reach, s.caller);
+    if !s.is_within(group, PathKind::Inductive) {
+        return None;
     }
-    let found = steps::first_within(book, group, PathKind::Coinductive);
-    match found {
-        Found::At(other) => Verdict::Broken(Conflict {
-            inductive: line,
-            coinductive: other,
-            group,
-        }),
-        Found::Nothing => Verdict::Given,
-    }
+    let other = steps::first_within(book, group, PathKind::Coinductive)?;
+    Some(Conflict {
+        inductive: s.line,
+        coinductive: other,
+        group,
+    })
 }
 
 // The first step that is part of a conflict.
@@ -88,18 +86,10 @@ fn first_conflict(book: &[u8], reach: &[u64]) -> Verdict
     ensures { result ≡ first_conflict (book_in book.now) (step_lines (lines_in book.now))
         (step_lines (lines_in book.now)) }
 {
-    let mut t = &book[16..];
-    let mut caller: usize = 0;
-    let mut line: usize = 1;
-    while 16 <= t.len() {
-        let s = steps::first(t, caller);
-        let v = conflict_with(book, reach, s, line);
-        if let Verdict::Broken(c) = v {
+    for s in steps::of_book(book) {
+        if let Some(c) = conflict_with(book, reach, s) {
             return Verdict::Broken(c);
         }
-        caller = s.caller;
-        t = &t[16..];
-        line = line + 1;
     }
     Verdict::Given
 }
@@ -120,7 +110,7 @@ pub fn guarantee(book: &[u8]) -> Verdict
     let mut starts = [0u16; 64];
     let read = book::read(book, &mut starts);
     match read {
-        BookRead::Rejected(r) => Verdict::Refused(r),
-        BookRead::Accepted(h) => of_book(book, h.goals),
+        Err(r) => Verdict::Refused(r),
+        Ok(h) => of_book(book, h.goals),
     }
 }

@@ -1,12 +1,11 @@
 // Which goals call which, and which reach which: a mask of goals for each goal.
-ghost use Rattle.std.specs.Prelude.{◌≡◌, ◌&&◌, ◌||◌, ℕ, ◌<◌, eqb, length, get_or};
+ghost use Rattle.std.specs.Prelude.{◌≡◌, ◌&&◌, ◌<◌, length, get_or};
 ghost use Rattle.definition.specs.Part.{Book};
 ghost use Rattle.book.specs.Read.{IsAccepted, book_in};
 ghost use Rattle.soundness.specs.Groups.{towards, reaches};
 ghost use Rattle.guarantee.specs.Engine.{in_mask, meets, IsMask, CallMasks, ReachMasks, IsGroup};
 
 use crate::steps;
-use crate::steps::Seen;
 
 // Whether two masks have a goal in common.
 fn meet(a: u64, b: u64) -> bool
@@ -15,60 +14,31 @@ fn meet(a: u64, b: u64) -> bool
     a & b != 0
 }
 
-// The mask with a goal more, where `yes`.
-fn with_if(m: u64, i: usize, yes: bool) -> u64
-    requires { i < 64 }
-    ensures { (k : ℕ) → in_mask result k ≡ (in_mask m k || (eqb k i && yes)) }
-{
-    if yes {
-        return bits::with(m, i);
-    }
-    m
-}
-
-// A step more. A goal beyond the masks calls nothing.
-fn add_step(masks: &mut [u64], s: Seen)
-    requires { length masks.old ≡ 64 }
-    ensures { (i m : ℕ) → i < 64 → meets (get_or masks.new i 0) m
-        ≡ (meets (get_or masks.old i 0) m || (s.step && (eqb s.caller i && in_mask m s.goal))) }
-{
-    if !s.step {
-        return;
-    }
-    let caller = s.caller;
-    if 64 <= caller {
-        return;
-    }
-    masks[caller] = bits::with(masks[caller], s.goal);
-}
-
-// For each goal the goals that its part calls.
+// For each goal the goals that its part calls. A goal beyond the masks calls nothing.
 pub fn calls(book: &[u8]) -> [u64; 64]
     requires { IsAccepted book.now }
     ensures { CallMasks (book_in book.now) result }
 {
     let mut masks = [0u64; 64];
-    let mut t = &book[16..];
-    let mut caller: usize = 0;
-    while 16 <= t.len() {
-        let s = steps::first(t, caller);
-        add_step(&mut masks, s);
-        caller = s.caller;
-        t = &t[16..];
+    for s in steps::of_book(book) {
+        if s.caller < 64 {
+            masks[s.caller] = bits::with(masks[s.caller], s.goal);
+        }
     }
     masks
 }
 
-// The goal itself, and the goals that call one of the mask.
+// The goal itself, and the goals that call one of the mask. Masks are a slice of 64, as `masks` and `group` take them:
+// they are public, and a `&[u64; 64]` would ask more of who calls them.
 fn toward(calls: &[u64], goal: usize, m: u64) -> u64
     requires { (length calls.now ≡ 64) × (goal < 64) }
     ensures { (b : Book) → CallMasks b calls.now → IsMask (towards b goal (in_mask m)) result }
 {
     let mut r = bits::with(0, goal);
-    let mut i: usize = 0;
-    while i < 64 {
-        r = with_if(r, i, meet(calls[i], m));
-        i = i + 1;
+    for i in 0..64 {
+        if meet(calls[i], m) {
+            r = bits::with(r, i);
+        }
     }
     r
 }
@@ -80,10 +50,8 @@ fn reaching(calls: &[u64], goals: usize, goal: usize) -> u64
         → IsMask (λ from. reaches b from goal) result }
 {
     let mut m = bits::with(0, goal);
-    let mut i: usize = 0;
-    while i < goals {
+    for _round in 0..goals {
         m = toward(calls, goal, m);
-        i = i + 1;
     }
     m
 }
@@ -94,10 +62,8 @@ pub fn masks(calls: &[u64], goals: usize) -> [u64; 64]
     ensures { (b : Book) → CallMasks b calls.now → b.header.goals ≡ goals → ReachMasks b result }
 {
     let mut masks = [0u64; 64];
-    let mut i: usize = 0;
-    while i < 64 {
-        masks[i] = reaching(calls, goals, i);
-        i = i + 1;
+    for goal in 0..64 {
+        masks[goal] = reaching(calls, goals, goal);
     }
     masks
 }
@@ -107,10 +73,7 @@ fn linked(reach: &[u64], g: usize, k: usize) -> bool
     requires { (g < length reach.now) × (k < length reach.now) }
     ensures { result ≡ in_mask (get_or reach.now k 0) g && in_mask (get_or reach.now g 0) k }
 {
-    if !bits::has(reach[k], g) {
-        return false;
-    }
-    bits::has(reach[g], k)
+    bits::has(reach[k], g) && bits::has(reach[g], k)
 }
 
 // The goals that are linked to a goal.
@@ -121,11 +84,11 @@ pub fn group(reach: &[u64], g: usize) -> u64
     if 64 <= g {
         return 0;
     }
-    let mut m: u64 = 0;
-    let mut k: usize = 0;
-    while k < 64 {
-        m = with_if(m, k, linked(reach, g, k));
-        k = k + 1;
+    let mut m = 0;
+    for k in 0..64 {
+        if linked(reach, g, k) {
+            m = bits::with(m, k);
+        }
     }
     m
 }

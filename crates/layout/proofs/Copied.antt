@@ -119,7 +119,7 @@ module _ (goals from to : ℕ) (old : List ℕ) (blocks : BlocksApart goals from
           }
 
   -- after the last turn
-  module _ (left : ℕ) (s : List ℕ) (so_far : Copying goals from to old m left s) (over : left ≤ 0)
+  module _ (left : ℕ) (s : List ℕ) (so_far : Copying goals from to old m left s) (over : left ≡ 0)
       (is : flags 64 m ≡ present (heads_of goals source) ++ replicate (64 - goals) false) where
     abbrev target : List ℕ
     target = region to (heads_size goals) s
@@ -138,7 +138,7 @@ module _ (goals from to : ℕ) (old : List ℕ) (blocks : BlocksApart goals from
         (ap number_of (region_region to (heads_size goals) 0 8 s (omega arith) ∙ ap (λ (x : ℕ). region x 8 s) (add-zero to)) ∙ so_far.mask)
 
     none_left : (i : ℕ) → get_or (flags 64 left) i false ≡ false
-    none_left i = let e : left ≡ 0 = omega arith in ap (λ (n : ℕ). get_or (flags 64 n) i false) e ∙ ap (λ (l : List Bool). get_or l i false) (flags_zero 64) ∙ only false 64 i
+    none_left i = ap (λ (n : ℕ). get_or (flags 64 n) i false) over ∙ ap (λ (l : List Bool). get_or l i false) (flags_zero 64) ∙ only false 64 i
 
     head_same : (i : ℕ) → i < goals → get_or (heads_of goals target) i none ≡ get_or (heads_of goals source) i none
     head_same i lt = heads_at goals target i lt ∙ go (flag_at source i) refl ∙ sym (heads_at goals source i lt)
@@ -196,6 +196,18 @@ module _ (goals from to : ℕ) (old : List ℕ) (blocks : BlocksApart goals from
   pub masked_source : region from (heads_size goals) s ≡ region from (heads_size goals) old
   masked_source =
       ⊎_elim (λ h. masked_before from (heads_size goals) (omega arith)) (λ h. masked_behind from (heads_size goals) (omega arith)) blocks.apart
+
+  pub masked_flags : flags 64 m ≡ present (heads_of goals (region from (heads_size goals) old)) ++ replicate (64 - goals) false
+      → flags 64 m ≡ present (heads_of goals (region from (heads_size goals) s)) ++ replicate (64 - goals) false
+  masked_flags is = is ∙ ap (λ (l : List ℕ). present (heads_of goals l) ++ replicate (64 - goals) false) (sym masked_source)
+
+  pub masked_start : m < 2 ^ 64 → flags 64 m ≡ present (heads_of goals (region from (heads_size goals) old)) ++ replicate (64 - goals) false → Copying goals from to s m m s
+  masked_start small is = copy_start goals from to s masked_blocks m small (masked_mask small) (masked_flags is)
+
+  -- a turn's place is one of the block, and the buffer is as long as it was
+  pub masked_turn : (left : ℕ) (now : List ℕ) → Copying goals from to s m left now → (i : ℕ) → 0 < left → i ≡ place_or 64 (first_place (flags 64 left))
+      → (i < goals) × (length now ≡ length old)
+  masked_turn left now so_far i pos is = (copy_small goals from to s masked_blocks m left now so_far i pos is, so_far.long ∙ masked_long)
 
   pub copied_from : (new : List ℕ) → HeadsCopied goals from to s new → HeadsCopied goals from to old new
   copied_from new copied =

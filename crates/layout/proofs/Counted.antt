@@ -1,5 +1,5 @@
 -- One usage more, in the counter of its kind; and the usages of a nested goal, kind by kind.
-use mathlib.Core.Path.{◌≡◌, refl, sym, ap, ◌∙◌}
+use mathlib.Core.Path.{◌≡◌, sym, ap, ◌∙◌}
 use mathlib.Core.Bool.{true}
 use mathlib.Core.List.{List}
 use mathlib.Core.Option.{some}
@@ -13,7 +13,7 @@ use Rattle.definition.specs.declared.paths.PathKind.{PathKind}
 use Rattle.definition.specs.declared.paths.PathKind.TheVariants.{Inductive, Unknown, Coinductive, ForcedAmbiguity}
 use Rattle.definition.specs.declared.usages.HeadUsages.{HeadUsages}
 use Rattle.definition.specs.Paths.{kind_number}
-use Rattle.definition.specs.Usages.{counter_limit, add_counter, at_most_one, no_usages, one_usage, add_usage, add_usages_from_nested}
+use Rattle.definition.specs.Usages.{counter_limit, add_counter, at_most_one, no_usages, add_usage, add_usages_from_nested}
 use Rattle.definition.specs.Heads.{join_head}
 use Rattle.definition.proofs.Counters.{add_full, add_less}
 use Rattle.buffer.specs.Numbers.{number_of, bytes_of}
@@ -33,19 +33,6 @@ add_none a =
       | yes h ↦ sym (let e : a ≡ min (a + 0) counter_limit = omega arith in e ∙ add_less a 0 h)
       | no h ↦ sym (add_full a 0 (omega arith))
     ]
-
--- a cycle's usage is at most 1 of each kind
-pub one_more : (u : HeadUsages) (k : PathKind) → add_usages_from_nested u (one_usage k) ≡ add_usage u k
-one_more u Inductive = refl
-one_more u Unknown = refl
-one_more u Coinductive = refl
-one_more u ForcedAmbiguity = refl
-
-pub kind_low : (k : PathKind) → kind_number k ≤ 3
-kind_low Inductive = omega arith
-kind_low Unknown = omega arith
-kind_low Coinductive = omega arith
-kind_low ForcedAmbiguity = omega arith
 
 -- ---- the counter of a kind is written
 module _ (bs : List ℕ) (long : length bs ≡ 32) (n : ℕ) (small : n < 2 ^ 64) where
@@ -165,13 +152,6 @@ kinds_counted u v u1 u2 u3 u4 e1 e2 e3 e4 =
     let p2 : u2 ≡ plus u i n 0 0 = e2 ∙ used_unknown v.unknown u1 ∙ ap (λ (x : HeadUsages). plus x 0 n 0 0) p1 ∙ after_inductive u i n in
     let p3 : u3 ≡ plus u i n c 0 = e3 ∙ used_coinductive v.coinductive u2 ∙ ap (λ (x : HeadUsages). plus x 0 0 c 0) p2 ∙ after_unknown u i n c in
     e4 ∙ used_forced v.forced u3 ∙ ap (λ (x : HeadUsages). plus x 0 0 0 f) p3 ∙ after_coinductive u i n c f
-
-pub used_none : (n : ℕ) (u : HeadUsages) (k : PathKind) → n ≡ 0 → u ≡ used_if n u k
-used_none n u k e = ap (λ (x : ℕ). used_if x u k) (sym e)
-
-pub used_some : (n : ℕ) (u : HeadUsages) (k : PathKind) → (n ≡ 0 → ⊥) → add_usage u k ≡ used_if n u k
-used_some zero u k ne = absurd (ne refl)
-used_some (suc n) u k ne = refl
 
 -- ---- a head: its usages are counted, then its paths are joined
 pub head_joined : (bs ys : List ℕ) (p v : ℕ) (u : HeadUsages) → length bs ≡ 33 → length ys ≡ 32

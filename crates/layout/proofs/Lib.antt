@@ -6,6 +6,7 @@ pub mod Graphs
 pub mod Marks
 pub mod NestedExtended
 pub mod NestedPaths
+pub mod Placed
 pub mod Present
 pub mod Copied
 pub mod Counted

@@ -1,25 +1,24 @@
 -- The loops of `extend_from_child` and `extend_within`.
 use mathlib.Core.Path.{◌≡◌, refl, sym, ap, ap₂, ◌∙◌}
-use mathlib.Core.Bool.{◌&&◌}
 use mathlib.Core.List.{List, [], ◌∷◌, ◌++◌, append-nil}
-use Prim.Native.Nat.{ℕ, zero, suc, ◌+◌, ◌-◌, ◌^◌, ◌≤◌, ◌<◌, min}
-use native.Mathlib.Nat.{zero-add, suc-add}
+use Prim.Native.Nat.{ℕ, zero, suc, ◌+◌, ◌-◌, ◌≤◌, ◌<◌, min}
+use native.Mathlib.Nat.{zero-add}
 use native.Mathlib.Numerals.{add-one}
 use native.Mathlib.Omega.{arith}
 use native.Mathlib.Decide.{dec_lt}
 use lib.Bits.{bit_or, or_zero_r}
 use lib.Dec.{eqb, leb}
-use lib.ListN.{length, get_or, set, take, drop, drop_of_length-le, take-append-drop, length-set}
-use lib.Seq.{take_all, length-take-le, set-append_left}
+use lib.ListN.{length, get_or, set, take, drop, drop_of_length-le, take-append-drop}
+use lib.Seq.{take_all, length-take-le}
 use Rattle.definition.specs.declared.paths.PathKind.{PathKind}
 use Rattle.definition.specs.declared.paths.PathKind.TheVariants.{Inductive, Unknown, Coinductive, ForcedAmbiguity}
-use Rattle.definition.specs.Paths.{weaker_flags, flag_of, extend_with}
+use Rattle.definition.specs.Paths.{extend_with}
 use Rattle.definition.specs.Nested.{NestedGoals, extend_from_child}
-use Rattle.definition.specs.CacheForm.{all_at_most}
 use Rattle.buffer.specs.Regions.{region, overwrite}
-use Rattle.buffer.proofs.Regions.{length_region, region_inside, byte_at, byte_after, overwrite_one, overwrite_back}
+use Rattle.std.specs.Prelude.{fold}
+use Rattle.buffer.proofs.Regions.{length_region, region_region, length_overwrite, overwrite_inside, overwrite_part}
 use Rattle.layout.specs.Copied.{Extended}
-use Rattle.layout.proofs.NestedPaths.{flags_first, flags_more, flags_all, leb_zero, empty_flags}
+use Rattle.layout.proofs.NestedPaths.{joined_low, leb_zero, empty_flags}
 
 -- what is extended from place i on
 abbrev pub extended_from : ℕ → NestedGoals → PathKind → NestedGoals → NestedGoals
@@ -73,88 +72,66 @@ extend_all_lem ns k cs whole n i rest least h =
           sym (ap₂ (λ (l m : NestedGoals). l ++ extend_from_child m k (drop i cs)) (take_all i ns all) (drop_of_length-le ns {i = i} all) ∙ append-nil ns) ∙ rest
     ]
 
--- ---- the same inside a buffer
-set_right : (p q : List ℕ) (i v : ℕ) → set (p ++ q) (length p + i) v ≡ p ++ set q i v
-set_right [] q i v = ap (λ (n : ℕ). set q n v) (zero-add i)
-set_right (x ∷ p) q i v = ap (λ (n : ℕ). set (x ∷ (p ++ q)) n v) (suc-add (length p) i) ∙ ap (λ (l : List ℕ). x ∷ l) (set_right p q i v)
+-- as far as both go
+pub take_min : (n : ℕ) (cs : List ℕ) → take (min n (length cs)) cs ≡ take n cs
+take_min n cs =
+    elim (dec_lt (length cs) n) [
+      | yes h ↦ let e : min n (length cs) ≡ length cs = omega arith in ap (λ (m : ℕ). take m cs) e ∙ take_all (length cs) cs (omega arith) ∙ sym (take_all n cs (omega arith))
+      | no h ↦ let e : min n (length cs) ≡ n = omega arith in ap (λ (m : ℕ). take m cs) e
+    ]
 
-set_inside : (bs : List ℕ) (a : ℕ) (ys : List ℕ) (i v : ℕ) → a ≤ length bs → i < length ys → set (overwrite bs a ys) (a + i) v ≡ overwrite bs a (set ys i v)
-set_inside bs a ys i v fits lt =
-    let front : length (take a bs) ≡ a = length-take-le a bs fits in
-    let rest : List ℕ = drop (length ys) (drop a bs) in
-    ap (λ (n : ℕ). set (take a bs ++ (ys ++ rest)) (n + i) v) (sym front)
-    ∙ set_right (take a bs) (ys ++ rest) i v
-    ∙ ap (λ (l : List ℕ). take a bs ++ l) (set-append_left ys rest i v lt ∙ ap (λ (n : ℕ). set ys i v ++ drop n (drop a bs)) (sym (length-set ys i v)))
+-- ---- the same inside a buffer: the first m bytes are lent apart from the others
+module _ (bs : List ℕ) (m k : ℕ) (zs : List ℕ) (inner : k + length zs ≤ m) (outer : m ≤ length bs) where
+  long : length (overwrite (take m bs) k zs) ≡ m
+  long = let l = length-take-le m bs outer in length_overwrite (take m bs) k zs (omega (arith, l)) ∙ l
 
-pub record Extending (s₀ : List ℕ) (to from n weaker flag : ℕ) (s : List ℕ) (all i : ℕ) : Type 0 where
-  pub low : i ≤ n
-  pub long : length s ≡ length s₀
-  pub others : s ≡ overwrite s₀ to (region to n s)
-  pub extended : (k : PathKind) → weaker ≡ weaker_flags k → flag ≡ flag_of k
-      → extended_from i (region to n s) k (region from n s₀) ≡ extend_from_child (region to n s₀) k (region from n s₀)
-  pub flags : (k : ℕ) → (leb all (2 ^ k - 1) && all_at_most (2 ^ k - 1) (drop i (region from n s₀))) ≡ all_at_most (2 ^ k - 1) (region from n s₀)
+  overwrite_low : overwrite (take m bs) k zs ++ drop m bs ≡ overwrite bs k zs
+  overwrite_low =
+      sym
+      (ap (λ (n : ℕ). overwrite bs n zs) (sym (zero-add k))
+      ∙ overwrite_inside bs 0 m k zs inner (omega arith)
+      ∙ ap (λ (n : ℕ). overwrite (take m bs) k zs ++ drop n bs) long)
 
-module _ (s₀ : List ℕ) (to from n : ℕ) (below : to + n ≤ from) (room : from + n ≤ length s₀) (weaker flag : ℕ) where
-  pub extending_start : Extending s₀ to from n weaker flag s₀ 0 0
-  extending_start =
-      record {
-        low = omega arith;
-        long = refl;
-        others = sym (overwrite_back s₀ to n (omega arith));
-        extended = λ k a b. refl;
-        flags = flags_first (region from n s₀);
-      }
+module _ (bs : List ℕ) (to from n : ℕ) (below : to + n ≤ from) (room : from + n ≤ length bs) where
+  low_part : region to n (take from bs) ≡ region to n bs
+  low_part = region_region 0 from to n bs below ∙ ap (λ (a : ℕ). region a n bs) (zero-add to)
 
-  module _ (s : List ℕ) (all i : ℕ) (so_far : Extending s₀ to from n weaker flag s all i) (lt : i < n) where
-    parent : length (region to n s) ≡ n
-    parent = length_region to n s (omega (arith, so_far.long))
+  whole : length (region to n bs) ≡ n
+  whole = length_region to n bs (omega arith)
 
-    child : length (region from n s₀) ≡ n
-    child = length_region from n s₀ room
-
-    -- the child's bytes are as they were
-    pub child_byte : get_or s (from + i) 0 ≡ get_or (region from n s₀) i 0
-    child_byte =
-        ap (λ (l : List ℕ). get_or l (from + i) 0) so_far.others
-        ∙ byte_after s₀ to (region to n s) (omega (arith, parent)) (from + i) (omega (arith, parent))
-        ∙ sym (byte_at from n s₀ i lt)
-
-    pub extending_turn : (v : ℕ) → ((k : PathKind) → weaker ≡ weaker_flags k → flag ≡ flag_of k → v ≡ bit_or (get_or s (to + i) 0) (extend_with (get_or s (from + i) 0) k))
-        → Extending s₀ to from n weaker flag (set s (to + i) v) (bit_or all (get_or s (from + i) 0)) (i + 1)
-    extending_turn v is =
-        let written : region to n (set s (to + i) v) ≡ set (region to n s) i v =
-        ap (region to n) (sym (overwrite_one s (to + i) v (omega (arith, so_far.long))))
-        ∙ region_inside s to n i (v ∷ []) (omega arith) (omega (arith, so_far.long))
-        ∙ overwrite_one (region to n s) i v (omega (arith, parent)) in
-        record {
-          low = omega arith;
-          long = length-set s (to + i) v ∙ so_far.long;
-          others =
-              ap (λ (l : List ℕ). set l (to + i) v) so_far.others
-              ∙ set_inside s₀ to (region to n s) i v (omega arith) (omega (arith, parent))
-              ∙ ap (overwrite s₀ to) (sym written);
-          extended = λ k a b.
-              ap (λ (l : List ℕ). extended_from (i + 1) l k (region from n s₀)) written
-              ∙ extend_more (region to n s) k (region from n s₀) (extend_from_child (region to n s₀) k (region from n s₀)) i v (get_or s (from + i) 0)
-              (so_far.extended k a b) (omega (arith, parent)) child_byte
-              (is k a b ∙ ap (λ (x : ℕ). bit_or x (extend_with (get_or s (from + i) 0) k)) (sym (byte_at to n s i lt)));
-          flags = λ k.
-              ap (λ (x : ℕ). leb (bit_or all x) (2 ^ k - 1) && all_at_most (2 ^ k - 1) (drop (i + 1) (region from n s₀))) child_byte
-              ∙ flags_more (region from n s₀) all i so_far.flags (omega (arith, child)) k;
-        }
-
-  pub extending_done : (s : List ℕ) (all i : ℕ) → Extending s₀ to from n weaker flag s all i → n ≤ i
-      → (step : PathKind) → weaker ≡ weaker_flags step → flag ≡ flag_of step → Extended to from n step s₀ s (eqb all 0)
-  extending_done s all i so_far over step a b =
-      let parent : length (region to n s) ≡ n = length_region to n s (omega (arith, so_far.long)) in
-      let child : length (region from n s₀) ≡ n = length_region from n s₀ room in
+  within : (step : PathKind) (ys : List ℕ) (new : List ℕ) (all : ℕ)
+      → ys ≡ extend_from_child (region to (to + n - to) (take from bs)) step (region from n bs)
+      → new ≡ (take to (take from bs) ++ (ys ++ drop (to + n - to) (drop to (take from bs)))) ++ drop from bs
+      → all ≡ fold bit_or 0 (take (length (region to (to + n - to) (take from bs))) (region from n bs))
+      → Extended to from n step bs new (eqb all 0)
+  within step ys new all is e joined =
+      let wide : to + n - to ≡ n = omega arith in
+      let part : region to (to + n - to) (take from bs) ≡ region to n bs = ap (λ (m : ℕ). region to m (take from bs)) wide ∙ low_part in
+      let is' : ys ≡ extend_from_child (region to n bs) step (region from n bs) = is ∙ ap (λ (l : List ℕ). extend_from_child l step (region from n bs)) part in
+      let size : length ys ≡ n = ap length is' ∙ length_extended (region to n bs) step (region from n bs) ∙ whole in
+      let child : length (region from n bs) ≡ n = length_region from n bs room in
       record {
         goals =
-            so_far.others
-            ∙ ap (overwrite s₀ to)
-            (extend_all_lem (region to n s) step (region from n s₀) (extend_from_child (region to n s₀) step (region from n s₀)) n i (so_far.extended step a b) (omega (arith, parent, child)) over);
+            e
+            ∙ ap (λ (l : List ℕ). l ++ drop from bs) (overwrite_part (take from bs) to (to + n) ys (size ∙ sym wide))
+            ∙ overwrite_low bs from to ys (omega (arith, size)) (omega arith)
+            ∙ ap (overwrite bs to) is';
         empty =
             sym (leb_zero all)
-            ∙ flags_all (region from n s₀) all i so_far.flags (omega (arith, child)) 0
-            ∙ empty_flags (region from n s₀);
+            ∙ ap (λ (x : ℕ). leb x 0) (joined ∙ ap (λ (m : ℕ). fold bit_or 0 (take m (region from n bs))) (ap length part ∙ whole)
+            ∙ ap (fold bit_or 0) (take_all n (region from n bs) (omega (arith, child))))
+            ∙ joined_low 0 (region from n bs)
+            ∙ empty_flags (region from n bs);
       }
+
+  -- by the two parts that are lent
+  pub extended_within : (step : PathKind) (ys : List ℕ) (all : ℕ) (low high : List ℕ) → low ≡ take from bs → high ≡ drop from bs
+      → ys ≡ extend_from_child (region to (to + n - to) low) step (take n high)
+      → all ≡ fold bit_or 0 (take (length (region to (to + n - to) low)) (take n high))
+      → Extended to from n step bs ((take to low ++ (ys ++ drop (to + n - to) (drop to low))) ++ high) (eqb all 0)
+  extended_within step ys all low high front back is joined =
+      let w : ℕ = to + n - to in
+      within step ys ((take to low ++ (ys ++ drop w (drop to low))) ++ high) all
+      (is ∙ ap₂ (λ (l h : List ℕ). extend_from_child (region to w l) step (take n h)) front back)
+      (ap₂ (λ (l h : List ℕ). (take to l ++ (ys ++ drop w (drop to l))) ++ h) front back)
+      (joined ∙ ap₂ (λ (l h : List ℕ). fold bit_or 0 (take (length (region to w l)) (take n h))) front back)

@@ -2,17 +2,15 @@
 use mathlib.Core.Path.{◌≡◌, refl, sym, ap, ap₂, ◌∙◌}
 use mathlib.Core.Bool.{Bool, ◌&&◌, and_assoc, and-true, and-false}
 use mathlib.Core.List.{List, [], ◌∷◌}
-use Prim.Native.Nat.{ℕ, suc, ◌+◌, ◌-◌, ◌^◌, ◌≤◌, ◌<◌}
+use Prim.Native.Nat.{ℕ, ◌-◌, ◌^◌, ◌≤◌}
 use native.Mathlib.Decide.{dec_lt}
-use native.Mathlib.Numerals.{add-one}
 use native.Mathlib.Omega.{arith}
 use borrow.Author.Tests.{le-leb, lt-leb, eq-eqb, ne_eqb}
 use lib.Bits.{bit_or, or_lt, or_add_and, and_le_l, and_le_r}
+use Rattle.std.specs.Prelude.{fold}
 use lib.Dec
 use lib.Dec.{leb, eqb}
-use lib.ListN.{length, get_or, drop, drop_of_length-le}
 use lib.Pow.{le_ones, lt_of_le_ones}
-use lib.Seq.{drop-cons}
 use Rattle.definition.specs.CacheForm.{all_at_most}
 use Rattle.definition.specs.Nested.{nested_empty}
 
@@ -39,23 +37,17 @@ or_low k a b =
           ]
     ]
 
--- ---- `all_paths`: the flags so far, and those of the bytes that are left
-pub flags_first : (s : List ℕ) (k : ℕ) → (leb 0 (2 ^ k - 1) && all_at_most (2 ^ k - 1) s) ≡ all_at_most (2 ^ k - 1) s
-flags_first s k = ap (λ (t : Bool). t && all_at_most (2 ^ k - 1) s) (Dec.leb-zero (2 ^ k - 1))
+-- the join of a list's bytes
+joined_from : (k a : ℕ) (s : List ℕ) → leb (fold bit_or a s) (2 ^ k - 1) ≡ (leb a (2 ^ k - 1) && all_at_most (2 ^ k - 1) s)
+joined_from k a [] = sym (and-true (leb a (2 ^ k - 1)))
+joined_from k a (x ∷ s) =
+    let m : ℕ = 2 ^ k - 1 in
+    joined_from k (bit_or a x) s
+    ∙ ap (λ (t : Bool). t && all_at_most m s) (or_low k a x)
+    ∙ and_assoc (leb a m) (leb x m) (all_at_most m s)
 
-module _ (s : List ℕ) (flags i : ℕ) (so_far : (k : ℕ) → (leb flags (2 ^ k - 1) && all_at_most (2 ^ k - 1) (drop i s)) ≡ all_at_most (2 ^ k - 1) s) where
-  pub flags_more : i < length s → (k : ℕ) → (leb (bit_or flags (get_or s i 0)) (2 ^ k - 1) && all_at_most (2 ^ k - 1) (drop (i + 1) s)) ≡ all_at_most (2 ^ k - 1) s
-  flags_more h k =
-      let m : ℕ = 2 ^ k - 1 in
-      ap₂ (λ (t : Bool) (n : ℕ). t && all_at_most m (drop n s)) (or_low k flags (get_or s i 0)) (add-one i)
-      ∙ and_assoc (leb flags m) (leb (get_or s i 0) m) (all_at_most m (drop (suc i) s))
-      ∙ ap (λ (l : List ℕ). leb flags m && all_at_most m l) (sym (drop-cons s i 0 h))
-      ∙ so_far k
-
-  pub flags_all : length s ≤ i → (k : ℕ) → leb flags (2 ^ k - 1) ≡ all_at_most (2 ^ k - 1) s
-  flags_all h k =
-      let m : ℕ = 2 ^ k - 1 in
-      sym (ap (λ (l : List ℕ). leb flags m && all_at_most m l) (drop_of_length-le s {i = i} h) ∙ and-true (leb flags m)) ∙ so_far k
+pub joined_low : (k : ℕ) (s : List ℕ) → leb (fold bit_or 0 s) (2 ^ k - 1) ≡ all_at_most (2 ^ k - 1) s
+joined_low k s = joined_from k 0 s ∙ ap (λ (t : Bool). t && all_at_most (2 ^ k - 1) s) (Dec.leb-zero (2 ^ k - 1))
 
 -- at most 0 is 0
 pub leb_zero : (n : ℕ) → leb n 0 ≡ eqb n 0

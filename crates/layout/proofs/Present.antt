@@ -14,7 +14,7 @@ use Rattle.definition.specs.declared.heads.CycleHead.{CycleHead}
 use Rattle.definition.specs.Heads.{CycleHeads, opt_lowest_index, opt_highest_index, heads_empty, highest_index, join_head, insert_head}
 use Rattle.bits.specs.Masks.{flags, first_place, last_place, next_place, place_or}
 use Rattle.bits.proofs.Flags.{length_flags, flags_zero}
-use Rattle.bits.proofs.Places.{last_more, last_none, last_some}
+use Rattle.bits.proofs.Ends.{last_more, last_none, last_some}
 use Rattle.buffer.specs.Numbers.{number_of}
 use Rattle.buffer.specs.Regions.{region, overwrite}
 use Rattle.buffer.specs.Tables.{list_up}

@@ -1,13 +1,17 @@
-// A block of usages: those of a candidate, or merged ones.
+// A block of usages: those of a candidate, or merged ones. (`clear`, `mask` and `put` are those of
+// `heads` over other records, a line or three each: a block generic over its records is no shorter.)
 ghost use Rattle.std.specs.Prelude.{◌≡◌, true, ◌<◌, get_or, set};
-ghost use Rattle.definition.specs.Usages.{no_usages, one_usage};
+ghost use Rattle.definition.specs.Usages.{no_usages};
 ghost use Rattle.definition.specs.Candidates.{no_candidate_usages};
 ghost use Rattle.layout.specs.Blocks.{UsagesBlock, flag_at, candidate_of};
 ghost use Rattle.layout.specs.AtIndex.{Names, add_at, add_from_nested_at};
 
 use crate::records;
-use definition::paths::PathKind;
+use crate::used::Used;
 use definition::usages::HeadUsages;
+
+// The bytes of a record.
+const USAGES: usize = 32;
 
 pub fn clear(b: &mut [u8], goals: usize)
     requires { UsagesBlock goals b.old }
@@ -21,12 +25,10 @@ pub fn usages(b: &[u8], goals: usize, i: usize) -> HeadUsages
     requires { UsagesBlock goals b.now × (i < goals) }
     ensures { result ≡ get_or (candidate_of goals b.now) i no_usages }
 {
-    if bits::has(buffer::read_u64(b, 0), i) {
-        let a = 8 + i * 32;
-        let end = a + 32;
-        return records::read_usages(&b[a..end]);
+    if !bits::has(buffer::read_u64(b, 0), i) {
+        return HeadUsages::none();
     }
-    HeadUsages::none()
+    records::read_usages(&b[records::place(i, USAGES)])
 }
 
 // The usages of index i become u.
@@ -35,9 +37,7 @@ pub fn put(b: &mut [u8], goals: usize, i: usize, u: HeadUsages)
     ensures { (candidate_of goals b.new ≡ set (candidate_of goals b.old) i u)
         × (flag_at b.new i ≡ true) }
 {
-    let a = 8 + i * 32;
-    let end = a + 32;
-    records::write_usages(&mut b[a..end], u);
+    records::write_usages(&mut b[records::place(i, USAGES)], u);
     let m = buffer::read_u64(b, 0);
     buffer::write_u64(b, 0, bits::with(m, i));
 }
@@ -65,32 +65,18 @@ fn start(b: &mut [u8], goals: usize, i: usize)
     ensures { (candidate_of goals b.new ≡ candidate_of goals b.old)
         × (flag_at b.new i ≡ true) }
 {
-    let known = bits::has(buffer::read_u64(b, 0), i);
-    if known {
+    if bits::has(buffer::read_u64(b, 0), i) {
         return;
     }
     put(b, goals, i, HeadUsages::none());
 }
 
 // The usages of index i, with those of a nested goal: at most 1 of each kind.
-pub fn add_from_nested(b: &mut [u8], goals: usize, i: usize, u: HeadUsages)
-    requires { UsagesBlock goals b.old × (i < goals) }
-    ensures { candidate_of goals b.new ≡ add_from_nested_at (candidate_of goals b.old) i u }
-{
-    start(b, goals, i);
-    let a = 8 + i * 32;
-    let end = a + 32;
-    records::count_nested(&mut b[a..end], u);
-}
-
-// The same where it is used once.
-pub fn count(b: &mut [u8], goals: usize, i: usize, kind: PathKind)
+pub fn add_from_nested<U: Used>(b: &mut [u8], goals: usize, i: usize, used: U)
     requires { UsagesBlock goals b.old × (i < goals) }
     ensures { candidate_of goals b.new
-        ≡ add_from_nested_at (candidate_of goals b.old) i (one_usage kind) }
+        ≡ add_from_nested_at (candidate_of goals b.old) i (U.uses used) }
 {
     start(b, goals, i);
-    let a = 8 + i * 32;
-    let end = a + 32;
-    records::count_usage(&mut b[a..end], kind);
+    used.count(&mut b[records::place(i, USAGES)]);
 }

@@ -3,16 +3,18 @@ ghost use Rattle.std.specs.Prelude.{◌≡◌, false, ◌++◌, ◌+◌, ◌-◌
 ghost use Rattle.std.proofs.Math.Option.{some};
 ghost use Rattle.bits.specs.Masks.{flags};
 ghost use Rattle.buffer.specs.Regions.{region};
-ghost use Rattle.definition.specs.Usages.{one_usage};
 ghost use Rattle.definition.specs.Heads.{no_heads, heads_empty, highest_index, usages_at, paths_at, remove_head, insert_head};
 ghost use Rattle.layout.specs.Blocks.{HeadsBlock, head_of, heads_of, present};
 ghost use Rattle.layout.specs.Copied.{BlocksApart, RecordCopied, HeadsCopied};
 ghost use Rattle.layout.specs.AtIndex.{ignore_at};
 
 use crate::records;
+use crate::used::Used;
 use definition::heads::CycleHead;
-use definition::paths::PathKind;
 use definition::usages::HeadUsages;
+
+// The bytes of a record.
+const HEAD: usize = 33;
 
 // The indices that have a head.
 pub fn mask(b: &[u8], goals: usize) -> u64
@@ -34,9 +36,7 @@ pub fn record(b: &[u8], goals: usize, i: usize) -> CycleHead
     requires { HeadsBlock goals b.now × (i < goals) }
     ensures { result ≡ head_of (region (8 + i * 33) 33 b.now) }
 {
-    let a = 8 + i * 33;
-    let end = a + 33;
-    records::read_head(&b[a..end])
+    records::read_head(&b[records::place(i, HEAD)])
 }
 
 // The head of index i becomes `head`.
@@ -44,9 +44,7 @@ pub fn put(b: &mut [u8], goals: usize, i: usize, head: CycleHead)
     requires { HeadsBlock goals b.old × (i < goals) }
     ensures { heads_of goals b.new ≡ set (heads_of goals b.old) i (some head) }
 {
-    let a = 8 + i * 33;
-    let end = a + 33;
-    records::write_head(&mut b[a..end], head);
+    records::write_head(&mut b[records::place(i, HEAD)], head);
     let m = buffer::read_u64(b, 0);
     buffer::write_u64(b, 0, bits::with(m, i));
 }
@@ -68,44 +66,26 @@ pub fn has(b: &[u8], goals: usize, i: usize) -> bool
 }
 
 // CycleHeads::insert; of a head that is known, only what changes is written
-pub fn insert(b: &mut [u8], goals: usize, i: usize, paths: u8, usages: HeadUsages)
+pub fn insert<U: Used>(b: &mut [u8], goals: usize, i: usize, paths: u8, used: U)
     requires { HeadsBlock goals b.old × (i < goals) }
-    ensures { heads_of goals b.new ≡ insert_head (heads_of goals b.old) i paths usages }
+    ensures { heads_of goals b.new
+        ≡ insert_head (heads_of goals b.old) i paths (U.uses used) }
 {
     if has(b, goals, i) {
-        let a = 8 + i * 33;
-        let end = a + 33;
-        records::join_head(&mut b[a..end], paths, usages);
+        records::join_head(&mut b[records::place(i, HEAD)], paths, used);
         return;
     }
+    let usages = used.usages();
     put(b, goals, i, CycleHead { paths, usages });
 }
 
-// The same of a head that is used once.
-pub fn insert_used(b: &mut [u8], goals: usize, i: usize, paths: u8, kind: PathKind)
-    requires { HeadsBlock goals b.old × (i < goals) }
-    ensures { heads_of goals b.new
-        ≡ insert_head (heads_of goals b.old) i paths (one_usage kind) }
-{
-    if has(b, goals, i) {
-        let a = 8 + i * 33;
-        let end = a + 33;
-        records::count_head(&mut b[a..end], paths, kind);
-        return;
-    }
-    let usages = HeadUsages::one(kind);
-    let head = CycleHead { paths, usages };
-    put(b, goals, i, head);
-}
-
-// How the head of index i is used; not at all where there is none.
+// How the head of index i is used; not at all where there is none, as the definition says it.
 pub fn usages(b: &[u8], goals: usize, i: usize) -> HeadUsages
     requires { HeadsBlock goals b.now × (i < goals) }
     ensures { result ≡ usages_at (heads_of goals b.now) i }
 {
     if has(b, goals, i) {
-        let head = record(b, goals, i);
-        return head.usages;
+        return record(b, goals, i).usages;
     }
     HeadUsages::none()
 }
@@ -116,8 +96,7 @@ pub fn paths(b: &[u8], goals: usize, i: usize) -> u8
     ensures { result ≡ paths_at (heads_of goals b.now) i }
 {
     if has(b, goals, i) {
-        let head = record(b, goals, i);
-        return head.paths;
+        return record(b, goals, i).paths;
     }
     0
 }
@@ -146,11 +125,8 @@ pub fn ignore(b: &mut [u8], goals: usize, i: usize, u: HeadUsages)
         return;
     }
     let head = record(b, goals, i);
-    let paths = head.paths;
-    let before = head.usages;
-    let usages = before.ignore_usages(u);
-    let ignored = CycleHead { paths, usages };
-    put(b, goals, i, ignored);
+    let usages = head.usages.ignore_usages(u);
+    put(b, goals, i, CycleHead { usages, ..head });
 }
 
 // The record at `from` goes to `to` as well.
@@ -158,10 +134,8 @@ fn copy_record(s: &mut [u8], from: usize, to: usize)
     requires { (from + 33 ≤ length s.old) × (to + 33 ≤ length s.old) }
     ensures { RecordCopied from to s.old s.new }
 {
-    let from_end = from + 33;
-    let head = records::read_head(&s[from..from_end]);
-    let to_end = to + 33;
-    records::write_head(&mut s[to..to_end], head);
+    let head = records::read_head(&s[from..from + HEAD]);
+    records::write_head(&mut s[to..to + HEAD], head);
 }
 
 // The block at `from` goes to `to` as well: its mask, and the records that the mask names.
@@ -172,11 +146,8 @@ pub fn copy(s: &mut [u8], goals: usize, from: usize, to: usize)
     let end = from + 8 + goals * 33;
     let m = mask(&s[from..end], goals);
     buffer::write_u64(s, to, m);
-    let mut left = m;
-    while 0 < left {
-        let i = bits::lowest(left);
+    for i in bits::places(m) {
         let a = 8 + i * 33;
         copy_record(s, from + a, to + a);
-        left = bits::without_lowest(left);
     }
 }

@@ -7,7 +7,8 @@ ghost use Rattle.layout.specs.Entry.{entry_size};
 ghost use Rattle.layout.specs.Work.{frame_start, entries_start, entry_start_from, entry_start};
 ghost use Rattle.layout.specs.Work.{graph_length, merged_start};
 
-// ---- the fields of a frame
+// ---- the fields of a frame: a byte each, flags and numbers, since C lends the buffer; `stack` hands
+// them out as options and enums
 pub const FRAME_INPUT: usize = 0;
 
 pub const FRAME_STEP: usize = 1;

@@ -1,16 +1,28 @@
 // Usages in 32 bytes, and a cycle head in 33.
-ghost use Rattle.std.specs.Prelude.{◌≡◌, length};
+ghost use Rattle.std.specs.Prelude.{◌≡◌, ◌+◌, ◌*◌, ◌<◌, ◌≤◌, length};
 ghost use Rattle.std.proofs.Math.Option.{some};
-ghost use Rattle.definition.specs.Usages.{one_usage, add_usage, add_usages_from_nested};
+ghost use Rattle.definition.specs.Usages.{add_usage, add_usages_from_nested};
 ghost use Rattle.definition.specs.Heads.{join_head};
 ghost use Rattle.layout.specs.Blocks.{usages_of, head_of};
 ghost use Rattle.layout.specs.AtIndex.{used_if};
 
-use buffer::scalars;
+use crate::used::Used;
 use definition::heads::CycleHead;
 use definition::paths::PathKind;
 use definition::usages;
 use definition::usages::HeadUsages;
+use std::ops::Range;
+
+// Where the record of index i lies in a block of records of `size` bytes.
+pub fn place(i: usize, size: usize) -> Range<usize>
+    requires low { i < 64 }
+    requires small { size ≤ 33 }
+    ensures start { result.start ≡ 8 + i * size }
+    ensures end { result.end ≡ 8 + i * size + size }
+{
+    let start = 8 + i * size;
+    start..start + size
+}
 
 pub fn read_usages(b: &[u8]) -> HeadUsages
     requires { length b.now ≡ 32 }
@@ -39,7 +51,7 @@ pub fn count_usage(b: &mut [u8], kind: PathKind)
     requires { length b.old ≡ 32 }
     ensures { usages_of b.new ≡ add_usage (usages_of b.old) kind }
 {
-    let at = 8 * scalars::wide(kind.number());
+    let at = 8 * usize::from(u8::from(kind));
     let before = buffer::read_u64(b, at);
     buffer::write_u64(b, at, usages::count_one(before));
 }
@@ -49,10 +61,9 @@ fn count_if(b: &mut [u8], n: u64, kind: PathKind)
     requires { length b.old ≡ 32 }
     ensures { usages_of b.new ≡ used_if n (usages_of b.old) kind }
 {
-    if n == 0 {
-        return;
+    if n != 0 {
+        count_usage(b, kind);
     }
-    count_usage(b, kind);
 }
 
 // The usages of a nested goal, at most 1 of each kind: whether it used the head counts,
@@ -82,26 +93,15 @@ pub fn write_head(b: &mut [u8], head: CycleHead)
     requires { length b.old ≡ 33 }
     ensures { head_of b.new ≡ head }
 {
-    let usages = head.usages;
-    write_usages(&mut b[1..33], usages);
+    write_usages(&mut b[1..33], head.usages);
     b[0] = head.paths;
 }
 
 // The head, reached by more paths and used by a nested goal.
-pub fn join_head(b: &mut [u8], paths: u8, nested: HeadUsages)
+pub fn join_head<U: Used>(b: &mut [u8], paths: u8, used: U)
     requires { length b.old ≡ 33 }
-    ensures { head_of b.new ≡ join_head (some (head_of b.old)) paths nested }
+    ensures { head_of b.new ≡ join_head (some (head_of b.old)) paths (U.uses used) }
 {
-    count_nested(&mut b[1..33], nested);
-    b[0] = b[0] | paths;
-}
-
-// The same where it is used once.
-pub fn count_head(b: &mut [u8], paths: u8, kind: PathKind)
-    requires { length b.old ≡ 33 }
-    ensures { head_of b.new ≡ join_head (some (head_of b.old)) paths (one_usage kind) }
-{
-    count_usage(&mut b[1..33], kind);
-    let before = b[0];
-    b[0] = before | paths;
+    used.count(&mut b[1..33]);
+    b[0] |= paths;
 }

@@ -1,4 +1,5 @@
-// Counts of steps in one number: 16 bits for each kind, the latest kind highest.
+// Counts of steps in one number: 16 bits for each kind, the latest kind highest. (No struct of four
+// counts: a frame has 8 bytes for them, and `latest` compares the number as it is.)
 ghost use Rattle.std.specs.Prelude.{◌≡◌};
 ghost use Rattle.definition.specs.Steps.{count_step};
 ghost use Rattle.layout.specs.Steps.{weight_of, unpacked, Few, latest_kind};
@@ -6,11 +7,11 @@ ghost use Rattle.layout.specs.Steps.{weight_of, unpacked, Few, latest_kind};
 use definition::paths::PathKind;
 
 // One step of each kind but the first, whose steps count 1.
-const UNKNOWN: u64 = 65536;
+const UNKNOWN: u64 = 1 << 16;
 
-const COINDUCTIVE: u64 = 4294967296;
+const COINDUCTIVE: u64 = 1 << 32;
 
-const FORCED: u64 = 281474976710656;
+const FORCED: u64 = 1 << 48;
 
 // One step of a kind.
 fn one(kind: PathKind) -> u64

@@ -3,7 +3,7 @@ use mathlib.Core.Path.{◌≡◌, refl, sym, ap, ◌∙◌}
 use mathlib.Core.Bool.{Bool, true, false, not, ◌&&◌}
 use mathlib.Core.Option.{Option, none, some}
 use mathlib.Core.List.{List}
-use Prim.Native.Nat.{ℕ, ◌+◌, ◌≤◌, ◌<◌}
+use Prim.Native.Nat.{ℕ, ◌+◌, ◌<◌}
 use native.Mathlib.Omega.{arith}
 use borrow.Author.Tests.{not-true, not-false}
 use lib.Dec.{leb}
@@ -19,24 +19,16 @@ use Rattle.definition.specs.GlobalCache.{slot_at, slot_held, slot_depth, slot_ne
 use Rattle.definition.specs.Lookup.{allowed_depth_for_nested, candidate_is_applicable, first_match, use_entry, use_cache_data, close_cycle, lookup_provisional_cache, lookup_global_cache, check_cycle_on_stack}
 use Rattle.definition.specs.Evaluate.{evaluate_new_frame, evaluate_at_depth, evaluate_goal_with}
 use Rattle.layout.specs.Work.{stack_of, entries_of, graph_of}
-use Rattle.stack.specs.Results.{provisional_of, depth_of, on_stack_of}
-use Rattle.stack.specs.declared.frame.Provisional.{Provisional}
-use Rattle.stack.specs.declared.frame.Depth.{Depth}
-use Rattle.stack.specs.declared.frame.Depth.TheVariants.{Allowed, Overflow}
+use Rattle.std.specs.Prelude.{Option as Maybe, Some, None}
+use Rattle.definition.specs.Options.{maybe_of}
+use Rattle.stack.specs.Results.{on_stack_of, found_of}
 use Rattle.stack.specs.declared.OnStack.{OnStack}
-use Rattle.stack.specs.declared.OnStack.TheVariants.{At, Nowhere}
 use Rattle.provisional_cache.specs.Entries.{entry_at, entry_found}
-use Rattle.provisional_cache.proofs.Outcomes.{found_some, found_none}
 use Rattle.lookup.specs.Lookups.{applicable, found}
 use Rattle.lookup.specs.Hits.{hit_of}
-use Rattle.lookup.specs.declared.Hit.{Hit}
-use Rattle.lookup.specs.declared.Hit.TheVariants.{Result, Nothing}
 use Rattle.lookup.specs.declared.Found.TheVariants.{Known, Push}
 
 -- ---- which variant it is
-pub hit_something : (a : Answer) {P : Type 0} → Result a ≡ Nothing → P
-hit_something a e = let z : ◌≡◌ {A = ℕ} 0 1 = cc in absurd (omega arith)
-
 pub known_pushes : (a : Answer) (d : ℕ) {P : Type 0} → Known a ≡ Push d → P
 known_pushes a d e = let z : ◌≡◌ {A = ℕ} 0 1 = cc in absurd (omega arith)
 
@@ -55,17 +47,20 @@ module _ (h : Header) (height n goal : ℕ) (step : PathKind) (available : ℕ) 
   switched_off off =
       sym (ap (λ (t : Bool). switch t (first_match g.stack goal step g.provisional_cache)) (not-true h.provisional off))
 
-  module _ (on : not h.provisional ≡ false) (i : ℕ) (is-i : entry_found h.goals n i bs ≡ first_match (stack_of h.goals height bs) goal step (entries_of h.goals n bs)) where
-    opened : lookup_provisional_cache h g goal step available ≡ use_entry g step available (entry_found h.goals n i bs)
+  module _ (on : not h.provisional ≡ false) (r : Maybe ℕ) (is-r : entry_found h.goals r bs ≡ first_match (stack_of h.goals height bs) goal step (entries_of h.goals n bs)) where
+    opened : lookup_provisional_cache h g goal step available ≡ use_entry g step available (entry_found h.goals r bs)
     opened =
         ap (λ (t : Bool). switch t (first_match g.stack goal step g.provisional_cache)) (not-false h.provisional on)
-        ∙ ap (use_entry g step available) (sym is-i)
+        ∙ ap (use_entry g step available) (sym is-r)
 
-    pub entry_missed : n ≤ i → none ≡ lookup_provisional_cache h g goal step available
-    entry_missed past = sym (opened ∙ ap (use_entry g step available) (found_none h.goals n i bs past))
+    by : (x : Maybe ℕ) → r ≡ x → lookup_provisional_cache h g goal step available ≡ use_entry g step available (entry_found h.goals x bs)
+    by x e = opened ∙ ap (λ (y : Maybe ℕ). use_entry g step available (entry_found h.goals y bs)) e
 
-    pub entry_hit : i < n → (o : Option Outcome) → o ≡ use_entry g step available (some (entry_at h.goals i bs)) → o ≡ lookup_provisional_cache h g goal step available
-    entry_hit under o is-o = is-o ∙ sym (opened ∙ ap (use_entry g step available) (found_some h.goals n i bs under))
+    pub entry_missed : r ≡ None → none ≡ lookup_provisional_cache h g goal step available
+    entry_missed e = sym (by None e)
+
+    pub entry_hit : (i : ℕ) → r ≡ Some i → (o : Option Outcome) → o ≡ use_entry g step available (some (entry_at h.goals i bs)) → o ≡ lookup_provisional_cache h g goal step available
+    entry_hit i e o is-o = is-o ∙ sym (by (Some i) e)
 
 -- ---- `lookup_global_cache`: `first` is the success slot, x whether it applies
 module _ (h : Header) (height n goal : ℕ) (step : PathKind) (available : ℕ) (bs cache : List ℕ) (root : ℕ)
@@ -105,25 +100,25 @@ module _ (h : Header) (height n goal : ℕ) (step : PathKind) (available : ℕ) 
     slots_missed e = sym (tried_again ∙ ap (λ (t : Bool). answered (elim t [ true ↦ some (cache_data second true) | false ↦ none ])) e)
 
 -- ---- `check_cycle_on_stack`
-module _ (h : Header) (height goal : ℕ) (step : PathKind) (available : ℕ) (bs : List ℕ) (place : OnStack)
-    (is_place : on_stack_of place ≡ stack_find (stack_of h.goals height bs) goal) (root n : ℕ) (cache : List ℕ) where
+module _ (h : Header) (height goal : ℕ) (step : PathKind) (available : ℕ) (bs : List ℕ) (place : Maybe OnStack)
+    (is_place : found_of place ≡ stack_find (stack_of h.goals height bs) goal) (root n : ℕ) (cache : List ℕ) where
   abbrev there : Graph
   there = graph_of h.goals root height n bs cache
 
   abbrev closed : Option definition.OnStack → Option Outcome
   closed p = elim p [ none ↦ none | some head ↦ some (close_cycle h there goal step available head) ]
 
-  pub cycle_hit : (i : ℕ) (p : Provisional) → place ≡ At i p → (o : Outcome) → o ≡ close_cycle h there goal step available (record { index = i; provisional_result = provisional_of p }) → some o ≡ check_cycle_on_stack h there goal step available
-  cycle_hit i p e o is-o = ap some is-o ∙ ap closed (sym (ap on_stack_of e) ∙ is_place)
+  pub cycle_hit : (head : OnStack) → place ≡ Some head → (o : Outcome) → o ≡ close_cycle h there goal step available (on_stack_of head) → some o ≡ check_cycle_on_stack h there goal step available
+  cycle_hit head e o is-o = ap some is-o ∙ ap closed (sym (ap found_of e) ∙ is_place)
 
-  pub cycle_missed : place ≡ Nowhere → none ≡ check_cycle_on_stack h there goal step available
-  cycle_missed e = ap closed (sym (ap on_stack_of e) ∙ is_place)
+  pub cycle_missed : place ≡ None → none ≡ check_cycle_on_stack h there goal step available
+  cycle_missed e = ap closed (sym (ap found_of e) ∙ is_place)
 
 -- nothing was found: the goal is on no frame
-pub cycle_off : (h : Header) (g : Graph) (goal : ℕ) (step : PathKind) (available : ℕ) (r : Hit) (x : Graph)
-    → hit_of r x ≡ check_cycle_on_stack h g goal step available → r ≡ Nothing → stack_find g.stack goal ≡ none
+pub cycle_off : (h : Header) (g : Graph) (goal : ℕ) (step : PathKind) (available : ℕ) (r : Maybe Answer) (x : Graph)
+    → hit_of r x ≡ check_cycle_on_stack h g goal step available → r ≡ None → stack_find g.stack goal ≡ none
 cycle_off h g goal step available r x is e =
-    by (stack_find g.stack goal) (sym (ap (λ (p : Hit). hit_of p x) e) ∙ is)
+    by (stack_find g.stack goal) (sym (ap (λ (p : Maybe Answer). hit_of p x) e) ∙ is)
   where
     closes : Option definition.OnStack → Option Outcome
     closes p = elim p [ none ↦ none | some head ↦ some (close_cycle h g goal step available head) ]
@@ -133,11 +128,11 @@ cycle_off h g goal step available r x is e =
     by (some head) q = let z : ◌≡◌ {A = ℕ} 0 1 = cc in absurd (omega arith)
 
 -- ---- `lookup_at_depth`
-hit_known : (o : Option Outcome) (next : Outcome) (r : Hit) (x : Graph) (a : Answer) → hit_of r x ≡ o → r ≡ Result a → unless_found o next ≡ Done x a
-hit_known o next r x a is-o e = ap (λ (p : Option Outcome). unless_found p next) (sym is-o) ∙ ap (λ (p : Hit). unless_found (hit_of p x) next) e
+hit_known : (o : Option Outcome) (next : Outcome) (r : Maybe Answer) (x : Graph) (a : Answer) → hit_of r x ≡ o → r ≡ Some a → unless_found o next ≡ Done x a
+hit_known o next r x a is-o e = ap (λ (p : Option Outcome). unless_found p next) (sym is-o) ∙ ap (λ (p : Maybe Answer). unless_found (hit_of p x) next) e
 
-hit_none : (o : Option Outcome) (next : Outcome) (r : Hit) (x : Graph) → hit_of r x ≡ o → r ≡ Nothing → unless_found o next ≡ next
-hit_none o next r x is-o e = ap (λ (p : Option Outcome). unless_found p next) (sym is-o) ∙ ap (λ (p : Hit). unless_found (hit_of p x) next) e
+hit_none : (o : Option Outcome) (next : Outcome) (r : Maybe Answer) (x : Graph) → hit_of r x ≡ o → r ≡ None → unless_found o next ≡ next
+hit_none o next r x is-o e = ap (λ (p : Option Outcome). unless_found p next) (sym is-o) ∙ ap (λ (p : Maybe Answer). unless_found (hit_of p x) next) e
 
 module _ (h : Header) (height n goal : ℕ) (step : PathKind) (available : ℕ) (cache : List ℕ) (root : ℕ) (compute : ℕ → Graph → Outcome) where
   abbrev at : List ℕ → Graph
@@ -155,36 +150,36 @@ module _ (h : Header) (height n goal : ℕ) (step : PathKind) (available : ℕ) 
   abbrev whole : List ℕ → Outcome
   whole bs = evaluate_at_depth h compute (at bs) goal step available
 
-  module _ (b0 b1 : List ℕ) (r1 : Hit) (is-1 : hit_of r1 (at b1) ≡ lookup_provisional_cache h (at b0) goal step available) where
-    pub at_entry : (a : Answer) → r1 ≡ Result a → whole b0 ≡ found h compute goal step (Known a) (at b1)
+  module _ (b0 b1 : List ℕ) (r1 : Maybe Answer) (is-1 : hit_of r1 (at b1) ≡ lookup_provisional_cache h (at b0) goal step available) where
+    pub at_entry : (a : Answer) → r1 ≡ Some a → whole b0 ≡ found h compute goal step (Known a) (at b1)
     unfolding found
     at_entry a e = hit_known (lookup_provisional_cache h (at b0) goal step available) (second b0) r1 (at b1) a is-1 e
 
-    module _ (miss-1 : r1 ≡ Nothing) (same-1 : b1 ≡ b0) where
+    module _ (miss-1 : r1 ≡ None) (same-1 : b1 ≡ b0) where
       past_entries : whole b0 ≡ second b1
       past_entries = hit_none (lookup_provisional_cache h (at b0) goal step available) (second b0) r1 (at b1) is-1 miss-1 ∙ ap second (sym same-1)
 
-      module _ (b2 : List ℕ) (r2 : Hit) (is-2 : hit_of r2 (at b2) ≡ lookup_global_cache h (at b1) goal step available) where
-        pub at_slot : (a : Answer) → r2 ≡ Result a → whole b0 ≡ found h compute goal step (Known a) (at b2)
+      module _ (b2 : List ℕ) (r2 : Maybe Answer) (is-2 : hit_of r2 (at b2) ≡ lookup_global_cache h (at b1) goal step available) where
+        pub at_slot : (a : Answer) → r2 ≡ Some a → whole b0 ≡ found h compute goal step (Known a) (at b2)
         unfolding found
         at_slot a e = past_entries ∙ hit_known (lookup_global_cache h (at b1) goal step available) (third b1) r2 (at b2) a is-2 e
 
-        module _ (miss-2 : r2 ≡ Nothing) (same-2 : b2 ≡ b1) where
+        module _ (miss-2 : r2 ≡ None) (same-2 : b2 ≡ b1) where
           past_slots : whole b0 ≡ third b2
           past_slots = past_entries ∙ hit_none (lookup_global_cache h (at b1) goal step available) (third b1) r2 (at b2) is-2 miss-2 ∙ ap third (sym same-2)
 
-          module _ (b3 : List ℕ) (r3 : Hit) (is-3 : hit_of r3 (at b3) ≡ check_cycle_on_stack h (at b2) goal step available) where
-            pub at_cycle : (a : Answer) → r3 ≡ Result a → whole b0 ≡ found h compute goal step (Known a) (at b3)
+          module _ (b3 : List ℕ) (r3 : Maybe Answer) (is-3 : hit_of r3 (at b3) ≡ check_cycle_on_stack h (at b2) goal step available) where
+            pub at_cycle : (a : Answer) → r3 ≡ Some a → whole b0 ≡ found h compute goal step (Known a) (at b3)
             unfolding found
             at_cycle a e = past_slots ∙ hit_known (check_cycle_on_stack h (at b2) goal step available) (pushed b2) r3 (at b3) a is-3 e
 
-            pub at_push : r3 ≡ Nothing → b3 ≡ b2 → whole b0 ≡ found h compute goal step (Push available) (at b3)
+            pub at_push : r3 ≡ None → b3 ≡ b2 → whole b0 ≡ found h compute goal step (Push available) (at b3)
             unfolding found
             at_push e same-3 = past_slots ∙ hit_none (check_cycle_on_stack h (at b2) goal step available) (pushed b2) r3 (at b3) is-3 e ∙ ap pushed (sym same-3)
 
 -- ---- `lookup`
-module _ (h : Header) (root height n goal : ℕ) (step : PathKind) (lower : Bool) (old cache : List ℕ) (depth : Depth)
-    (is-depth : depth_of depth ≡ allowed_depth_for_nested h root (stack_of h.goals height old) lower) (compute : ℕ → Graph → Outcome) where
+module _ (h : Header) (root height n goal : ℕ) (step : PathKind) (lower : Bool) (old cache : List ℕ) (depth : Maybe ℕ)
+    (is-depth : maybe_of depth ≡ allowed_depth_for_nested h root (stack_of h.goals height old) lower) (compute : ℕ → Graph → Outcome) where
   abbrev start : Graph
   start = graph_of h.goals root height n old cache
 
@@ -195,12 +190,12 @@ module _ (h : Header) (root height n goal : ℕ) (step : PathKind) (lower : Bool
         | some available ↦ evaluate_at_depth h compute start goal step available
       ]
 
-  pub depth_allowed : (d : ℕ) → depth ≡ Allowed d → evaluate_goal_with h compute start goal step lower ≡ evaluate_at_depth h compute start goal step d
-  depth_allowed d e = ap goes (sym is-depth ∙ ap depth_of e)
+  pub depth_allowed : (d : ℕ) → depth ≡ Some d → evaluate_goal_with h compute start goal step lower ≡ evaluate_at_depth h compute start goal step d
+  depth_allowed d e = ap goes (sym is-depth ∙ ap maybe_of e)
 
-  pub depth_overflow : depth ≡ Overflow → (new : List ℕ) → stack_of h.goals height new ≡ handle_overflow (stack_of h.goals height old) → ((k : ℕ) → entries_of h.goals k new ≡ entries_of h.goals k old)
+  pub depth_overflow : depth ≡ None → (new : List ℕ) → stack_of h.goals height new ≡ handle_overflow (stack_of h.goals height old) → ((k : ℕ) → entries_of h.goals k new ≡ entries_of h.goals k old)
       → evaluate_goal_with h compute start goal step lower ≡ found h compute goal step (Known answer.Overflow) (graph_of h.goals root height n new cache)
   unfolding found
   depth_overflow e new s es =
-      ap goes (sym is-depth ∙ ap depth_of e)
+      ap goes (sym is-depth ∙ ap maybe_of e)
       ∙ (λ t. Done (record { root_depth = root; stack = sym s t; provisional_cache = sym (es n) t; global_cache = cache }) answer.Overflow)

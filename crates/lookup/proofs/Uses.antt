@@ -20,8 +20,9 @@ use Rattle.definition.specs.GlobalCache.{slot_result, slot_depth, slot_nested, c
 use Rattle.definition.specs.Lookup.{use_entry, use_cache_data, cycle_result, close_cycle}
 use Rattle.layout.specs.Entry.{entry_of}
 use Rattle.layout.specs.Work.{stack_of, entries_of, graph_of}
-use Rattle.stack.specs.Results.{provisional_of}
-use Rattle.stack.specs.declared.frame.Provisional.{Provisional}
+use Rattle.definition.specs.Options.{maybe_of}
+use Rattle.stack.specs.Results.{on_stack_of}
+use Rattle.stack.specs.declared.OnStack.{OnStack}
 use Rattle.provisional_cache.specs.Entries.{entry_bytes, entry_at}
 
 -- the first usage of a head
@@ -58,13 +59,13 @@ module _ (h : Header) (height : ℕ) (old new : List ℕ) (step : PathKind) (ava
       λ t. some (Done (record { root_depth = root; stack = s t; provisional_cache = es n t; global_cache = cache }) (is_answer t))
 
   -- ---- `close_cycle`
-  pub cycle_closed : (goal head : ℕ) (p : Provisional) (kind : PathKind) (answer : Answer) → kind ≡ cycle_path_kind (stack_of h.goals height old) step head → answer ≡ cycle_result (provisional_of p) kind
-      → stack_of h.goals height new ≡ update_parent_goal (stack_of h.goals height old) step (insert_head (no_heads h.goals) head (flag_of step) (one_usage kind)) false (CycleOnStack goal) available
-      → (root n : ℕ) (cache : List ℕ) → Done (graph_of h.goals root height n new cache) answer ≡ close_cycle h (graph_of h.goals root height n old cache) goal step available (record { index = head; provisional_result = provisional_of p })
-  cycle_closed goal head p kind answer is-kind is_answer stack root n cache =
-      let u : one_usage kind ≡ add_usage no_usages (cycle_path_kind (stack_of h.goals height old) step head) = one_first kind ∙ ap (add_usage no_usages) is-kind in
-      let a = is_answer ∙ ap (cycle_result (provisional_of p)) is-kind in
+  pub cycle_closed : (goal : ℕ) (head : OnStack) (kind : PathKind) (answer : Answer) → kind ≡ cycle_path_kind (stack_of h.goals height old) step head.index → answer ≡ cycle_result (maybe_of head.provisional_result) kind
+      → stack_of h.goals height new ≡ update_parent_goal (stack_of h.goals height old) step (insert_head (no_heads h.goals) head.index (flag_of step) (one_usage kind)) false (CycleOnStack goal) available
+      → (root n : ℕ) (cache : List ℕ) → Done (graph_of h.goals root height n new cache) answer ≡ close_cycle h (graph_of h.goals root height n old cache) goal step available (on_stack_of head)
+  cycle_closed goal head kind answer is-kind is_answer stack root n cache =
+      let u : one_usage kind ≡ add_usage no_usages (cycle_path_kind (stack_of h.goals height old) step head.index) = one_first kind ∙ ap (add_usage no_usages) is-kind in
+      let a = is_answer ∙ ap (cycle_result (maybe_of head.provisional_result)) is-kind in
       let s =
       stack
-      ∙ ap (λ (x : HeadUsages). update_parent_goal (stack_of h.goals height old) step (insert_head (no_heads h.goals) head (flag_of step) x) false (CycleOnStack goal) available) u in
+      ∙ ap (λ (x : HeadUsages). update_parent_goal (stack_of h.goals height old) step (insert_head (no_heads h.goals) head.index (flag_of step) x) false (CycleOnStack goal) available) u in
       λ t. Done (record { root_depth = root; stack = s t; provisional_cache = es n t; global_cache = cache }) (a t)

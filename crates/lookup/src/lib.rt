@@ -4,15 +4,14 @@
 
 ghost use Rattle.std.specs.Prelude.{◌≡◌, ◌*◌, ◌<◌, ◌≤◌};
 ghost use Rattle.definition.specs.Lookup.{cycle_result};
+ghost use Rattle.definition.specs.Options.{maybe_of};
 ghost use Rattle.layout.specs.Work.{stack_of};
 ghost use Rattle.stack.specs.Bytes.{GraphBytes, StackBytes};
 ghost use Rattle.stack.specs.Places.{Placed};
-ghost use Rattle.stack.specs.Results.{provisional_of};
 ghost use Rattle.lookup.specs.Lookups.{Counted, AskedAt, Asked, applicable, overflow_applies, success_applies};
 ghost use Rattle.lookup.specs.Hits.{EntryUsed, EntriesTried, SlotUsed, SlotsTried, CycleClosed, StackTried};
 ghost use Rattle.lookup.specs.Answers.{AnsweredAt, Answered};
 
-use buffer::scalars;
 use definition::answers::Answer;
 use definition::format::Header;
 use definition::paths::PathKind;
@@ -20,17 +19,10 @@ use global_cache::slot;
 use layout::nested;
 use provisional_cache::entry;
 use stack::OnStack;
-use stack::frame::{Depth, Provisional};
 
-// What one lookup finds.
-#[derive(Clone, Copy)]
-pub enum Hit {
-    Result(Answer),
-    Nothing,
-}
-
-// The goal's answer, or the available depth of the frame to push.
-#[derive(Clone, Copy)]
+// The goal's answer, or the available depth of the frame to push. Neither is an error or an
+// absence, so that names of their own say more than a Result or an Option.
+#[derive(Debug, Clone, Copy, PartialEq, Eq)]
 pub enum Found {
     Known(Answer),
     Push(usize),
@@ -65,19 +57,16 @@ pub fn lookup_provisional_cache(
     goal: usize,
     step: PathKind,
     available: usize,
-) -> Hit
+) -> Option<Answer>
     requires { Counted h.goals height entries graph.old }
     ensures { EntriesTried h height entries goal step available
         graph.old graph.new result }
 {
     if !h.provisional {
-        return Hit::Nothing;
+        return None;
     }
-    let i = provisional_cache::first_match(graph, h.goals, height, entries, goal, step);
-    if entries <= i {
-        return Hit::Nothing;
-    }
-    Hit::Result(use_entry(graph, h.goals, height, step, available, i))
+    let i = provisional_cache::first_match(graph, h.goals, height, entries, goal, step)?;
+    Some(use_entry(graph, h.goals, height, step, available, i))
 }
 
 // ---- lookup_global_cache
@@ -118,11 +107,8 @@ fn overflow_applies(
     requires { Counted goals height entries graph.now }
     ensures { result ≡ overflow_applies goals height entries graph.now step s.now }
 {
-    if !slot::is_held(s) {
-        return false;
-    }
-    let nested = slot::nested_of(s);
-    candidate_is_applicable(graph, goals, height, entries, step, nested)
+    slot::is_held(s)
+        && candidate_is_applicable(graph, goals, height, entries, step, slot::nested_of(s))
 }
 
 // Whether the success slot is held, needs no more than the available depth and applies.
@@ -138,14 +124,9 @@ fn success_applies(
     requires { Counted goals height entries graph.now }
     ensures { result ≡ success_applies goals height entries graph.now step available s.now }
 {
-    if !slot::is_held(s) {
-        return false;
-    }
-    if available < slot::depth_of(s) {
-        return false;
-    }
-    let nested = slot::nested_of(s);
-    candidate_is_applicable(graph, goals, height, entries, step, nested)
+    slot::is_held(s)
+        && slot::depth_of(s) <= available
+        && candidate_is_applicable(graph, goals, height, entries, step, slot::nested_of(s))
 }
 
 // The slot answers the goal.
@@ -162,7 +143,7 @@ fn use_slot(
     ensures { SlotUsed h height step available s.now overflow
         graph.old graph.new result }
 {
-    let reached = scalars::minus(available, slot::depth_of(s));
+    let reached = available.saturating_sub(slot::depth_of(s));
     let nested = slot::nested_of(s);
     parent::update_from_slot(graph, h.goals, height, step, overflow, nested, reached);
     slot::result_of(s)
@@ -177,35 +158,32 @@ pub fn lookup_global_cache(
     goal: usize,
     step: PathKind,
     available: usize,
-) -> Hit
+) -> Option<Answer>
     requires { AskedAt h cache.now graph.old height entries goal available }
     ensures { SlotsTried h height entries goal step available cache.now
         graph.old graph.new result }
 {
     let success = global_cache::slot_at(cache, h.goals, h.top, goal, 0);
     if success_applies(success, graph, h.goals, height, entries, step, available) {
-        return Hit::Result(use_slot(success, graph, h, height, step, available, false));
+        return Some(use_slot(success, graph, h, height, step, available, false));
     }
     let overflow = global_cache::slot_at(cache, h.goals, h.top, goal, available + 1);
     if overflow_applies(overflow, graph, h.goals, height, entries, step) {
-        return Hit::Result(use_slot(overflow, graph, h, height, step, available, true));
+        return Some(use_slot(overflow, graph, h, height, step, available, true));
     }
-    Hit::Nothing
+    None
 }
 
 // ---- check_cycle_on_stack
 
 // The provisional result, or the initial one in the first iteration.
-fn cycle_result(provisional: Provisional, kind: PathKind) -> Answer
-    ensures { result ≡ cycle_result (provisional_of provisional) kind }
+fn cycle_result(provisional: Option<Answer>, kind: PathKind) -> Answer
+    ensures { result ≡ cycle_result (maybe_of provisional) kind }
 {
-    match provisional {
-        Provisional::Result(answer) => answer,
-        Provisional::NoResult => Answer::initial_result(kind),
-    }
+    provisional.unwrap_or(Answer::initial_result(kind))
 }
 
-// The goal is on the stack, at index `head`: a cycle. It counts in the kind of the whole way
+// The goal is on the stack, in the frame `head`: a cycle. It counts in the kind of the whole way
 // round, not in that of its last step.
 fn close_cycle(
     graph: &mut [u8],
@@ -214,16 +192,16 @@ fn close_cycle(
     goal: usize,
     step: PathKind,
     available: usize,
-    head: usize,
-    provisional: Provisional,
+    head: OnStack,
 ) -> Answer
-    requires { StackBytes h.goals height graph.old × (head < height) }
-    ensures { CycleClosed h height goal step available head provisional
-        graph.old graph.new result }
+    requires { StackBytes h.goals height graph.old × (head.index < height) }
+    ensures { CycleClosed h height goal step available head graph.old graph.new result }
 {
-    let kind = stack::cycle_path_kind(graph, h.goals, height, step, head);
-    parent::update_from_cycle(graph, h.goals, height, step, head, kind, goal, available);
-    cycle_result(provisional, kind)
+    let kind = stack::cycle_path_kind(graph, h.goals, height, step, head.index);
+    parent::update_from_cycle(
+        graph, h.goals, height, step, head.index, kind, goal, available,
+    );
+    cycle_result(head.provisional_result, kind)
 }
 
 pub fn check_cycle_on_stack(
@@ -234,17 +212,13 @@ pub fn check_cycle_on_stack(
     goal: usize,
     step: PathKind,
     available: usize,
-) -> Hit
+) -> Option<Answer>
     requires stack_bytes { StackBytes h.goals height graph.old × (goal < h.goals) }
     requires placed { Placed (stack_of h.goals height graph.old) places.now }
     ensures { StackTried h height goal step available graph.old graph.new result }
 {
-    let place = stack::find(graph, h.goals, places, height, goal);
-    if let OnStack::At(head, provisional) = place {
-        let answer = close_cycle(graph, h, height, goal, step, available, head, provisional);
-        return Hit::Result(answer);
-    }
-    Hit::Nothing
+    let head = stack::find(graph, h.goals, places, height, goal)?;
+    Some(close_cycle(graph, h, height, goal, step, available, head))
 }
 
 // ---- all of them
@@ -266,15 +240,15 @@ fn lookup_at_depth(
         graph.old graph.new result }
 {
     let provisional = lookup_provisional_cache(graph, h, height, entries, goal, step, available);
-    if let Hit::Result(answer) = provisional {
+    if let Some(answer) = provisional {
         return Found::Known(answer);
     }
     let global = lookup_global_cache(cache, graph, h, height, entries, goal, step, available);
-    if let Hit::Result(answer) = global {
+    if let Some(answer) = global {
         return Found::Known(answer);
     }
     let cycle = check_cycle_on_stack(graph, places, h, height, goal, step, available);
-    if let Hit::Result(answer) = cycle {
+    if let Some(answer) = cycle {
         return Found::Known(answer);
     }
     Found::Push(available)
@@ -298,7 +272,7 @@ pub fn lookup(
         graph.old graph.new result }
 {
     let depth = stack::allowed_depth_for_nested(graph, h.goals, h.divisor, root, height, lower);
-    if let Depth::Allowed(available) = depth {
+    if let Some(available) = depth {
         return lookup_at_depth(
             cache, graph, places, h, height, entries, goal, step, available,
         );

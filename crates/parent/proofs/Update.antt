@@ -25,7 +25,7 @@ use Rattle.layout.specs.Frame.{frame_size, frame_of}
 use Rattle.layout.specs.Entry.{entry_heads_start, entry_size, entry_of}
 use Rattle.layout.specs.Work.{frame_start, entries_start, entry_start, graph_length, stack_of}
 use Rattle.layout.proofs.Frames.{length_heads}
-use Rattle.layout.proofs.Graphs.{length_stack, entry_room, frame_room}
+use Rattle.layout.proofs.Graphs.{length_stack, entry_room}
 use Rattle.layout.proofs.Marks.{keep, Within}
 use Rattle.layout.proofs.Marks as marks
 use Rattle.layout.proofs.Present.{head_known}
@@ -36,7 +36,7 @@ use Rattle.stack.specs.Child.{add_head_at}
 use Rattle.stack.specs.Written.{TopWritten}
 use Rattle.parent.specs.Updated.{Updated}
 use Rattle.parent.proofs.Heads.{one_head, no_head_lem}
-use Rattle.parent.proofs.Top.{top_frame, top_again, top_same, top_kept}
+use Rattle.parent.proofs.Top.{top_frame, top_again, top_same}
 
 -- ---- the block of heads
 pub block_is : (goals start size : ℕ) (bs : List ℕ) → size ≡ heads_size goals → part bs start (start + size) ≡ region start (heads_size goals) bs
@@ -69,8 +69,8 @@ module _ (left i : ℕ) (pos : 0 < left) (small : left < 2 ^ 64) (is : i ≡ pla
   turn_within = marks.turn_within cs left i pos small within is
 
 -- after the last turn
-pub loop_last : (step : PathKind) (own left : ℕ) (cs : CycleHeads) (f whole : Frame) → left ≤ 0 → add_heads step own (keep (flags 64 left) cs) f ≡ whole → f ≡ whole
-loop_last step own left cs f whole h rest = sym (no_head_lem step own (keep (flags 64 left) cs) f (marks.end_none cs left h)) ∙ rest
+pub loop_last : (step : PathKind) (own left : ℕ) (cs : CycleHeads) (f whole : Frame) → left ≡ 0 → add_heads step own (keep (flags 64 left) cs) f ≡ whole → f ≡ whole
+loop_last step own left cs f whole h rest = sym (no_head_lem step own (keep (flags 64 left) cs) f (marks.end_none cs left (omega arith))) ∙ rest
 
 -- ---- the stack
 -- the frame below the one at `height`
@@ -91,6 +91,11 @@ module _ (goals height : ℕ) (bs : List ℕ) (step : PathKind) (hs : CycleHeads
       ∙ ap (λ (n : ℕ). add_rest step o ctxt r (add_heads step n hs (frame_at goals (height - 1) bs)) ∷ stack_of goals (height - 1) bs) (sym (length_stack goals (height - 1) bs))
       ∙ sym (ap (λ (s : Stack). update_parent_goal s step hs o ctxt r) (top goals bs height pos))
 
+  -- in one step
+  pub update_once : (out : List ℕ) → 0 < height → TopWritten goals (height - 1) (add_rest step o ctxt r (add_heads step (height - 1) hs (frame_at goals (height - 1) bs))) bs out
+      → Updated goals height step hs o ctxt r bs out
+  update_once out pos w = record { stack = update_top out pos w; entries = w.entries; above = w.above (frame_start goals height) (frame_size goals) (below_ends goals height pos) }
+
   -- the heads, then the rest
   pub update_both : (mid out : List ℕ) → 0 < height → TopWritten goals (height - 1) (add_heads step (height - 1) hs (frame_at goals (height - 1) bs)) bs mid
       → TopWritten goals (height - 1) (add_rest step o ctxt r (frame_at goals (height - 1) mid)) mid out
@@ -98,13 +103,7 @@ module _ (goals height : ℕ) (bs : List ℕ) (step : PathKind) (hs : CycleHeads
   update_both mid out pos w v =
       let f : Frame = add_heads step (height - 1) hs (frame_at goals (height - 1) bs) in
       let g : Frame = add_rest step o ctxt r (frame_at goals (height - 1) mid) in
-      let a = top_again goals (height - 1) f bs mid w g out v in
-      let e : g ≡ add_rest step o ctxt r f = ap (add_rest step o ctxt r) (top_frame goals (height - 1) f bs mid w) in
-      record {
-        stack = update_top out pos (top_same goals (height - 1) g bs out a (add_rest step o ctxt r f) e);
-        entries = a.entries;
-        above = a.above (frame_start goals height) (frame_size goals) (below_ends goals height pos);
-      }
+      update_once out pos (top_same goals (height - 1) g bs out (top_again goals (height - 1) f bs mid w g out v) (add_rest step o ctxt r f) (ap (add_rest step o ctxt r) (top_frame goals (height - 1) f bs mid w)))
 
 -- ---- no head: a slot
 pub update_slot : (goals height : ℕ) (bs out : List ℕ) (step : PathKind) (o : Bool) (ctxt : UpdateParentGoalCtxt) (r : ℕ) → 0 < height
@@ -112,8 +111,9 @@ pub update_slot : (goals height : ℕ) (bs out : List ℕ) (step : PathKind) (o 
     → Updated goals height step (no_heads goals) o ctxt r bs out
 update_slot goals height bs out step o ctxt r pos v =
     let f : Frame = frame_at goals (height - 1) bs in
-    update_both goals height bs step (no_heads goals) o ctxt r bs out pos
-    (top_same goals (height - 1) f bs bs (top_kept goals (height - 1) bs) (add_heads step (height - 1) (no_heads goals) f) (sym (no_head_lem step (height - 1) (no_heads goals) f (only none goals)))) v
+    let rest : Frame → Frame = add_rest step o ctxt r in
+    update_once goals height bs step (no_heads goals) o ctxt r out pos
+    (top_same goals (height - 1) (rest f) bs out v (rest (add_heads step (height - 1) (no_heads goals) f)) (ap rest (sym (no_head_lem step (height - 1) (no_heads goals) f (only none goals)))))
 
 -- ---- one head: a goal on the stack
 module _ (goals head : ℕ) (lt : head < goals) (step : PathKind) (own : ℕ) (c : CycleHead) (f : Frame) where
@@ -164,35 +164,22 @@ update_entry goals height i start bs mid out step o r pos e w v =
     update_both goals height bs step hs o ProvisionalCacheHit r mid out pos
     (top_same goals (height - 1) (add_heads step (height - 1) was f) bs mid w (add_heads step (height - 1) hs f) (ap (λ (l : CycleHeads). add_heads step (height - 1) l f) same)) v
 
-pub update_cycle : (goals height head goal : ℕ) (bs mid out : List ℕ) (step : PathKind) (u : HeadUsages) (r : ℕ) → head < height → height ≤ goals
-    → TopWritten goals (height - 1) (add_head_at step (height - 1) head (record { paths = flag_of step; usages = u }) (frame_at goals (height - 1) bs)) bs mid
-    → TopWritten goals (height - 1) (add_rest step false (CycleOnStack goal) r (frame_at goals (height - 1) mid)) mid out
+pub update_cycle : (goals height head goal : ℕ) (bs out : List ℕ) (step : PathKind) (u : HeadUsages) (r : ℕ) → head < height → height ≤ goals
+    → TopWritten goals (height - 1) (add_rest step false (CycleOnStack goal) r (add_head_at step (height - 1) head (record { paths = flag_of step; usages = u }) (frame_at goals (height - 1) bs))) bs out
     → Updated goals height step (insert_head (no_heads goals) head (flag_of step) u) false (CycleOnStack goal) r bs out
-update_cycle goals height head goal bs mid out step u r lt le w v =
+update_cycle goals height head goal bs out step u r lt le w =
     let f : Frame = frame_at goals (height - 1) bs in
     let c : CycleHead = record { paths = flag_of step; usages = u } in
     let hs : CycleHeads = insert_head (no_heads goals) head (flag_of step) u in
+    let rest : Frame → Frame = add_rest step false (CycleOnStack goal) r in
     let inside : head < goals = omega arith in
-    update_both goals height bs step hs false (CycleOnStack goal) r mid out (omega arith)
-    (top_same goals (height - 1) (add_head_at step (height - 1) head c f) bs mid w (add_heads step (height - 1) hs f) (cycle_heads goals head inside step (height - 1) c f (flag_of step) u refl)) v
+    update_once goals height bs step hs false (CycleOnStack goal) r out (omega arith)
+    (top_same goals (height - 1) (rest (add_head_at step (height - 1) head c f)) bs out w (rest (add_heads step (height - 1) hs f)) (ap rest (cycle_heads goals head inside step (height - 1) c f (flag_of step) u refl)))
 
 -- ---- the heads of the frame above
 pub frame_heads_at : (goals : ℕ) (bs : List ℕ) (i : ℕ) → heads_of goals (region (frame_start goals i + 40) (heads_size goals) bs) ≡ (frame_at goals i bs).heads
 unfolding frame_of
 frame_heads_at goals bs i = sym (ap (heads_of goals) (region_region (frame_start goals i) (frame_size goals) 40 (heads_size goals) bs (omega arith)))
-
-further : (x y : ℕ) → x ≤ y → x ≤ y + 40
-further x y h = omega arith
-
-deeper : (a e h n : ℕ) → 40 + h ≤ e → a + e ≤ n → a + 40 + h ≤ n
-deeper a e h n q l = omega arith
-
-pub frame_behind : (goals height start : ℕ) → 0 < height → start ≡ frame_start goals height + 40 → frame_start goals (height - 1) + frame_size goals ≤ start
-frame_behind goals height start pos e = subst (λ (x : ℕ). frame_start goals (height - 1) + frame_size goals ≤ x) (sym e) (further (frame_start goals (height - 1) + frame_size goals) (frame_start goals height) (below_ends goals height pos))
-
-pub frame_fits : (goals : ℕ) (bs : List ℕ) (height start : ℕ) → length bs ≡ graph_length goals → height < goals → start ≡ frame_start goals height + 40 → start + heads_size goals ≤ length bs
-frame_fits goals bs height start long lt e =
-    subst (λ (x : ℕ). x + heads_size goals ≤ length bs) (sym e) (deeper (frame_start goals height) (frame_size goals) (heads_size goals) (length bs) (omega arith) (frame_room goals bs long height lt))
 
 pub update_frame : (goals height start : ℕ) (bs mid out : List ℕ) (step : PathKind) (o : Bool) (ctxt : UpdateParentGoalCtxt) (r : ℕ) → 0 < height → start ≡ frame_start goals height + 40
     → TopWritten goals (height - 1) (add_heads step (height - 1) (heads_of goals (region start (heads_size goals) bs)) (frame_at goals (height - 1) bs)) bs mid

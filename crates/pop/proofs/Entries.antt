@@ -1,6 +1,6 @@
 -- Entry k after the popped frame, by the ways through the code.
 use mathlib.Core.Path.{◌≡◌, refl, sym, ap, ap₂, ◌∙◌}
-use mathlib.Core.Bool.{Bool, true, false, not, ◌&&◌}
+use mathlib.Core.Bool.{Bool, true, false, not}
 use mathlib.Core.Option.{Option, none, some, none-ne-some, some-ne-none}
 use mathlib.Core.List.{List, [], ◌∷◌}
 use Prim.Native.Nat.{ℕ, suc, ◌≤◌, ◌<◌}
@@ -9,40 +9,19 @@ use borrow.Author.Tests.{eq-eqb, ne_eqb, not-true, not-false}
 use lib.Dec.{eqb}
 use lib.ListN.{length}
 use Rattle.definition.specs.declared.paths.PathKind.{PathKind}
-use Rattle.definition.specs.declared.usages.HeadUsages.{HeadUsages}
-use Rattle.definition.specs.declared.heads.CycleHead.{CycleHead}
-use Rattle.definition.specs.declared.answers.Answer.{Answer}
-use Rattle.definition.specs.declared.endings.Fixpoint.{Fixpoint}
-use Rattle.definition.specs.declared.endings.Fixpoint.TheVariants.{First}
 use Rattle.definition.specs.declared.endings.RebaseReason.{RebaseReason}
-use Rattle.definition.specs.declared.endings.RebaseReason.TheVariants.{Ambiguity, ReachedFixpoint}
-use Rattle.definition.specs.Paths.{extend, extend_with_paths, empty_path}
-use Rattle.definition.specs.Usages.{no_usages, is_empty, is_single}
-use Rattle.definition.specs.Answers.{same_answer, is_ambiguous}
+use Rattle.definition.specs.Paths.{extend}
 use Rattle.definition.specs.Heads.{CycleHeads, opt_highest_index, heads_empty, highest_index, usages_at, paths_at}
-use Rattle.definition.specs.Heads.{remove_head, for_each_head}
 use Rattle.definition.specs.Stack.{Stack, Frame, cycle_path_kind}
 use Rattle.definition.specs.Graph.{Entry, with_entry_heads, with_path_from_head}
-use Rattle.definition.specs.ProvisionalCache.{unused_head, head_through, paths_keep_kind, fixpoint_keeps, reason_keeps, rebased_heads}
+use Rattle.definition.specs.ProvisionalCache.{rebased_heads}
 use Rattle.definition.specs.ProvisionalCache.{under_new_head, rebase_entry}
 use Rattle.layout.specs.Frame.{frame_size}
 use Rattle.layout.specs.Work.{entry_from}
 use Rattle.provisional_cache.specs.Entries.{without_head}
-use Rattle.pop.specs.Heads.{gained_head, gain_head, with_gained, gained_entry, replaced_entry}
+use Rattle.pop.specs.Heads.{with_gained, gained_entry, replaced_entry}
 use Rattle.pop.specs.Rebased.{under_heads, kept_entry, EntryWritten}
 use Rattle.pop.proofs.Writes.{others_then, frame_after}
-
--- ---- `gained`
-module _ (used : Bool) (ep : ℕ) (head : CycleHead) (paths : ℕ) where
-  pub gained_through : used ≡ true → paths ≡ extend_with_paths ep head.paths
-      → record { paths = paths; usages = head.usages } ≡ gained_head used ep head
-  gained_through t is =
-      (λ i. record { paths = is i; usages = head.usages }) ∙ sym (ap (λ (x : Bool). gained_head x ep head) t)
-
-  pub gained_unused : used ≡ false → paths ≡ empty_path → (u : HeadUsages) → u ≡ no_usages
-      → record { paths = paths; usages = u } ≡ gained_head used ep head
-  gained_unused t is u is-u =
-      (λ i. record { paths = is i; usages = is-u i }) ∙ sym (ap (λ (x : Bool). gained_head x ep head) t)
 
 -- ---- `replace_head`: the head is taken out, then the heads of the popped frame are gained
 pub replaced : (goals base popped k : ℕ) (used : Bool) (ep : ℕ) (old mid new : List ℕ) → frame_size goals ≤ base
@@ -56,87 +35,6 @@ replaced goals base popped k used ep old mid new wide first second =
           (frame_after goals base old mid wide first.others.below);
       others = others_then goals base k old mid new first.others second.others;
     }
-
--- ---- `reason_keeps`
-module _ (reason : RebaseReason) (kind result : Answer) (u : HeadUsages) (is : reason ≡ Ambiguity kind) (t : Bool)
-    (is-t : t ≡ is_ambiguous result) where
-  reason_open : (t && same_answer result kind) ≡ reason_keeps reason result u
-  reason_open =
-      ap (λ (x : Bool). x && same_answer result kind) is-t ∙ sym (ap (λ (x : RebaseReason). reason_keeps x result u) is)
-
-  pub reason_same : t ≡ true → (r : Bool) → r ≡ same_answer result kind → r ≡ reason_keeps reason result u
-  reason_same e r is-r = is-r ∙ sym (ap (λ (x : Bool). x && same_answer result kind) e) ∙ reason_open
-
-pub fixpoint_first : (fixpoint : Fixpoint) (kind : PathKind) (u : HeadUsages) → fixpoint ≡ First kind
-    → (r : Bool) → r ≡ is_single u kind → r ≡ fixpoint_keeps fixpoint u
-fixpoint_first fixpoint kind u is r is-r = is-r ∙ sym (ap (λ (x : Fixpoint). fixpoint_keeps x u) is)
-
-pub reason_fixpoint : (reason : RebaseReason) (fixpoint : Fixpoint) (result : Answer) (u : HeadUsages)
-    → reason ≡ ReachedFixpoint fixpoint → (r : Bool) → r ≡ fixpoint_keeps fixpoint u → r ≡ reason_keeps reason result u
-reason_fixpoint reason fixpoint result u is r is-r = is-r ∙ sym (ap (λ (x : RebaseReason). reason_keeps x result u) is)
-
--- ---- `stays`, of an entry e0 that is e
-module _ (s : Stack) (p : Frame) (reason : RebaseReason) (u : HeadUsages) (ep : ℕ) (e0 e : Entry) (is-e : e0 ≡ e)
-    (k : PathKind) (is-k : k ≡ e0.path_from_head) (r : Bool)
-    (is-r : r ≡ paths_keep_kind s p.step_kind_from_parent k ep 0 p.heads) where
-  abbrev both : Bool → Bool
-  both t = t && reason_keeps reason e.result u
-
-  stays_open : both r ≡ both (paths_keep_kind s p.step_kind_from_parent e.path_from_head ep 0 p.heads)
-  stays_open =
-      ap both (is-r ∙ ap (λ (x : PathKind). paths_keep_kind s p.step_kind_from_parent x ep 0 p.heads) (is-k ∙ ap (λ (x : Entry). x.path_from_head) is-e))
-
-  pub stays_not : not r ≡ true
-      → false ≡ both (paths_keep_kind s p.step_kind_from_parent e.path_from_head ep 0 p.heads)
-  stays_not d = sym (ap both (not-true r d)) ∙ stays_open
-
-  pub stays_by : not r ≡ false → (a : Answer) → a ≡ e0.result → (t : Bool) → t ≡ reason_keeps reason a u
-      → t ≡ both (paths_keep_kind s p.step_kind_from_parent e.path_from_head ep 0 p.heads)
-  stays_by d a is-a t is-t =
-      is-t ∙ ap (λ (x : Answer). reason_keeps reason x u) (is-a ∙ ap (λ (x : Entry). x.result) is-e)
-      ∙ sym (ap both (not-false r d)) ∙ stays_open
-
--- ---- `rebase_heads`
-module _ (s : Stack) (p : Frame) (reason : RebaseReason) (e : Entry) (popped : ℕ) (high : length s ≡ popped)
-    (u : HeadUsages) (ep : ℕ) where
-  abbrev heads_by : Bool → Bool → Option CycleHeads
-  heads_by t v =
-      elim t [
-        | true ↦ some (for_each_head unused_head (remove_head e.heads (length s)) p.heads)
-        | false ↦ elim v [ true ↦ some (for_each_head (head_through ep) (remove_head e.heads (length s)) p.heads) | false ↦ none ]
-      ]
-
-  abbrev stay : Bool
-  stay = paths_keep_kind s p.step_kind_from_parent e.path_from_head ep 0 p.heads && reason_keeps reason e.result u
-
-  by : (t v : Bool) → t ≡ is_empty u → v ≡ stay
-      → under_heads e (heads_by t v) ≡ under_heads e (rebased_heads s p reason e u ep)
-  by t v is-t is-v = ap₂ (λ (x y : Bool). under_heads e (heads_by x y)) is-t is-v
-
-  module _ (u0 : HeadUsages) (ep0 : ℕ) (is-u : u ≡ u0) (is-ep : ep ≡ ep0) where
-    same : under_heads e (rebased_heads s p reason e u ep) ≡ under_heads e (rebased_heads s p reason e u0 ep0)
-    same = ap₂ (λ (x : HeadUsages) (y : ℕ). under_heads e (rebased_heads s p reason e x y)) is-u is-ep
-
-    module _ (t : Bool) (is-t : t ≡ is_empty u) where
-      pub heads_unused : t ≡ true → (n : Entry)
-          → n ≡ with_entry_heads e (for_each_head (gain_head false ep) (remove_head e.heads popped) p.heads)
-          → some n ≡ under_heads e (rebased_heads s p reason e u0 ep0)
-      heads_unused now n is =
-          ap some (is ∙ ap (λ (x : ℕ). with_entry_heads e (for_each_head unused_head (remove_head e.heads x) p.heads)) (sym high))
-          ∙ sym (ap (λ (x : Bool). under_heads e (heads_by x stay)) now)
-          ∙ by t stay is-t refl ∙ same
-
-      module _ (now : t ≡ false) (v : Bool) (is-v : v ≡ stay) where
-        pub heads_dropped : not v ≡ true → none ≡ under_heads e (rebased_heads s p reason e u0 ep0)
-        heads_dropped d =
-            sym (ap₂ (λ (x y : Bool). under_heads e (heads_by x y)) now (not-true v d)) ∙ by t v is-t is-v ∙ same
-
-        pub heads_through : not v ≡ false → (n : Entry)
-            → n ≡ with_entry_heads e (for_each_head (gain_head true ep) (remove_head e.heads popped) p.heads)
-            → some n ≡ under_heads e (rebased_heads s p reason e u0 ep0)
-        heads_through d n is =
-            ap some (is ∙ ap (λ (x : ℕ). with_entry_heads e (for_each_head (head_through ep) (remove_head e.heads x) p.heads)) (sym high))
-            ∙ sym (ap₂ (λ (x y : Bool). under_heads e (heads_by x y)) now (not-false v d)) ∙ by t v is-t is-v ∙ same
 
 -- ---- `rebase_path`
 

@@ -27,7 +27,6 @@ use Rattle.provisional_cache.proofs.Loops.{rest_open, rest_none}
 use Rattle.provisional_cache.proofs.Writes.{frames_of}
 use Rattle.pop.specs.Kept.{kept_of, Compacted, Cleared}
 use Rattle.pop.specs.Rebased.{EntryWritten}
-use Rattle.pop.proofs.Writes.{others_same}
 
 -- lists that are the same from one place on are so from a later one on
 further : (i k : ℕ) → k ≤ i → (xs ys : List Entry) → drop (k + 1) xs ≡ drop (k + 1) ys → drop (i + 1) xs ≡ drop (i + 1) ys
@@ -37,10 +36,6 @@ further i k le xs ys e =
 
 module _ (goals base : ℕ) (bs : List ℕ) (g : EntriesBytes goals base bs) where
   -- ---- `move_entry`
-  pub move_none : (from to : ℕ) → from ≡ to → EntryWritten goals base to (entry_from goals base from bs) bs bs
-  move_none from to e =
-      record { entry = ap (λ (k : ℕ). entry_from goals base k bs) (sym e); others = others_same goals base to bs }
-
   -- from `a` on, and to `b`
   module _ (from to a b : ℕ) (below : to < from) (lt : from < 2 * goals) (is-a : a ≡ entry_start_from goals base from)
       (is_b : b ≡ entry_start_from goals base to) where
@@ -132,17 +127,6 @@ module _ (goals base : ℕ) (bs : List ℕ) (g : EntriesBytes goals base bs) whe
             }
 
   -- ---- `keep_if`
-  pub keep_not : (i kept : ℕ) (keep : Bool) → keep ≡ false → Compacted goals base i kept keep bs bs kept
-  keep_not i kept keep drops =
-      record {
-        least = omega arith;
-        most = omega arith;
-        below = refl;
-        entries = sym (append-nil (entries_from goals base kept bs))
-            ∙ sym (ap (λ (t : Bool). entries_from goals base kept bs ++ kept_of t (entry_from goals base i bs)) drops);
-        rest = λ n. refl;
-      }
-
   pub keep_moved : (i kept : ℕ) (keep : Bool) (new : List ℕ) → keep ≡ true → kept ≤ i
       → EntryWritten goals base kept (entry_from goals base i bs) bs new → Compacted goals base i kept keep bs new (kept + 1)
   keep_moved i kept keep new keeps le written =

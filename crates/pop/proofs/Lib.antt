@@ -5,6 +5,7 @@ pub mod Filled
 pub mod Bounds
 pub mod Loops
 pub mod Entries
+pub mod Reasons
 pub mod Rounds
 pub mod Endings
 pub mod Theorems

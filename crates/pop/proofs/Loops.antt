@@ -124,12 +124,12 @@ module _ (Left : Stack → Type 0) (step : PathKind) (cs : CycleHeads) where
           (ap (λ (x : Bool). x && rest) one
           ∙ sym (keep_one s step path ep ms 0 i t.0 (turn_kept cs left i pos inv.small inv.within is ∙ t.1)))
 
-  pub lowering_done : (lowest left : ℕ) → Lowering lowest left → left ≤ 0 → (s : Stack) → Left s
+  pub lowering_done : (lowest left : ℕ) → Lowering lowest left → left ≡ 0 → (s : Stack) → Left s
       → (path : PathKind) (ep : ℕ) → paths_keep_kind s step path ep 0 cs ≡ bound_keeps lowest path (iter_paths ep)
   lowering_done lowest left inv h s m path ep =
       sym (inv.rest s m path ep)
       ∙ ap (λ (x : Bool). bound_keeps lowest path (iter_paths ep) && x)
-      (keep_clear s step path ep (keep (flags 64 left) cs) 0 (end_none cs left h))
+      (keep_clear s step path ep (keep (flags 64 left) cs) 0 (end_none cs left (omega arith)))
       ∙ and-true (bound_keeps lowest path (iter_paths ep))
 
 -- ---- `gain_heads`
@@ -204,13 +204,13 @@ module _ (goals base k : ℕ) (used : Bool) (ep : ℕ) (old : List ℕ) where
                 ∙ inv.rest;
           }
 
-  pub gaining_done : (now : List ℕ) (left : ℕ) → Gaining now left → left ≤ 0
+  pub gaining_done : (now : List ℕ) (left : ℕ) → Gaining now left → left ≡ 0
       → EntryWritten goals base k (gained_entry goals base k used ep old) old now
   gaining_done now left inv h =
       record {
         entry =
             inv.entry
             ∙ ap (with_entry_heads (entry_from goals base k old))
-            (sym (each_clear (gain_head used ep) (entry_from goals base k now).heads (keep (flags 64 left) cs) (end_none cs left h)) ∙ inv.rest);
+            (sym (each_clear (gain_head used ep) (entry_from goals base k now).heads (keep (flags 64 left) cs) (end_none cs left (omega arith))) ∙ inv.rest);
         others = inv.others;
       }

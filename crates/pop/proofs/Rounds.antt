@@ -2,19 +2,14 @@
 use mathlib.Core.Path.{◌≡◌, refl, sym, ap, ap₂, ◌∙◌}
 use mathlib.Core.Bool.{Bool, true, false}
 use mathlib.Core.Option.{Option, none, some}
-use mathlib.Core.List.{List, [], ◌∷◌, ◌++◌}
-use types.Run.{OneOf, miss}
-use denote.Enum.Declared.{tag_of}
+use mathlib.Core.List.{List, ◌∷◌, ◌++◌}
 use Prim.Native.Nat.{ℕ, ◌+◌, ◌-◌, ◌≤◌, ◌<◌}
 use native.Mathlib.Omega.{arith}
 use lib.ListN.{length, take, drop, length-drop}
 use lib.Seq.{take_all, take-add}
-use Rattle.definition.specs.declared.answers.Answer.TheVariants.{Overflow}
 use Rattle.definition.specs.declared.endings.RebaseReason.{RebaseReason}
-use Rattle.definition.specs.declared.endings.RebaseReason.TheVariants.{Ambiguity}
-use Rattle.definition.specs.declared.endings.Ending.{Ending}
-use Rattle.definition.specs.declared.endings.Ending.TheVariants as ending
-use Rattle.definition.specs.contracts.endings.Ending.{the_type}
+use Rattle.definition.specs.declared.paths.PathKind.{PathKind}
+use Rattle.definition.specs.Paths.{kind_number}
 use Rattle.definition.specs.Heads.{highest_index}
 use Rattle.definition.specs.Stack.{Stack, Frame}
 use Rattle.definition.specs.Graph.{Entry}
@@ -31,11 +26,11 @@ use Rattle.provisional_cache.specs.Entries.{FramesKept}
 use Rattle.pop.specs.Kept.{kept_of, Compacted}
 use Rattle.provisional_cache.proofs.Loops.{frames_same}
 use Rattle.provisional_cache.proofs.Writes.{frames_of}
-use Rattle.pop.proofs.Kept.{Compacting, Whole, compact_start, compact_next, whole_start, whole_next, whole_done}
+use Rattle.pop.proofs.Kept.{Compacting, Whole, compact_next, whole_start, whole_next, whole_done}
 use Rattle.pop.proofs.Kept.{kept_in_place}
 use Rattle.pop.proofs.Entries.{entry_other}
-use Rattle.pop.specs.Popped.{RestBytes, popped_frame, PathsFrom, Decides, MayBeLeft}
-use Rattle.pop.specs.Rebased.{kept_entry, EntryRebased, StayBefore, RestRebased, reason_of, Rebased}
+use Rattle.pop.specs.Popped.{popped_frame, PathsFrom, Decides, MayBeLeft}
+use Rattle.pop.specs.Rebased.{kept_entry, EntryRebased, StayBefore, RestRebased, Rebased}
 
 -- one entry of the rest
 abbrev first : Stack → Frame → RebaseReason → List Entry → Option Entry → List Entry
@@ -50,7 +45,7 @@ kept_first s p reason e n keep is es = start keep ∙ ap (first s p reason es) i
     start true = refl
     start false = refl
 
-module _ (goals base popped : ℕ) (paths : List ℕ) (lowest : ℕ) (reason : RebaseReason) (count : ℕ) (old : List ℕ) where
+module _ (goals base popped : ℕ) (paths : List PathKind) (lowest : PathKind) (reason : RebaseReason) (count : ℕ) (old : List ℕ) where
   abbrev p : Frame
   p = popped_frame goals old
 
@@ -59,13 +54,6 @@ module _ (goals base popped : ℕ) (paths : List ℕ) (lowest : ℕ) (reason : R
     pub compacting : Compacting base count old new kept k
     pub whole : (s : Stack) → MayBeLeft goals popped old paths lowest s
         → Whole (rebase_entries s (popped_frame goals old) reason) goals base count old new kept k
-
-  pub rebasing_start : (i : ℕ) → StayBefore goals base popped count old i → Rebasing old i i
-  rebasing_start i b =
-      record {
-        compacting = compact_start base count old i b.few;
-        whole = λ s m. b.stay s p reason m.height;
-      }
 
   pub rebasing_next : (now mid new : List ℕ) (kept k r : ℕ) (keep : Bool) → Rebasing now kept k → k < count
       → popped_frame goals now ≡ p
@@ -116,15 +104,6 @@ pub stay_start : (goals base popped n : ℕ) (bs : List ℕ) → StayBefore goal
 stay_start goals base popped n bs =
     record { few = omega arith; stay = λ s p reason high. whole_start (rebase_entries s p reason) goals base n bs }
 
--- ---- `reason_of`, by the numbers of the endings' variants
-pub reason_else : (e : Ending) → OneOf (0 ∷ 4 ∷ 5 ∷ []) (tag_of the_type e) → Ambiguity Overflow ≡ reason_of e
-reason_else ending.Nothing k = refl
-reason_else (ending.Fixpoint fixpoint) k = absurd (miss (0 ∷ 4 ∷ 5 ∷ []) 1 tt k)
-reason_else ending.NoUsages k = absurd (miss (0 ∷ 4 ∷ 5 ∷ []) 2 tt k)
-reason_else (ending.Ambiguity kind) k = absurd (miss (0 ∷ 4 ∷ 5 ∷ []) 3 tt k)
-reason_else ending.Overflow k = refl
-reason_else ending.Rerun k = refl
-
 -- ---- `rebase_provisional_cache_entries`
 
 -- the graph's bytes from the popped frame on are lent: the frames end at `end`
@@ -147,22 +126,6 @@ module _ (goals popped : ℕ) (old : List ℕ) (g : StackBytes goals popped old)
 
   is_rest : rest ≡ drop start old
   is_rest = take_all (length old - start) (drop start old) (omega (arith, length-drop start old))
-
-  pub lent : RestBytes goals (end - start) rest
-  lent =
-      let a = above in
-      let l = long in
-      record {
-        wide = omega arith;
-        entries =
-            record {
-              few = g.bytes.few;
-              low = omega arith;
-              long =
-                  ap length is_rest ∙ length-drop start old
-                  ∙ (let e : length old - start ≡ end - start + entries_length goals = omega arith in e);
-            };
-      }
 
   popped_is : popped_frame goals rest ≡ frame_at goals popped old
   popped_is =
@@ -224,9 +187,9 @@ module _ (goals popped : ℕ) (old : List ℕ) (g : StackBytes goals popped old)
         front : (l : List ℕ) → take start l ++ take (end - start) (drop start l) ≡ take (entries_start goals) l
         front l = sym (take-add start (end - start) l) ∙ ap (λ (n : ℕ). take n l) (ends ∙ is-end)
 
-    pub rebased : (paths : List ℕ) (lowest : ℕ) (reason : RebaseReason) (n r : ℕ)
+    pub rebased : (paths : List PathKind) (lowest : PathKind) (reason : RebaseReason) (n r : ℕ)
         → PathsFrom (stack_of goals popped old) (frame_at goals popped old) paths
-        → ((s : Stack) → PathsFrom s (popped_frame goals rest) paths → Decides s (popped_frame goals rest) lowest)
+        → ((s : Stack) → PathsFrom s (popped_frame goals rest) paths → Decides s (popped_frame goals rest) (kind_number lowest))
         → RestRebased goals (end - start) popped paths lowest reason n rest ys r
         → Rebased goals popped reason n old new r
     rebased paths lowest reason n r are decides q =

@@ -1,9 +1,9 @@
 -- The bytes from the popped frame on: what is read of them, and what a write of entry k does.
 use mathlib.Core.Path.{◌≡◌, refl, sym, ap, ◌∙◌, subst}
 use mathlib.Core.List.{List}
-use Prim.Native.Nat.{ℕ, ◌+◌, ◌-◌, ◌*◌, ◌≤◌, ◌<◌}
+use Prim.Native.Nat.{ℕ, ◌+◌, ◌*◌, ◌≤◌, ◌<◌}
 use native.Mathlib.Omega.{arith}
-use lib.ListN.{length, take, drop}
+use lib.ListN.{length}
 use Rattle.definition.specs.Graph.{Entry}
 use Rattle.buffer.specs.Regions.{region, overwrite}
 use Rattle.buffer.proofs.Regions.{length_region, region_region}
@@ -15,9 +15,9 @@ use Rattle.layout.proofs.Frames.{length_heads}
 use Rattle.layout.proofs.Graphs.{entry_written, entries_before, entries_behind}
 use Rattle.stack.specs.Bytes.{FrameBytes}
 use Rattle.stack.proofs.Blocks.{heads_block}
-use Rattle.stack.proofs.Parts.{part, returned}
-use Rattle.provisional_cache.specs.Entries.{EntriesBytes, entry_bytes_from}
-use Rattle.provisional_cache.proofs.Entries.{entry_bytes_lem, part_is, entry_back, entry_whole, entry_heads_block}
+use Rattle.stack.proofs.Parts.{part, returned, returned_length}
+use Rattle.provisional_cache.specs.Entries.{EntryBytes, EntriesBytes, entry_bytes_from}
+use Rattle.provisional_cache.proofs.Entries.{entry_bytes_lem, part_room, part_is, entry_back, entry_whole, entry_heads_block}
 use Rattle.provisional_cache.proofs.Loops.{entries_bytes}
 use Rattle.provisional_cache.proofs.Writes.{below_whole}
 use Rattle.pop.specs.Popped.{FrameFirst, RestBytes, popped_bytes, popped_frame}
@@ -67,9 +67,9 @@ module _ (goals base : ℕ) (bs : List ℕ) (k a n : ℕ) (g : EntriesBytes goal
   whole : length ys ≡ entry_size goals
   whole = entry_whole goals base bs k a n g lt is-a is-n ys kept
 
-  pub written : (f : Entry → Entry) → entry_of goals ys ≡ f (entry_of goals (part bs a (a + n)))
+  written_part : (f : Entry → Entry) → entry_of goals ys ≡ f (entry_of goals (part bs a (a + n)))
       → EntryWritten goals base k (f (entry_from goals base k bs)) bs (returned bs a (a + n) ys)
-  written f e =
+  written_part f e =
       record {
         entry =
             ap (entry_from goals base k) back
@@ -84,11 +84,35 @@ module _ (goals base : ℕ) (bs : List ℕ) (k a n : ℕ) (g : EntriesBytes goal
             });
       }
 
+-- the same by its range, from a to e
+module _ {goals base : ℕ} {bs : List ℕ} {k a e : ℕ} (g : EntriesBytes goals base bs) (lt : k < 2 * goals)
+    (is-a : a ≡ entry_start_from goals base k) (is-e : e ≡ entry_start_from goals base k + entry_size goals) where
+  ends : a + entry_size goals ≡ e
+  ends = omega arith
+
+  pub entry_room : e ≤ length bs
+  entry_room = subst (λ (x : ℕ). x ≤ length bs) ends (part_room goals base bs k a (entry_size goals) g lt is-a refl)
+
+  pub entry_range : EntryBytes goals (part bs a e)
+  entry_range =
+      entry_bytes_lem goals base bs (part bs a e) k g lt
+      (subst (λ (x : ℕ). part bs a x ≡ entry_bytes_from goals base k bs) ends
+      (part_is goals base bs k a (entry_size goals) g lt is-a refl))
+
+  pub entry_kept : (ys : List ℕ) → length ys ≡ length (part bs a e) → length (returned bs a e ys) ≡ length bs
+  entry_kept ys = returned_length bs a e ys (omega arith) entry_room
+
+  pub written : (f : Entry → Entry) (ys : List ℕ) → length ys ≡ length (part bs a e)
+      → entry_of goals ys ≡ f (entry_of goals (part bs a e))
+      → EntryWritten goals base k (f (entry_from goals base k bs)) bs (returned bs a e ys)
+  written f ys =
+      subst
+      (λ (x : ℕ). length ys ≡ length (part bs a x) → entry_of goals ys ≡ f (entry_of goals (part bs a x))
+      → EntryWritten goals base k (f (entry_from goals base k bs)) bs (returned bs a x ys))
+      ends (λ kept made. written_part goals base bs k a (entry_size goals) g lt is-a refl ys kept f made)
+
 -- ---- the popped frame's bytes, n from the first on
 module _ (goals : ℕ) (bs : List ℕ) (f : FrameFirst goals bs) where
-  pub popped_part : (n : ℕ) → n ≡ frame_size goals → part bs 0 n ≡ popped_bytes goals bs
-  popped_part n is = let e : n - 0 ≡ n = omega arith in ap (λ (m : ℕ). take m (drop 0 bs)) (e ∙ is)
-
   pub popped_bytes_lem : (r : List ℕ) → r ≡ popped_bytes goals bs → FrameBytes goals r
   popped_bytes_lem r e =
       let w = f.wide in

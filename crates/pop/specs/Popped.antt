@@ -2,6 +2,7 @@
 use Rattle.std.specs.Prelude.{◌≡◌, Bool, true, ◌&&◌, List, [], ◌∷◌, ℕ, ◌≤◌, ◌<◌, min, leb, length, get_or}
 use Rattle.std.proofs.Math.Option.{none, some}
 use Rattle.definition.specs.declared.paths.PathKind.{PathKind}
+use Rattle.definition.specs.declared.paths.PathKind.TheVariants.{Inductive}
 use Rattle.definition.specs.declared.heads.CycleHead.{CycleHead}
 use Rattle.definition.specs.Paths.{kind_number, extend, iter_paths}
 use Rattle.definition.specs.Stack.{Frame, Stack, cycle_path_kind}
@@ -35,10 +36,10 @@ PoppedHead goals rest i c = get_or (popped_frame goals rest).heads i none ≡ so
 
 -- ---- the paths to it
 
--- the array holds the kinds of those from the frames of the stack s, as numbers
-abbrev pub PathsFrom : Stack → Frame → List ℕ → Type 0
+-- the array holds the kinds of those from the frames of the stack s
+abbrev pub PathsFrom : Stack → Frame → List PathKind → Type 0
 PathsFrom s p paths =
-    (i : ℕ) → i < 64 → get_or paths i 0 ≡ kind_number (cycle_path_kind s p.step_kind_from_parent i)
+    (i : ℕ) → i < 64 → get_or paths i Inductive ≡ cycle_path_kind s p.step_kind_from_parent i
 
 -- ---- where they go by way of an entry: `path` is the entry's, ep are the paths to it
 
@@ -63,7 +64,7 @@ lowest_of (k ∷ ks) = min (kind_number k) (lowest_of ks)
 -- ---- the stack that is left
 
 -- s may be it: all that is told of it is its height, the paths from its frames, and the bound
-pub record MayBeLeft (goals popped : ℕ) (rest paths : List ℕ) (lowest : ℕ) (s : Stack) : Type 0 where
+pub record MayBeLeft (goals popped : ℕ) (rest : List ℕ) (paths : List PathKind) (lowest : PathKind) (s : Stack) : Type 0 where
   pub height : length s ≡ popped
   pub from : PathsFrom s (popped_frame goals rest) paths
-  pub keeps : Decides s (popped_frame goals rest) lowest
+  pub keeps : Decides s (popped_frame goals rest) (kind_number lowest)

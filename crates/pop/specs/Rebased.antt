@@ -3,6 +3,7 @@ use Rattle.std.specs.Prelude.{◌≡◌, Bool, true, false, List, ◌++◌, ℕ,
 use Rattle.std.proofs.Math.Option.{Option, none, some}
 use Rattle.definition.specs.declared.answers.Answer.TheVariants.{Overflow}
 use Rattle.definition.specs.declared.endings.RebaseReason.{RebaseReason}
+use Rattle.definition.specs.declared.paths.PathKind.{PathKind}
 use Rattle.definition.specs.declared.endings.RebaseReason.TheVariants.{NoCycleUsages, Ambiguity, ReachedFixpoint}
 use Rattle.definition.specs.declared.endings.Ending.{Ending}
 use Rattle.definition.specs.declared.endings.Ending.TheVariants as ending
@@ -60,7 +61,7 @@ pub record StayBefore (goals base popped n : ℕ) (bs : List ℕ) (r : ℕ) : Ty
 -- ---- r of the n entries are left
 
 -- in the bytes from the popped frame on, whatever stack may be left
-pub record RestRebased (goals base popped : ℕ) (paths : List ℕ) (lowest : ℕ) (reason : RebaseReason) (n : ℕ)
+pub record RestRebased (goals base popped : ℕ) (paths : List PathKind) (lowest : PathKind) (reason : RebaseReason) (n : ℕ)
     (old new : List ℕ) (r : ℕ) : Type 0 where
   pub few : r ≤ n
   pub entries : (s : Stack) → MayBeLeft goals popped old paths lowest s

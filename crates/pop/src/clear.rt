@@ -16,12 +16,10 @@ pub fn clear_for_rerun(graph: &mut [u8], goals: usize, rerun: usize, entries: us
 {
     let base = offsets::entries_start(goals);
     let mut kept: usize = 0;
-    let mut i: usize = 0;
-    while i < entries {
+    for i in 0..entries {
         let entry = provisional_cache::entry_from(graph, goals, base, i);
         let keep = entry::survives_rerun(entry, goals, rerun);
         kept = keep::keep_if(graph, goals, base, keep, i, kept);
-        i = i + 1;
     }
     kept
 }

@@ -1,97 +1,66 @@
-// Entry k, whose highest head p was popped, moved over to the heads of p.
+// Entry k, whose highest head p was popped, moved over to the heads of p. `rest` and k stay beside
+// `p`: the bytes are written while p is read, and k is another one at each turn.
 ghost use Rattle.std.specs.Prelude.{◌≡◌, ◌*◌, ◌<◌};
 ghost use Rattle.definition.specs.Heads.{usages_at, paths_at};
-ghost use Rattle.definition.specs.Table.{Extensions};
 ghost use Rattle.definition.specs.ProvisionalCache.{under_new_head, rebase_entry};
 ghost use Rattle.buffer.specs.Regions.{region};
 ghost use Rattle.layout.specs.Blocks.{heads_size};
 ghost use Rattle.layout.specs.Entry.{entry_heads_start};
 ghost use Rattle.layout.specs.Work.{entry_from};
 ghost use Rattle.provisional_cache.specs.Entries.{EntriesBytes, entry_bytes_from};
-ghost use Rattle.provisional_cache.specs.Entries.{without_head, with_joined_head, with_longer_path};
 ghost use Rattle.pop.specs.Popped.{RestBytes, popped_frame, PathsFrom, MayBeLeft};
 ghost use Rattle.pop.specs.Heads.{gained_head, gained_entry, replaced_entry};
 ghost use Rattle.pop.specs.Rebased.{EntryWritten, EntryRebased, entry_under_heads};
 
-use crate::{popped, stays};
-use definition::endings::RebaseReason;
+use crate::popped::Popped;
+use crate::{popped, stays, table};
 use definition::heads::CycleHead;
-use definition::paths::{PathKind, PathsToNested};
+use definition::paths::PathsToNested;
 use definition::usages::HeadUsages;
-use layout::{heads, offsets};
+use layout::{heads, ranges};
 use provisional_cache::entry;
 
 // The block of its heads.
-fn entry_heads(rest: &[u8], goals: usize, base: usize, k: usize) -> &[u8]
-    requires { EntriesBytes goals base rest.now × (k < 2 * goals) }
-    ensures { result.now
-        ≡ region entry_heads_start (heads_size goals) (entry_bytes_from goals base k rest.now) }
+fn entry_heads<'a>(rest: &'a [u8], p: &Popped, k: usize) -> &'a [u8]
+    requires { EntriesBytes p.now.goals p.now.base rest.now × (k < 2 * p.now.goals) }
+    ensures { result.now ≡ region entry_heads_start (heads_size p.now.goals)
+        (entry_bytes_from p.now.goals p.now.base k rest.now) }
 {
-    entry::heads(provisional_cache::entry_from(rest, goals, base, k), goals)
+    entry::heads(
+        provisional_cache::entry_from(rest, p.goals, p.base, k),
+        p.goals,
+    )
 }
 
-// How it used its head at index i.
-fn head_usages(rest: &[u8], goals: usize, base: usize, k: usize, i: usize) -> HeadUsages
-    requires { EntriesBytes goals base rest.now × ((k < 2 * goals) × (i < goals)) }
-    ensures { result ≡ usages_at (entry_from goals base k rest.now).heads i }
+// How it used p.
+fn head_usages(rest: &[u8], p: &Popped, k: usize) -> HeadUsages
+    requires { EntriesBytes p.now.goals p.now.base rest.now × (k < 2 * p.now.goals) }
+    ensures { result ≡ usages_at (entry_from p.now.goals p.now.base k rest.now).heads p.now.index }
 {
-    heads::usages(entry_heads(rest, goals, base, k), goals, i)
+    heads::usages(entry_heads(rest, p, k), p.goals, p.index)
 }
 
-// The paths to its head at index i.
-fn head_paths(rest: &[u8], goals: usize, base: usize, k: usize, i: usize) -> PathsToNested
-    requires { EntriesBytes goals base rest.now × ((k < 2 * goals) × (i < goals)) }
-    ensures { result.bits ≡ paths_at (entry_from goals base k rest.now).heads i }
+// The paths between it and p.
+fn head_paths(rest: &[u8], p: &Popped, k: usize) -> PathsToNested
+    requires { EntriesBytes p.now.goals p.now.base rest.now × (k < 2 * p.now.goals) }
+    ensures { result.bits
+        ≡ paths_at (entry_from p.now.goals p.now.base k rest.now).heads p.now.index }
 {
     PathsToNested {
-        bits: heads::paths(entry_heads(rest, goals, base, k), goals, i),
+        bits: heads::paths(entry_heads(rest, p, k), p.goals, p.index),
     }
-}
-
-// Its head at index i is taken out.
-fn remove_head(rest: &mut [u8], goals: usize, base: usize, k: usize, i: usize)
-    requires { EntriesBytes goals base rest.old × ((k < 2 * goals) × (i < goals)) }
-    ensures { EntryWritten goals base k (without_head (entry_from goals base k rest.old) i)
-        rest.old rest.new }
-{
-    let start = offsets::entry_start_from(goals, base, k);
-    let end = start + offsets::entry_size(goals);
-    entry::remove_head(&mut rest[start..end], goals, i);
-}
-
-// Its head at index i is joined with `head`.
-fn join_head(rest: &mut [u8], goals: usize, base: usize, k: usize, i: usize, head: CycleHead)
-    requires { EntriesBytes goals base rest.old × ((k < 2 * goals) × (i < goals)) }
-    ensures { EntryWritten goals base k (with_joined_head (entry_from goals base k rest.old) i head)
-        rest.old rest.new }
-{
-    let start = offsets::entry_start_from(goals, base, k);
-    let end = start + offsets::entry_size(goals);
-    entry::join_head(&mut rest[start..end], goals, i, head);
-}
-
-// Its path from its highest head goes on by a path of a kind.
-fn extend_path(rest: &mut [u8], goals: usize, base: usize, k: usize, kind: PathKind)
-    requires { EntriesBytes goals base rest.old × (k < 2 * goals) }
-    ensures { EntryWritten goals base k (with_longer_path (entry_from goals base k rest.old) kind)
-        rest.old rest.new }
-{
-    let start = offsets::entry_start_from(goals, base, k);
-    let end = start + offsets::entry_size(goals);
-    entry::extend_path(&mut rest[start..end], goals, kind);
 }
 
 // ---- what it is after p
 
 // What it gains for a head of p: the head as reached by the paths to p, or used for
 // nothing.
-fn gained(table: &[u8; 1024], used: bool, eps: PathsToNested, head: CycleHead) -> CycleHead
-    requires { Extensions table.now }
+fn gained(used: bool, eps: PathsToNested, head: CycleHead) -> CycleHead
     ensures { result ≡ gained_head used eps.bits head }
 {
     if used {
         let phs = PathsToNested { bits: head.paths };
-        let ephs = eps.extend_with_paths(phs, table);
+        let ephs = eps.extend_with_paths(phs, &table::EXTENDED);
         let paths = ephs.bits;
         let usages = head.usages;
         return CycleHead { paths, usages };
@@ -103,121 +72,83 @@ fn gained(table: &[u8; 1024], used: bool, eps: PathsToNested, head: CycleHead) -
 }
 
 // It gains the heads of p.
-fn gain_heads(
-    rest: &mut [u8],
-    goals: usize,
-    base: usize,
-    table: &[u8; 1024],
-    k: usize,
-    used: bool,
-    eps: PathsToNested,
-)
-    requires { RestBytes goals base rest.old × ((k < 2 * goals) × Extensions table.now) }
-    ensures { EntryWritten goals base k (gained_entry goals base k used eps.bits rest.old)
-        rest.old rest.new }
+fn gain_heads(rest: &mut [u8], p: &Popped, k: usize, used: bool, eps: PathsToNested)
+    requires { RestBytes p.now.goals p.now.base rest.old × (k < 2 * p.now.goals) }
+    ensures { EntryWritten p.now.goals p.now.base k
+        (gained_entry p.now.goals p.now.base k used eps.bits rest.old) rest.old rest.new }
 {
-    let mut left = popped::popped_mask(rest, goals);
-    while 0 < left {
-        let i = bits::lowest(left);
-        let head = gained(table, used, eps, popped::popped_head(rest, goals, i));
-        join_head(rest, goals, base, k, i, head);
-        left = bits::without_lowest(left);
+    let mask = popped::popped_mask(rest, p.goals);
+    for i in bits::places(mask) {
+        let head = gained(used, eps, popped::popped_head(rest, p.goals, i));
+        let entry = &mut rest[ranges::entry_from(p.goals, p.base, k)];
+        entry::join_head(entry, p.goals, i, head);
     }
 }
 
 // The heads of p take the place of p among its heads.
-fn replace_head(
-    rest: &mut [u8],
-    goals: usize,
-    base: usize,
-    popped: usize,
-    table: &[u8; 1024],
-    k: usize,
-    used: bool,
-    eps: PathsToNested,
-)
-    requires { RestBytes goals base rest.old
-        × ((popped < goals) × ((k < 2 * goals) × Extensions table.now)) }
-    ensures { EntryWritten goals base k (replaced_entry goals base popped k used eps.bits rest.old)
+fn replace_head(rest: &mut [u8], p: &Popped, k: usize, used: bool, eps: PathsToNested)
+    requires { RestBytes p.now.goals p.now.base rest.old × (k < 2 * p.now.goals) }
+    ensures { EntryWritten p.now.goals p.now.base k
+        (replaced_entry p.now.goals p.now.base p.now.index k used eps.bits rest.old)
         rest.old rest.new }
 {
-    remove_head(rest, goals, base, k, popped);
-    gain_heads(rest, goals, base, table, k, used, eps);
+    let entry = &mut rest[ranges::entry_from(p.goals, p.base, k)];
+    entry::remove_head(entry, p.goals, p.index);
+    gain_heads(rest, p, k, used, eps);
 }
 
 // Its heads after p; false where it is dropped. Where it was given no result of p, it stays
 // whatever p comes to, and depends on the heads of p without having used them.
-fn rebase_heads(
-    rest: &mut [u8],
-    goals: usize,
-    base: usize,
-    popped: usize,
-    paths: &[u8; 64],
-    lowest: u8,
-    table: &[u8; 1024],
-    reason: RebaseReason,
-    k: usize,
-) -> bool
-    requires { RestBytes goals base rest.old
-        × ((popped < goals) × ((k < 2 * goals) × Extensions table.now)) }
-    ensures { EntryRebased goals base k
-        (MayBeLeft goals popped rest.old paths.now lowest)
-        (entry_under_heads popped reason) result rest.old rest.new }
+fn rebase_heads(rest: &mut [u8], p: &Popped, k: usize) -> bool
+    requires { RestBytes p.now.goals p.now.base rest.old × (k < 2 * p.now.goals) }
+    ensures { EntryRebased p.now.goals p.now.base k
+        (MayBeLeft p.now.goals p.now.index rest.old p.now.paths p.now.lowest)
+        (entry_under_heads p.now.index p.now.reason) result rest.old rest.new }
 {
-    let usages = head_usages(rest, goals, base, k, popped);
-    let eps = head_paths(rest, goals, base, k, popped);
+    let usages = head_usages(rest, p, k);
+    let eps = head_paths(rest, p, k);
     if usages.is_empty() {
-        replace_head(rest, goals, base, popped, table, k, false, eps);
+        replace_head(rest, p, k, false, eps);
         return true;
     }
-    if !stays::stays(rest, goals, base, lowest, reason, k, usages, eps) {
+    if !stays::stays(rest, p, k, usages, eps) {
         return false;
     }
-    replace_head(rest, goals, base, popped, table, k, true, eps);
+    replace_head(rest, p, k, true, eps);
     true
 }
 
 // Its path starts at its new highest head; false where it has no head.
-fn rebase_path(rest: &mut [u8], goals: usize, base: usize, paths: &[u8; 64], k: usize) -> bool
-    requires { RestBytes goals base rest.old × (k < 2 * goals) }
-    ensures { EntryRebased goals base k
-        (λ s. PathsFrom s (popped_frame goals rest.old) paths.now)
-        (λ s p e. under_new_head s p e e.heads) result rest.old rest.new }
+fn rebase_path(rest: &mut [u8], p: &Popped, k: usize) -> bool
+    requires { RestBytes p.now.goals p.now.base rest.old × (k < 2 * p.now.goals) }
+    ensures { EntryRebased p.now.goals p.now.base k
+        (λ s. PathsFrom s (popped_frame p.now.goals rest.old) p.now.paths)
+        (λ s f e. under_new_head s f e e.heads) result rest.old rest.new }
 {
-    let hs = entry_heads(rest, goals, base, k);
-    if heads::is_empty(hs, goals) {
+    let hs = entry_heads(rest, p, k);
+    if heads::is_empty(hs, p.goals) {
         return false;
     }
-    let head = heads::highest(hs, goals);
-    let path = PathKind::from_number(paths[head]);
-    extend_path(rest, goals, base, k, path);
+    let head = heads::highest(hs, p.goals);
+    let path = p.paths[head];
+    let entry = &mut rest[ranges::entry_from(p.goals, p.base, k)];
+    entry::extend_path(entry, p.goals, path);
     true
 }
 
 // Entry k after p; false where it is dropped.
-pub fn rebase_entry(
-    rest: &mut [u8],
-    goals: usize,
-    base: usize,
-    popped: usize,
-    paths: &[u8; 64],
-    lowest: u8,
-    table: &[u8; 1024],
-    reason: RebaseReason,
-    k: usize,
-) -> bool
-    requires { RestBytes goals base rest.old
-        × ((popped < goals) × ((k < 2 * goals) × Extensions table.now)) }
-    ensures { EntryRebased goals base k
-        (MayBeLeft goals popped rest.old paths.now lowest)
-        (λ s p e. rebase_entry s p reason e) result rest.old rest.new }
+pub fn rebase_entry(rest: &mut [u8], p: &Popped, k: usize) -> bool
+    requires { RestBytes p.now.goals p.now.base rest.old × (k < 2 * p.now.goals) }
+    ensures { EntryRebased p.now.goals p.now.base k
+        (MayBeLeft p.now.goals p.now.index rest.old p.now.paths p.now.lowest)
+        (λ s f e. rebase_entry s f p.now.reason e) result rest.old rest.new }
 {
-    let entry = provisional_cache::entry_from(rest, goals, base, k);
-    if entry::highest_head(entry, goals) != popped {
+    let entry = provisional_cache::entry_from(rest, p.goals, p.base, k);
+    if entry::highest_head(entry, p.goals) != p.index {
         return true;
     }
-    if !rebase_heads(rest, goals, base, popped, paths, lowest, table, reason, k) {
+    if !rebase_heads(rest, p, k) {
         return false;
     }
-    rebase_path(rest, goals, base, paths, k)
+    rebase_path(rest, p, k)
 }

@@ -9,24 +9,39 @@ ghost use Rattle.layout.specs.Work.{stack_of};
 ghost use Rattle.stack.specs.Bytes.{StackBytes, frame_at};
 ghost use Rattle.pop.specs.Popped.{FrameFirst, popped_bytes, popped_frame, PoppedHead, PathsFrom};
 
+use definition::endings::RebaseReason;
 use definition::heads::CycleHead;
+use definition::paths::PathKind;
 use layout::{heads, offsets};
 use stack::frame;
 
+// What is known of p, whichever entry is looked at.
+#[derive(Clone, Copy)]
+pub struct Popped {
+    pub goals: usize,
+    // Where the entries start, in the bytes from p on.
+    pub base: usize,
+    // The index of p.
+    pub index: usize,
+    // The kind of the path to p from each frame below it.
+    pub paths: [PathKind; 64],
+    // What those paths allow of an entry that used p.
+    pub lowest: PathKind,
+    pub reason: RebaseReason,
+    ghost index_in: { index < goals },
+}
+
 // The kind of the path hp from each frame below p to it, and of p's own step at the other
 // indices. An entry can come to stand under any frame below p, not under a head of p alone.
-pub fn paths_to_popped(graph: &[u8], goals: usize, popped: usize) -> [u8; 64]
+pub fn paths_to_popped(graph: &[u8], goals: usize, popped: usize) -> [PathKind; 64]
     requires { StackBytes goals popped graph.now × (popped < goals) }
     ensures { PathsFrom (stack_of goals popped graph.now)
         (frame_at goals popped graph.now) result }
 {
     let step = frame::step_kind(stack::frame_at(graph, goals, popped), goals);
-    let mut paths = [step.number(); 64];
-    let mut i: usize = 0;
-    while i < popped {
-        let kind = stack::cycle_path_kind(graph, goals, popped, step, i);
-        paths[i] = kind.number();
-        i = i + 1;
+    let mut paths = [step; 64];
+    for i in 0..popped {
+        paths[i] = stack::cycle_path_kind(graph, goals, popped, step, i);
     }
     paths
 }

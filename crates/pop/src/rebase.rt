@@ -7,65 +7,55 @@
 // settled.
 //
 // The paths to p, and what they allow of an entry that used p (`lowest`), do not depend on the
-// entry. So they are worked out once, and the loop over the entries gets them, and the graph's
-// bytes from p on (`rest`: the entries start at `base` in it).
-// No frame that is left on the stack is among these. The table of extensions is named before the
-// loop, too: the compiler writes a constant array to the machine's stack wherever it is named.
-ghost use Rattle.std.specs.Prelude.{◌≡◌, ◌*◌, ◌≤◌, ◌<◌};
-ghost use Rattle.definition.specs.Table.{Extensions};
+// entry. So they are worked out once, and the loop over the entries gets them as a `Popped`, and the
+// graph's bytes from p on (`rest`: the entries start at `base` in it). No frame that is left on the
+// stack is among these.
+ghost use Rattle.std.specs.Prelude.{◌≡◌, ◌*◌, ◌≤◌, ◌<◌, unwrap_or};
 ghost use Rattle.stack.specs.Bytes.{StackBytes};
 ghost use Rattle.provisional_cache.specs.Entries.{EntriesBytes};
 ghost use Rattle.pop.specs.Popped.{RestBytes};
 ghost use Rattle.pop.specs.Rebased.{StayBefore, RestRebased, Rebased, reason_of};
 
-use crate::{keep, moved, popped, stays, table};
+use crate::popped::Popped;
+use crate::{keep, moved, popped, stays};
 use definition::answers::Answer;
 use definition::endings::{Ending, RebaseReason};
 use layout::offsets;
 use provisional_cache::entry;
 
-// The first of the entries whose highest head is p, or their number where none has it: those
-// before it stay as they are.
-fn first_under(bytes: &[u8], goals: usize, base: usize, popped: usize, entries: usize) -> usize
-    requires { EntriesBytes goals base bytes.now × (entries ≤ 2 * goals) }
-    ensures { StayBefore goals base popped entries bytes.now result }
-{
-    let mut k: usize = 0;
-    while k < entries {
-        let entry = provisional_cache::entry_from(bytes, goals, base, k);
-        if entry::highest_head(entry, goals) == popped {
-            return k;
-        }
-        k = k + 1;
-    }
-    entries
-}
-
-// How many of the entries are left after p; those before `first` stay as they are.
-fn rebase_entries(
-    rest: &mut [u8],
+// The first of the entries whose highest head is p: those before it stay as they are, and all do
+// where there is none.
+fn first_under(
+    bytes: &[u8],
     goals: usize,
     base: usize,
     popped: usize,
-    paths: &[u8; 64],
-    lowest: u8,
-    table: &[u8; 1024],
-    reason: RebaseReason,
-    first: usize,
     entries: usize,
-) -> usize
-    requires { RestBytes goals base rest.old
-        × ((popped < goals) × ((entries ≤ 2 * goals)
-        × (StayBefore goals base popped entries rest.old first × Extensions table.now))) }
-    ensures { RestRebased goals base popped paths.now lowest reason entries
-        rest.old rest.new result }
+) -> Option<usize>
+    requires { EntriesBytes goals base bytes.now × (entries ≤ 2 * goals) }
+    ensures { StayBefore goals base popped entries bytes.now (unwrap_or result entries) }
+{
+    for k in 0..entries {
+        let entry = provisional_cache::entry_from(bytes, goals, base, k);
+        if entry::highest_head(entry, goals) == popped {
+            return Some(k);
+        }
+    }
+    None
+}
+
+// How many of the entries are left after p; those before `first` stay as they are.
+fn rebase_entries(rest: &mut [u8], p: &Popped, first: usize, entries: usize) -> usize
+    requires { RestBytes p.now.goals p.now.base rest.old
+        × ((entries ≤ 2 * p.now.goals)
+        × StayBefore p.now.goals p.now.base p.now.index entries rest.old first) }
+    ensures { RestRebased p.now.goals p.now.base p.now.index p.now.paths p.now.lowest p.now.reason
+        entries rest.old rest.new result }
 {
     let mut kept = first;
-    let mut k = first;
-    while k < entries {
-        let keep = moved::rebase_entry(rest, goals, base, popped, paths, lowest, table, reason, k);
-        kept = keep::keep_if(rest, goals, base, keep, k, kept);
-        k = k + 1;
+    for k in first..entries {
+        let keep = moved::rebase_entry(rest, p, k);
+        kept = keep::keep_if(rest, p.goals, p.base, keep, k, kept);
     }
     kept
 }
@@ -95,24 +85,19 @@ pub fn rebase_provisional_cache_entries(
 {
     let start = offsets::frame_start(goals, popped);
     let base = offsets::entries_start(goals) - start;
-    let first = first_under(&graph[start..], goals, base, popped, entries);
-    if first == entries {
+    let Some(first) = first_under(&graph[start..], goals, base, popped, entries) else {
         return entries;
-    }
+    };
     let paths = popped::paths_to_popped(graph, goals, popped);
     let lowest = stays::lowest_cycle(&graph[start..], goals, &paths);
     let reason = reason_of(ending);
-    let table = table::EXTENDED;
-    rebase_entries(
-        &mut graph[start..],
+    let p = Popped {
         goals,
         base,
-        popped,
-        &paths,
+        index: popped,
+        paths,
         lowest,
-        &table,
         reason,
-        first,
-        entries,
-    )
+    };
+    rebase_entries(&mut graph[start..], &p, first, entries)
 }

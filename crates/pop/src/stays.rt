@@ -1,8 +1,7 @@
 // Whether an entry e that used the popped frame p stays; ep, ph and hp are the paths between e, p
 // and the heads h of p.
-ghost use Rattle.std.specs.Prelude.{◌≡◌, ◌&&◌, List, ◌∷◌, ◌*◌, ◌<◌, min, max};
-ghost use Rattle.definition.specs.declared.paths.PathKind.{PathKind};
-ghost use Rattle.definition.specs.Paths.{contained_in, iter_paths};
+ghost use Rattle.std.specs.Prelude.{◌≡◌, ◌*◌, ◌<◌, not, ◌||◌, leb};
+ghost use Rattle.definition.specs.Paths.{kind_number, contains_path, extend, iter_paths};
 ghost use Rattle.definition.specs.Stack.{Stack};
 ghost use Rattle.definition.specs.ProvisionalCache.{fixpoint_keeps, reason_keeps};
 ghost use Rattle.layout.specs.Work.{entry_from};
@@ -11,98 +10,75 @@ ghost use Rattle.pop.specs.Popped.{bound_keeps, Decides, lowest_of};
 ghost use Rattle.pop.specs.Heads.{entry_stays};
 
 use crate::popped;
+use crate::popped::Popped;
 use definition::answers::Answer;
 use definition::endings::{Fixpoint, RebaseReason};
 use definition::paths::{PathKind, PathsToNested};
 use definition::usages::HeadUsages;
 use provisional_cache::entry;
 
-// The lowest kind of a path among `paths`, as a number; where there is none, the highest, 3, which
-// no path is above.
-fn lowest_kind(paths: PathsToNested) -> u8
-    ensures { result ≡ lowest_of (iter_paths paths.bits) }
+// The kinds of paths, the lowest first.
+const PATH_KINDS: [PathKind; 4] = [
+    PathKind::Inductive,
+    PathKind::Unknown,
+    PathKind::Coinductive,
+    PathKind::ForcedAmbiguity,
+];
+
+// The lowest kind of a path among `paths`; where there is none, the highest, which no path is
+// above.
+fn lowest_kind(paths: PathsToNested) -> PathKind
+    ensures { kind_number result ≡ lowest_of (iter_paths paths.bits) }
 {
     if paths.contains(PathKind::Inductive) {
-        return 0;
+        return PathKind::Inductive;
     }
     if paths.contains(PathKind::Unknown) {
-        return 1;
+        return PathKind::Unknown;
     }
     if paths.contains(PathKind::Coinductive) {
-        return 2;
+        return PathKind::Coinductive;
     }
-    3
+    PathKind::ForcedAmbiguity
 }
 
-fn larger(a: u8, b: u8) -> u8
-    ensures { result ≡ max a b }
-{
-    if a < b {
-        return b;
-    }
-    a
-}
-
-fn lesser(a: u8, b: u8) -> u8
-    ensures { result ≡ min a b }
-{
-    if b < a {
-        return b;
-    }
-    a
-}
-
-// The lowest kind of a path hph, from a head h of p to p and on to h again; 3 where there is none.
+// The lowest kind of a path hph, from a head h of p to p and on to h again; the highest where there is
+// none.
 //
 // As a goal nested in e, p closes its cycles by way of e. What a cycle is given depends on its
 // kind: p would come to the same result there only if each cycle by way of e has the kind that it
 // had without e. A path by way of e has all the steps of hph, and ep and the path of e besides. Its
 // kind is the highest of theirs, so it is that of hph only where none of the latter is higher. The
 // lowest hph allows the least, so it alone decides, and for every entry.
-pub fn lowest_cycle(rest: &[u8], goals: usize, paths: &[u8; 64]) -> u8
+pub fn lowest_cycle(rest: &[u8], goals: usize, paths: &[PathKind; 64]) -> PathKind
     requires { FrameFirst goals rest.now }
     ensures { (s : Stack) → PathsFrom s (popped_frame goals rest.now) paths.now
-        → Decides s (popped_frame goals rest.now) result }
+        → Decides s (popped_frame goals rest.now) (kind_number result) }
 {
-    let mut lowest: u8 = 3;
-    let mut left = popped::popped_mask(rest, goals);
-    while 0 < left {
-        let i = bits::lowest(left);
+    let mut lowest = PathKind::ForcedAmbiguity;
+    let mask = popped::popped_mask(rest, goals);
+    for i in bits::places(mask) {
         let head = popped::popped_head(rest, goals, i);
         let phs = PathsToNested { bits: head.paths };
-        let kind = larger(lowest_kind(phs), paths[i]);
-        lowest = lesser(lowest, kind);
-        left = bits::without_lowest(left);
+        let kind = lowest_kind(phs).max(paths[i]);
+        lowest = lowest.min(kind);
     }
     lowest
 }
 
-// Whether ep and the path of e are no higher than the lowest cycle, where ep is among the paths.
-fn ep_keeps(lowest: u8, path: PathKind, eps: PathsToNested, ep: PathKind) -> bool
-    ensures { (ks : List PathKind)
-        → (result && bound_keeps lowest path (contained_in eps.bits ks))
-        ≡ bound_keeps lowest path (contained_in eps.bits (ep ∷ ks)) }
+// Whether ep, where it is among the paths, and the path of e are no higher than the lowest cycle.
+fn ep_keeps(lowest: PathKind, path: PathKind, eps: PathsToNested, ep: PathKind) -> bool
+    ensures { result ≡ (not (contains_path eps.bits ep)
+        || leb (kind_number (extend ep path)) (kind_number lowest)) }
 {
-    if !eps.contains(ep) {
-        return true;
-    }
-    ep.extend(path).number() <= lowest
+    !eps.contains(ep) || ep.extend(path) <= lowest
 }
 
 // Whether the paths from each head of p keep their kind by way of e.
-fn paths_keep_kind(lowest: u8, path: PathKind, eps: PathsToNested) -> bool
-    ensures { result ≡ bound_keeps lowest path (iter_paths eps.bits) }
+fn paths_keep_kind(lowest: PathKind, path: PathKind, eps: PathsToNested) -> bool
+    ensures { result ≡ bound_keeps (kind_number lowest) path (iter_paths eps.bits) }
 {
-    if !ep_keeps(lowest, path, eps, PathKind::Inductive) {
-        return false;
-    }
-    if !ep_keeps(lowest, path, eps, PathKind::Unknown) {
-        return false;
-    }
-    if !ep_keeps(lowest, path, eps, PathKind::Coinductive) {
-        return false;
-    }
-    ep_keeps(lowest, path, eps, PathKind::ForcedAmbiguity)
+    PATH_KINDS.iter().all(|ep| ep_keeps(lowest, path, eps, *ep))
 }
 
 // Whether the fixpoint lets an entry with these usages of p stay. At the first one the entry was
@@ -124,36 +100,20 @@ fn reason_keeps(reason: RebaseReason, res: Answer, usages: HeadUsages) -> bool
 {
     match reason {
         RebaseReason::NoCycleUsages => false,
-        RebaseReason::Ambiguity(kind) => {
-            if res.is_ambiguous() {
-                return res.same(kind);
-            }
-            false
-        }
+        RebaseReason::Ambiguity(kind) => res.is_ambiguous() && res == kind,
         RebaseReason::ReachedFixpoint(fixpoint) => fixpoint_keeps(fixpoint, usages),
     }
 }
 
 // Whether entry k, which used p, stays.
-pub fn stays(
-    rest: &[u8],
-    goals: usize,
-    base: usize,
-    lowest: u8,
-    reason: RebaseReason,
-    k: usize,
-    usages: HeadUsages,
-    eps: PathsToNested,
-) -> bool
-    requires { RestBytes goals base rest.now × (k < 2 * goals) }
-    ensures { (s : Stack) → Decides s (popped_frame goals rest.now) lowest
-        → result ≡ entry_stays s (popped_frame goals rest.now) reason
-        (entry_from goals base k rest.now) usages eps.bits }
+pub fn stays(rest: &[u8], p: &Popped, k: usize, usages: HeadUsages, eps: PathsToNested) -> bool
+    requires { RestBytes p.now.goals p.now.base rest.now × (k < 2 * p.now.goals) }
+    ensures { (s : Stack) → Decides s (popped_frame p.now.goals rest.now) (kind_number p.now.lowest)
+        → result ≡ entry_stays s (popped_frame p.now.goals rest.now) p.now.reason
+        (entry_from p.now.goals p.now.base k rest.now) usages eps.bits }
 {
-    let entry = provisional_cache::entry_from(rest, goals, base, k);
-    let path = entry::path_from_head(entry, goals);
-    if !paths_keep_kind(lowest, path, eps) {
-        return false;
-    }
-    reason_keeps(reason, entry::result(entry, goals), usages)
+    let entry = provisional_cache::entry_from(rest, p.goals, p.base, k);
+    let path = entry::path_from_head(entry, p.goals);
+    let res = entry::result(entry, p.goals);
+    paths_keep_kind(p.lowest, path, eps) && reason_keeps(p.reason, res, usages)
 }

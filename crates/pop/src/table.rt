@@ -1,7 +1,7 @@
 // Made by tests/make-extensions: the 32 sets of paths, each extended by each.
 
 // Entry 32 a + b is set a extended by set b. A set is the sum of its flags, as in `PathsToNested`.
-pub const EXTENDED: [u8; 1024] = [
+pub static EXTENDED: [u8; 1024] = [
     // {}
     0, // 00 by 00
     0, // 00 by 01

@@ -15,7 +15,7 @@ use Rattle.buffer.specs.Regions.{region}
 use Rattle.stack.specs.Bytes.{frame_bytes, frame_at}
 use Rattle.provisional_cache.specs.Entries.{entry_on}
 use Rattle.provisional_cache.specs.Inserts.{path_from_highest, Appended, Inserted}
-use Rattle.provisional_cache.specs.declared.Insertion.TheVariants.{Kept, Full}
+use Rattle.std.specs.Prelude.{Ok, Err}
 use Rattle.provisional_cache.proofs.Loops.{frames_same}
 
 -- the highest of the frame's heads
@@ -26,7 +26,7 @@ path_is goals height step bs f hs h k is_f is-hs is-h is-k =
     is-k ∙ ap (cycle_path_kind (stack_of goals height bs) step) (is-h ∙ ap (λ (l : List ℕ). highest_index (heads_of goals l)) (is-hs ∙ ap (region heads_start (heads_size goals)) is_f))
 
 module _ (goals height n goal : ℕ) (step : PathKind) (overflow : Bool) (answer : Answer) (old : List ℕ) where
-  pub insert_full : 2 * goals ≤ n → Inserted goals height n goal step overflow answer old old Full
+  pub insert_full : 2 * goals ≤ n → Inserted goals height n goal step overflow answer old old (Err (record {}))
   insert_full past =
       record {
         full = λ h. refl;
@@ -37,7 +37,7 @@ module _ (goals height n goal : ℕ) (step : PathKind) (overflow : Bool) (answer
       }
 
   pub insert_kept : n < 2 * goals → (new : List ℕ) (path : PathKind) → path ≡ path_from_highest goals height step old
-      → Appended goals n (entry_on goal overflow (frame_at goals height old).heads path answer) old new → Inserted goals height n goal step overflow answer old new Kept
+      → Appended goals n (entry_on goal overflow (frame_at goals height old).heads path answer) old new → Inserted goals height n goal step overflow answer old new (Ok tt)
   insert_kept under new path is-path made =
       record {
         full = λ h. absurd (omega arith);

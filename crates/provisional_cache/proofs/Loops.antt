@@ -1,12 +1,11 @@
 -- The turns of the loops over the entries, from the first on.
 use mathlib.Core.Path.{◌≡◌, refl, sym, ap, ap₂, ◌∙◌}
 use mathlib.Core.Bool.{Bool, true, false, ◌||◌}
-use mathlib.Core.Option.{Option, none, some}
+use mathlib.Core.Option.{Option, some}
 use mathlib.Core.List.{List, [], ◌∷◌}
 use Prim.Native.Nat.{ℕ, ◌+◌, ◌≤◌, ◌<◌}
 use native.Mathlib.Numerals.{add-one}
-use native.Mathlib.Omega.{arith}
-use borrow.Author.Tests.{lt-ltb, le-ltb}
+use Rattle.std.specs.Prelude.{Some, None}
 use lib.ListN.{length, drop, drop_of_length-le}
 use lib.Seq.{drop-cons}
 use Rattle.definition.specs.declared.paths.PathKind.{PathKind}
@@ -50,18 +49,14 @@ module _ (goals : ℕ) (bs : List ℕ) (n i : ℕ) where
     match_open : i < n → choice (entry_matches s goal step (entry_at goals i bs)) ≡ whole
     match_open lt = sym (ap (first_match s goal step) (open_at lt)) ∙ rest
 
-    pub match_here : i < n → entry_matches s goal step (entry_at goals i bs) ≡ true → entry_found goals n i bs ≡ whole
-    match_here lt t =
-        ap (λ (b : Bool). elim b [ true ↦ some (entry_at goals i bs) | false ↦ none ]) (lt-ltb i n lt)
-        ∙ sym (ap choice t) ∙ match_open lt
+    pub match_here : i < n → entry_matches s goal step (entry_at goals i bs) ≡ true → entry_found goals (Some i) bs ≡ whole
+    match_here lt t = sym (ap choice t) ∙ match_open lt
 
     pub match_next : i < n → entry_matches s goal step (entry_at goals i bs) ≡ false → first_match s goal step (drop (i + 1) (entries_of goals n bs)) ≡ whole
     match_next lt t = sym (ap choice t) ∙ match_open lt
 
-    pub match_none : n ≤ i → entry_found goals n n bs ≡ whole
-    match_none h =
-        ap (λ (b : Bool). elim b [ true ↦ some (entry_at goals n bs) | false ↦ none ]) (le-ltb n n (omega arith))
-        ∙ sym (ap (first_match s goal step) (none_at h)) ∙ rest
+    pub match_none : n ≤ i → entry_found goals None bs ≡ whole
+    match_none h = sym (ap (first_match s goal step) (none_at h)) ∙ rest
 
   -- ---- `any_applies`
   module _ (s : Stack) (step : PathKind) (nested : NestedGoals) (whole : Bool) (rest : any_entry_applies s step nested (drop i (entries_of goals n bs)) ≡ whole) where

@@ -1,12 +1,11 @@
 -- What the writes are in the definition's graph.
 use mathlib.Core.Path.{◌≡◌, sym, ap, ◌∙◌}
 use mathlib.Core.Bool.{Bool, true, false}
-use mathlib.Core.Option.{none, some}
 use mathlib.Core.List.{List, [], ◌∷◌, ◌++◌}
 use Prim.Native.Nat.{ℕ, ◌+◌, ◌*◌, ◌≤◌, ◌<◌}
 use native.Mathlib.Omega.{arith}
 use native.Mathlib.Decide.{dec_lt}
-use borrow.Author.Tests.{le-leb, lt-leb, lt-ltb, le-ltb}
+use borrow.Author.Tests.{le-leb, lt-leb}
 use lib.Dec.{leb}
 use Rattle.definition.specs.declared.paths.PathKind.{PathKind}
 use Rattle.definition.specs.declared.answers.Answer.{Answer}
@@ -19,13 +18,13 @@ use Rattle.definition.specs.Evaluate.{new_entry, insert_provisional_cache}
 use Rattle.layout.specs.Work.{entries_start, stack_of, entries_of, graph_of}
 use Rattle.layout.proofs.Graphs.{length_entries}
 use Rattle.stack.specs.Bytes.{frame_at}
-use Rattle.provisional_cache.specs.Entries.{entry_at, entry_found, entry_on}
+use Rattle.provisional_cache.specs.Entries.{entry_on}
 use Rattle.provisional_cache.specs.Inserts.{inserted, Inserted}
-use Rattle.provisional_cache.specs.declared.Insertion.{Insertion}
-use Rattle.provisional_cache.specs.declared.Insertion.TheVariants.{Kept, Full}
+use Rattle.provisional_cache.specs.declared.Full.{Full}
+use Rattle.std.specs.Prelude.{Result, Ok, Err, ⊤}
 
 -- ---- `insert`
-module _ (h : Header) (root height n goal : ℕ) (step : PathKind) (overflow : Bool) (answer : Answer) (old new cache : List ℕ) (i : Insertion)
+module _ (h : Header) (root height n goal : ℕ) (step : PathKind) (overflow : Bool) (answer : Answer) (old new cache : List ℕ) (i : Result ⊤ Full)
     (made : Inserted h.goals height n goal step overflow answer old new i)
     (r : EvaluationResult) (is-overflow : r.encountered_overflow ≡ overflow) (is-heads : r.heads ≡ (frame_at h.goals height old).heads) (is_answer : r.result ≡ answer) where
   abbrev choice : Bool → Outcome
@@ -53,24 +52,17 @@ module _ (h : Header) (root height n goal : ℕ) (step : PathKind) (overflow : B
       ∙ (λ t. Done (record { root_depth = root; stack = s t; provisional_cache = es t; global_cache = cache }) (is_answer t))
 
 -- what the answer says of the number of entries
-module _ (goals height n goal : ℕ) (step : PathKind) (overflow : Bool) (answer : Answer) (old new : List ℕ) (i : Insertion) (made : Inserted goals height n goal step overflow answer old new i) where
-  pub kept_under : i ≡ Kept → n < 2 * goals
+module _ (goals height n goal : ℕ) (step : PathKind) (overflow : Bool) (answer : Answer) (old new : List ℕ) (i : Result ⊤ Full) (made : Inserted goals height n goal step overflow answer old new i) where
+  pub kept_under : i ≡ Ok tt → n < 2 * goals
   kept_under e =
       elim (dec_lt n (2 * goals)) [
         | yes under ↦ under
-        | no past ↦ let f : i ≡ Full = made.full (omega arith) in let z : ◌≡◌ {A = ℕ} 0 1 = cc in absurd (omega arith)
+        | no past ↦ let f : i ≡ Err (record {}) = made.full (omega arith) in let z : ◌≡◌ {A = ℕ} 0 1 = cc in absurd (omega arith)
       ]
 
-  pub full_past : i ≡ Full → 2 * goals ≤ n
-  full_past e =
+  pub full_past : (f : Full) → i ≡ Err f → 2 * goals ≤ n
+  full_past f e =
       elim (dec_lt n (2 * goals)) [
-        | yes under ↦ let f : i ≡ Kept = made.kept under in let z : ◌≡◌ {A = ℕ} 0 1 = cc in absurd (omega arith)
+        | yes under ↦ let k : i ≡ Ok tt = made.kept under in let z : ◌≡◌ {A = ℕ} 0 1 = cc in absurd (omega arith)
         | no past ↦ omega arith
       ]
-
--- ---- what `first_match` found
-pub found_some : (goals n i : ℕ) (bs : List ℕ) → i < n → entry_found goals n i bs ≡ some (entry_at goals i bs)
-found_some goals n i bs lt = ap (λ (t : Bool). elim t [ true ↦ some (entry_at goals i bs) | false ↦ none ]) (lt-ltb i n lt)
-
-pub found_none : (goals n i : ℕ) (bs : List ℕ) → n ≤ i → entry_found goals n i bs ≡ none
-found_none goals n i bs h = ap (λ (t : Bool). elim t [ true ↦ some (entry_at goals i bs) | false ↦ none ]) (le-ltb i n h)

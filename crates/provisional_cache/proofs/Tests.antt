@@ -19,7 +19,7 @@ use Rattle.definition.specs.Graph.{Entry}
 use Rattle.definition.specs.Lookup.{none_or_above, last_heads, entry_matches, entry_applies}
 use Rattle.definition.specs.ProvisionalCache.{survives_rerun}
 use Rattle.bits.specs.Masks.{flags, first_place, place_or}
-use Rattle.bits.proofs.Places.{first_more}
+use Rattle.bits.proofs.Ends.{first_more}
 use Rattle.layout.specs.Blocks.{present, heads_size, heads_of}
 use Rattle.layout.specs.Frame.{heads_start, frame_of}
 use Rattle.layout.specs.Work.{stack_of}
@@ -80,13 +80,6 @@ module _ (goals height head : ℕ) (bs : List ℕ) where
         ap (ltb head) (is-l ∙ ap (place_or 64) (ap first_place is_m ∙ first_more (present (heads_of goals hs)) n ∙ lowest_place (heads_of goals hs)))
         ∙ above_some (opt_lowest_index (heads_of goals hs)) head (sym (empty_lowest (heads_of goals hs)) ∙ e)
         ∙ ap (λ (h : CycleHeads). none_or_above (opt_lowest_index h) head) top_heads
-
--- ---- `is_hidden`
-pub hidden_not : (o t r : Bool) → r ≡ o → r ≡ false → false ≡ (o && t)
-hidden_not o t r is e = sym (ap (λ (x : Bool). x && t) (sym is ∙ e))
-
-pub hidden_by : (o t r u : Bool) → r ≡ o → r ≡ true → u ≡ t → u ≡ (o && t)
-hidden_by o t r u is e is-u = is-u ∙ sym (ap (λ (x : Bool). x && t) (sym is ∙ e))
 
 -- ---- `is_match`
 abbrev three : Bool → Bool → Bool → Bool

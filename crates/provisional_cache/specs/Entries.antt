@@ -1,5 +1,6 @@
 -- The entries of the provisional cache in the bytes of a graph.
-use Rattle.std.specs.Prelude.{◌≡◌, Bool, true, false, List, ℕ, ◌+◌, ◌≤◌, ltb, length}
+use Rattle.std.specs.Prelude.{◌≡◌, Bool, List, ℕ, ◌+◌, ◌≤◌, length}
+use Rattle.std.specs.Prelude.{Option as Maybe, Some, None}
 use Rattle.std.proofs.Math.Option.{Option, none, some}
 use Rattle.definition.specs.declared.paths.PathKind.{PathKind}
 use Rattle.definition.specs.declared.heads.CycleHead.{CycleHead}
@@ -34,9 +35,10 @@ entry_bytes goals i bs = entry_bytes_from goals (entries_start goals) i bs
 abbrev pub entry_at : ℕ → ℕ → List ℕ → Entry
 entry_at goals i bs = entry_from goals (entries_start goals) i bs
 
--- entry i, where it is one of the n first
-abbrev pub entry_found : ℕ → ℕ → ℕ → List ℕ → Option Entry
-entry_found goals n i bs = elim (ltb i n) [ true ↦ some (entry_at goals i bs) | false ↦ none ]
+-- the entry at an index that was found
+abbrev pub entry_found : ℕ → Maybe ℕ → List ℕ → Option Entry
+entry_found goals None bs = none
+entry_found goals (Some i) bs = some (entry_at goals i bs)
 
 -- an entry by its parts
 abbrev pub entry_on : ℕ → Bool → CycleHeads → PathKind → Answer → Entry

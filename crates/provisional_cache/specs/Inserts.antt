@@ -1,5 +1,5 @@
 -- What `insert` says, where the popped frame stood at index `height`.
-use Rattle.std.specs.Prelude.{◌≡◌, Bool, List, [], ◌∷◌, ◌++◌, ℕ, ◌+◌, ◌*◌, ◌≤◌, ◌<◌}
+use Rattle.std.specs.Prelude.{◌≡◌, Bool, List, [], ◌∷◌, ◌++◌, ℕ, ◌+◌, ◌*◌, ◌≤◌, ◌<◌, Result, Ok, Err, ⊤}
 use Rattle.definition.specs.declared.paths.PathKind.{PathKind}
 use Rattle.definition.specs.declared.answers.Answer.{Answer}
 use Rattle.definition.specs.Graph.{Entry}
@@ -8,8 +8,7 @@ use Rattle.definition.specs.Stack.{cycle_path_kind}
 use Rattle.layout.specs.Work.{stack_of, entries_of}
 use Rattle.stack.specs.Bytes.{frame_at}
 use Rattle.provisional_cache.specs.Entries.{FramesKept, entry_on}
-use Rattle.provisional_cache.specs.declared.Insertion.{Insertion}
-use Rattle.provisional_cache.specs.declared.Insertion.TheVariants.{Kept, Full}
+use Rattle.provisional_cache.specs.declared.Full.{Full}
 
 -- the kind of the path from the frame's highest head to it
 abbrev pub path_from_highest : ℕ → ℕ → PathKind → List ℕ → PathKind
@@ -26,10 +25,10 @@ pub record Appended (goals n : ℕ) (e : Entry) (old new : List ℕ) : Type 0 wh
   pub frames : FramesKept goals old new
 
 pub record Inserted (goals height n goal : ℕ) (step : PathKind) (overflow : Bool) (answer : Answer)
-    (old new : List ℕ) (r : Insertion) : Type 0 where
-  pub full : 2 * goals ≤ n → r ≡ Full
+    (old new : List ℕ) (r : Result ⊤ Full) : Type 0 where
+  pub full : 2 * goals ≤ n → r ≡ Err (record {})
   pub untouched : 2 * goals ≤ n → new ≡ old
-  pub kept : n < 2 * goals → r ≡ Kept
+  pub kept : n < 2 * goals → r ≡ Ok tt
   pub entries : n < 2 * goals
       → entries_of goals (n + 1) new ≡ entries_of goals n old ++ (inserted goals height goal step overflow answer old ∷ [])
   pub frames : FramesKept goals old new

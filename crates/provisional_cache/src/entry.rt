@@ -1,29 +1,19 @@
-// One entry's bytes: `layout::offsets` says where its fields and its heads stand.
+// One entry's bytes: `layout::offsets` says where its fields and its heads stand. They are bytes at
+// fixed places, and no struct, since they lie in memory that a caller lends.
 ghost use Rattle.std.specs.Prelude.{◌≡◌, ◌<◌};
 ghost use Rattle.buffer.specs.Regions.{region};
 ghost use Rattle.definition.specs.Graph.{with_path_from_head};
 ghost use Rattle.definition.specs.Heads.{highest_index};
 ghost use Rattle.definition.specs.ProvisionalCache.{survives_rerun};
 ghost use Rattle.layout.specs.Blocks.{heads_size};
-ghost use Rattle.layout.specs.Frame.{truth};
 ghost use Rattle.layout.specs.Entry.{entry_heads_start, entry_of};
 ghost use Rattle.provisional_cache.specs.Entries.{EntryBytes, with_fields};
 ghost use Rattle.provisional_cache.specs.Entries.{without_head, with_joined_head, with_longer_path};
 
-use buffer::scalars;
 use definition::answers::Answer;
 use definition::heads::CycleHead;
 use definition::paths::PathKind;
 use layout::offsets;
-
-fn flag(b: bool) -> u8
-    ensures { truth result ≡ b }
-{
-    if b {
-        return 1;
-    }
-    0
-}
 
 // ---- reads
 
@@ -31,7 +21,7 @@ pub fn input(entry: &[u8], goals: usize) -> usize
     requires { EntryBytes goals entry.now }
     ensures { (result ≡ (entry_of goals entry.now).input) × (result < 256) }
 {
-    scalars::wide(entry[offsets::ENTRY_INPUT])
+    usize::from(entry[offsets::ENTRY_INPUT])
 }
 
 pub fn encountered_overflow(entry: &[u8], goals: usize) -> bool
@@ -45,14 +35,14 @@ pub fn path_from_head(entry: &[u8], goals: usize) -> PathKind
     requires { EntryBytes goals entry.now }
     ensures { result ≡ (entry_of goals entry.now).path_from_head }
 {
-    PathKind::from_number(entry[offsets::ENTRY_PATH])
+    PathKind::from(entry[offsets::ENTRY_PATH])
 }
 
 pub fn result(entry: &[u8], goals: usize) -> Answer
     requires { EntryBytes goals entry.now }
     ensures { result ≡ (entry_of goals entry.now).result }
 {
-    Answer::from_number(entry[offsets::ENTRY_RESULT])
+    Answer::from(entry[offsets::ENTRY_RESULT])
 }
 
 // The block of heads.
@@ -98,10 +88,10 @@ pub fn start(
     ensures { entry_of goals entry.new
         ≡ with_fields (entry_of goals entry.old) goal overflow path answer }
 {
-    entry[offsets::ENTRY_INPUT] = scalars::low(goal);
-    entry[offsets::ENTRY_OVERFLOW] = flag(overflow);
-    entry[offsets::ENTRY_PATH] = path.number();
-    entry[offsets::ENTRY_RESULT] = answer.number();
+    entry[offsets::ENTRY_INPUT] = goal as u8;
+    entry[offsets::ENTRY_OVERFLOW] = u8::from(overflow);
+    entry[offsets::ENTRY_PATH] = u8::from(path);
+    entry[offsets::ENTRY_RESULT] = u8::from(answer);
 }
 
 // The path from the highest head.
@@ -109,7 +99,7 @@ pub fn set_path(entry: &mut [u8], goals: usize, kind: PathKind)
     requires { EntryBytes goals entry.old }
     ensures { entry_of goals entry.new ≡ with_path_from_head (entry_of goals entry.old) kind }
 {
-    entry[offsets::ENTRY_PATH] = kind.number();
+    entry[offsets::ENTRY_PATH] = u8::from(kind);
 }
 
 // The path from the highest head goes on by a path of a kind.
@@ -135,14 +125,12 @@ pub fn join_head(entry: &mut [u8], goals: usize, i: usize, head: CycleHead)
     requires { EntryBytes goals entry.old × (i < goals) }
     ensures { entry_of goals entry.new ≡ with_joined_head (entry_of goals entry.old) i head }
 {
-    let paths = head.paths;
-    let usages = head.usages;
     let end = offsets::ENTRY_HEADS + offsets::heads_size(goals);
     layout::heads::insert(
         &mut entry[offsets::ENTRY_HEADS..end],
         goals,
         i,
-        paths,
-        usages,
+        head.paths,
+        head.usages,
     );
 }

@@ -3,6 +3,7 @@
 #![tactic(auto)]
 
 ghost use Rattle.std.specs.Prelude.{◌≡◌, ◌+◌, ◌*◌, ◌≤◌, ◌<◌};
+ghost use Rattle.definition.specs.declared.replies.Refusal.TheVariants.{ProvisionalCacheFull};
 ghost use Rattle.definition.specs.Lookup.{none_or_above, entry_matches, entry_applies, any_entry_applies};
 ghost use Rattle.layout.specs.Copied.{HeadsCopied};
 ghost use Rattle.layout.specs.Frame.{heads_start};
@@ -15,16 +16,22 @@ ghost use Rattle.provisional_cache.specs.Inserts.{path_from_highest, Appended, I
 
 use definition::answers::Answer;
 use definition::paths::{PathKind, PathsToNested};
+use definition::replies::Refusal;
 use layout::{heads, offsets};
 use stack::frame;
 
 pub mod entry;
 
-// Whether an entry was inserted, or there was no room for it.
-#[derive(Clone, Copy)]
-pub enum Insertion {
-    Kept,
-    Full,
+// There was no room for an entry.
+#[derive(Debug, Clone, Copy, PartialEq, Eq)]
+pub struct Full;
+
+impl From<Full> for Refusal {
+    ghost from_gives = { λ _ refusal. refusal ≡ ProvisionalCacheFull };
+
+    fn from(_full: Full) -> Refusal {
+        Refusal::ProvisionalCacheFull
+    }
 }
 
 // The bytes of entry i.
@@ -37,7 +44,9 @@ pub fn entry_at(graph: &[u8], goals: usize, i: usize) -> &[u8]
     &graph[start..end]
 }
 
-// The same in bytes that hold the entries from `base` on.
+// The same in bytes that hold the entries from `base` on. `entry_at` is not this at a graph's
+// base: with that the frame of `evaluate` is 16 bytes longer, and a query needs 294 KB of the
+// machine's stack (measured; docs/DECISIONS.md, 40).
 pub fn entry_from(bytes: &[u8], goals: usize, base: usize, i: usize) -> &[u8]
     requires { EntriesBytes goals base bytes.now × (i < 2 * goals) }
     ensures { result.now ≡ entry_bytes_from goals base i bytes.now }
@@ -70,10 +79,7 @@ fn is_hidden(entry: &[u8], graph: &[u8], goals: usize, height: usize, head: usiz
     requires { EntryBytes goals entry.now × (GraphBytes goals graph.now × (height ≤ goals)) }
     ensures { result ≡ hidden goals height graph.now head (entry_of goals entry.now) }
 {
-    if entry::encountered_overflow(entry, goals) {
-        return none_or_above(graph, goals, height, head);
-    }
-    false
+    entry::encountered_overflow(entry, goals) && none_or_above(graph, goals, height, head)
 }
 
 // Whether the entry answers the goal as it is reached here: its result is right only for
@@ -98,29 +104,27 @@ fn is_match(
         return false;
     }
     let path = entry::path_from_head(entry, goals);
-    path.same(stack::cycle_path_kind(graph, goals, height, step, head))
+    path == stack::cycle_path_kind(graph, goals, height, step, head)
 }
 
-// The first entry of the goal from entry `from` on, or the number of entries where there is none.
+// The first entry of the goal from entry `from` on.
 // Most entries are of other goals: this loop reads one byte of each and no more.
-fn next_of(graph: &[u8], goals: usize, entries: usize, goal: usize, from: usize) -> usize
+fn next_of(graph: &[u8], goals: usize, entries: usize, goal: usize, from: usize) -> Option<usize>
     requires { GraphBytes goals graph.now × ((entries ≤ 2 * goals) × (from ≤ entries)) }
     ensures { NextOf goals entries goal from graph.now result }
 {
-    let mut k = from;
-    while k < entries {
+    for k in from..entries {
         let entry = entry_at(graph, goals, k);
         if entry::input(entry, goals) == goal {
-            return k;
+            return Some(k);
         }
-        k = k + 1;
     }
-    entries
+    None
 }
 
-// The first of the entries that answers the goal, or their number where none does. Entries
-// of one goal under different heads may all fit; which one is taken decides what the parent
-// learns, so it is the one that was inserted first, as in mod.rs.
+// The first of the entries that answers the goal. Entries of one goal under different heads
+// may all fit; which one is taken decides what the parent learns, so it is the one that was
+// inserted first, as in mod.rs.
 pub fn first_match(
     graph: &[u8],
     goals: usize,
@@ -128,19 +132,20 @@ pub fn first_match(
     entries: usize,
     goal: usize,
     step: PathKind,
-) -> usize
+) -> Option<usize>
     requires { StackBytes goals height graph.now × (entries ≤ 2 * goals) }
     ensures { FirstMatch goals height entries goal step graph.now result }
 {
-    let mut i = next_of(graph, goals, entries, goal, 0);
-    while i < entries {
+    // from match to match, so that this is no range; with `next_of` inside it is slower (DECISIONS 75)
+    let mut next = next_of(graph, goals, entries, goal, 0);
+    while let Some(i) = next {
         let entry = entry_at(graph, goals, i);
         if is_match(entry, graph, goals, height, goal, step) {
-            return i;
+            return Some(i);
         }
-        i = next_of(graph, goals, entries, goal, i + 1);
+        next = next_of(graph, goals, entries, goal, i + 1);
     }
-    entries
+    None
 }
 
 // Whether the entry would apply to one of the nested goals. One that met overflow would not:
@@ -159,10 +164,7 @@ fn applies(
         (entry_of goals entry.now) }
 {
     let paths = buffer::get(nested, entry::input(entry, goals));
-    if paths == 0 {
-        return false;
-    }
-    if entry::encountered_overflow(entry, goals) {
+    if paths == 0 || entry::encountered_overflow(entry, goals) {
         return false;
     }
     let head = entry::highest_head(entry, goals);
@@ -185,13 +187,11 @@ pub fn any_applies(
         ≡ any_entry_applies (stack_of goals height graph.now) step nested.now
         (entries_of goals entries graph.now) }
 {
-    let mut i: usize = 0;
-    while i < entries {
+    for i in 0..entries {
         let entry = entry_at(graph, goals, i);
         if applies(entry, graph, goals, height, step, nested) {
             return true;
         }
-        i = i + 1;
     }
     false
 }
@@ -250,15 +250,15 @@ pub fn insert(
     step: PathKind,
     overflow: bool,
     answer: Answer,
-) -> Insertion
+) -> Result<(), Full>
     requires { StackBytes goals height graph.old × ((height < goals) × (goal < 256)) }
     ensures { Inserted goals height entries goal step overflow answer
         graph.old graph.new result }
 {
     if 2 * goals <= entries {
-        return Insertion::Full;
+        return Err(Full);
     }
     let path = path_from_head(graph, goals, height, step);
     write_entry(graph, goals, height, entries, goal, overflow, path, answer);
-    Insertion::Kept
+    Ok(())
 }

@@ -8,8 +8,8 @@ use Rattle.definition.specs.declared.answers.Answer.{Answer}
 use Rattle.definition.specs.declared.answers.Answer.TheVariants.{No, Yes, Undecided, Overflow}
 use Rattle.definition.specs.declared.replies.Refusal.{Refusal}
 use Rattle.definition.specs.declared.replies.Refusal.TheVariants.{BookLength, BookLine, BookHeader, BookBody, UnknownGoal, DepthAboveTop, CacheLength, CacheForm, WorkLength, ProvisionalCacheFull, CacheConflict, Unreachable}
-use Rattle.definition.specs.declared.replies.Response.{Response}
-use Rattle.definition.specs.declared.replies.Response.TheVariants.{Answered, Refused}
+use Rattle.definition.specs.Answers.{Response}
+use Rattle.std.specs.Prelude.{Ok, Err}
 use Rattle.definition.specs.Answers.{answer_number, refusal_number}
 use Rattle.definition.specs.Query.{Reply, query}
 use Rattle.soundness.proofs.Theorems.{never_unreachable}
@@ -36,7 +36,7 @@ some_refusal ProvisionalCacheFull = omega arith
 some_refusal CacheConflict = omega arith
 some_refusal Unreachable = omega arith
 
-in_table : (r : Refusal) → Refused r ≢ Refused Unreachable → refusal_number r ≤ 11
+in_table : (r : Refusal) → ◌≢◌ {A = Response} (Err r) (Err Unreachable) → refusal_number r ≤ 11
 in_table BookLength ne = omega arith
 in_table BookLine ne = omega arith
 in_table BookHeader ne = omega arith
@@ -50,18 +50,18 @@ in_table ProvisionalCacheFull ne = omega arith
 in_table CacheConflict ne = omega arith
 in_table Unreachable ne = absurd (ne refl)
 
-of_table : (r : Response) → r ≢ Refused Unreachable → OfTable r
-of_table (Answered a) ne = is_answer a
-of_table (Refused r) ne = (some_refusal r, in_table r ne)
+of_table : (r : Response) → r ≢ Err Unreachable → OfTable r
+of_table (Ok a) ne = is_answer a
+of_table (Err r) ne = (some_refusal r, in_table r ne)
 
 -- `query`
 pub query_table : (bytes cache work : List ℕ) (goal depth : ℕ) (r : Reply)
     → r ≡ query bytes cache work goal depth → OfTable r.response
 query_table bytes cache work goal depth r e =
     let never = never_unreachable bytes cache work goal depth in
-    of_table r.response (subst (λ (x : Reply). x.response ≢ Refused Unreachable) (sym e) never)
+    of_table r.response (subst (λ (x : Reply). x.response ≢ Err Unreachable) (sym e) never)
 
 -- its code
 pub code_table : (r : Response) → OfTable r → CodeOfTable (response_code r)
-code_table (Answered a) t = inl (omega (arith, t))
-code_table (Refused r) t = inr (refusal_number r, t, omega arith)
+code_table (Ok a) t = inl (omega (arith, t))
+code_table (Err r) t = inr (refusal_number r, t, omega arith)

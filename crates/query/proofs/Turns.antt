@@ -7,8 +7,8 @@ use native.Mathlib.Numerals.{add-one}
 use native.Mathlib.Omega.{arith}
 use lib.ListN.{length, get_or, set, take, drop, take-append-drop, drop_of_length-le}
 use Rattle.definition.specs.declared.answers.Answer.TheVariants.{No, Yes, Undecided, Overflow}
-use Rattle.definition.specs.declared.replies.Response.{Response}
-use Rattle.definition.specs.declared.replies.Response.TheVariants.{Answered, Refused}
+use Rattle.definition.specs.Answers.{Response}
+use Rattle.std.specs.Prelude.{Ok, Err}
 use Rattle.definition.specs.Query.{Reply, query, zeros}
 use Rattle.soundness.specs.Sets.{Goals}
 use Rattle.soundness.specs.Statement.{Query, RightReply, reply_to}
@@ -91,19 +91,19 @@ module _ (bytes : List ℕ) where
       (two cache work left codes i l h (replied r cache' work') e ∙ all)))
 
 -- ---- the codes are right
-says_yes : (r : Response) → response_code r ≡ 1 → r ≡ Answered Yes
-says_yes (Answered No) e = absurd (omega arith)
-says_yes (Answered Yes) e = refl
-says_yes (Answered Undecided) e = absurd (omega arith)
-says_yes (Answered Overflow) e = absurd (omega arith)
-says_yes (Refused r) e = absurd (omega (arith, some_refusal r))
+says_yes : (r : Response) → response_code r ≡ 1 → r ≡ Ok Yes
+says_yes (Ok No) e = absurd (omega arith)
+says_yes (Ok Yes) e = refl
+says_yes (Ok Undecided) e = absurd (omega arith)
+says_yes (Ok Overflow) e = absurd (omega arith)
+says_yes (Err r) e = absurd (omega (arith, some_refusal r))
 
-says_no : (r : Response) → response_code r ≡ 0 → r ≡ Answered No
-says_no (Answered No) e = refl
-says_no (Answered Yes) e = absurd (omega arith)
-says_no (Answered Undecided) e = absurd (omega arith)
-says_no (Answered Overflow) e = absurd (omega arith)
-says_no (Refused r) e = absurd (omega (arith, some_refusal r))
+says_no : (r : Response) → response_code r ≡ 0 → r ≡ Ok No
+says_no (Ok No) e = refl
+says_no (Ok Yes) e = absurd (omega arith)
+says_no (Ok Undecided) e = absurd (omega arith)
+says_no (Ok Overflow) e = absurd (omega arith)
+says_no (Err r) e = absurd (omega (arith, some_refusal r))
 
 pub right_code : (set : Bool → Goals) (goal : ℕ) (reply : Reply) → RightReply set goal reply
     → RightCode set goal (response_code reply.response)

@@ -1,7 +1,7 @@
 -- Demand 1, of what a query comes to: an answer, or a refusal of document 01's table.
 use Rattle.std.specs.Prelude.{◌≡◌, ◌⊎◌, ℕ, ◌*◌, ◌≤◌}
-use Rattle.definition.specs.declared.replies.Response.{Response}
-use Rattle.definition.specs.declared.replies.Response.TheVariants.{Answered, Refused}
+use Rattle.definition.specs.Answers.{Response}
+use Rattle.std.specs.Prelude.{Ok, Err}
 use Rattle.definition.specs.Answers.{answer_number, refusal_number}
 
 -- the numbers of the answers
@@ -13,8 +13,8 @@ abbrev pub IsRefusal : ℕ → Type 0
 IsRefusal n = (1 ≤ n) × (n ≤ 11)
 
 abbrev pub OfTable : Response → Type 0
-OfTable (Answered a) = IsAnswer (answer_number a)
-OfTable (Refused r) = IsRefusal (refusal_number r)
+OfTable (Ok a) = IsAnswer (answer_number a)
+OfTable (Err r) = IsRefusal (refusal_number r)
 
 -- answer + 256 * refusal: an answer and no refusal, or a refusal with answer 0
 abbrev pub CodeOfTable : ℕ → Type 0

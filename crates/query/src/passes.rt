@@ -4,7 +4,6 @@ ghost use Rattle.definition.specs.GlobalCache.{slot_held, slot_depth};
 ghost use Rattle.book.specs.Read.{HeaderInRange};
 ghost use Rattle.query.specs.Passes.{passes_from, passes_in, passes_of};
 
-use book::BookRead;
 use definition::format::Header;
 use global_cache::slot;
 
@@ -12,10 +11,7 @@ use global_cache::slot;
 fn succeeds(s: &[u8], depth: usize) -> bool
     ensures { result ≡ (slot_held s.now && leb (slot_depth s.now) depth) }
 {
-    if !slot::is_held(s) {
-        return false;
-    }
-    slot::depth_of(s) <= depth
+    slot::is_held(s) && slot::depth_of(s) <= depth
 }
 
 // By the slot that answers at a depth: the success slot, or the overflow slot of that depth.
@@ -37,13 +33,7 @@ fn of_goal(cache: &[u8], h: Header, goal: usize, depth: usize) -> u8
 {
     let goals = h.goals;
     let top = h.top;
-    if goals <= goal {
-        return 0;
-    }
-    if top < depth {
-        return 0;
-    }
-    if cache.len() != global_cache::cache_length(goals, top) {
+    if goals <= goal || top < depth || cache.len() != global_cache::cache_length(goals, top) {
         return 0;
     }
     let success = global_cache::slot_at(cache, goals, top, goal, 0);
@@ -52,14 +42,14 @@ fn of_goal(cache: &[u8], h: Header, goal: usize, depth: usize) -> u8
 }
 
 // For the answer to a goal at a depth, after the query that left this cache; 0 where the
-// cache has no answer.
+// cache has no answer, as the question program prints it.
 pub fn of_answer(book: &[u8], cache: &[u8], goal: usize, depth: usize) -> u8
     ensures { result ≡ passes_of book.now cache.now goal depth }
 {
     let mut starts = [0u16; 64];
     let read = book::read(book, &mut starts);
     match read {
-        BookRead::Rejected(_) => 0,
-        BookRead::Accepted(h) => of_goal(cache, h, goal, depth),
+        Err(_) => 0,
+        Ok(h) => of_goal(cache, h, goal, depth),
     }
 }

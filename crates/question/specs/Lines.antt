@@ -1,22 +1,21 @@
 -- The lines that the question program reads and writes, as document 01 has them.
-use Rattle.std.specs.Prelude.{ℕ, Bool, true, false, ◌&&◌, List, [], ◌∷◌, ◌++◌, eqb, length, get_or}
+use Rattle.std.specs.Prelude.{Option as Maybe, Some, None, ℕ, Bool, true, false, ◌&&◌, List, [], ◌∷◌, ◌++◌, eqb, length, get_or}
 use Rattle.std.proofs.Math.Option.{Option, none, some}
-use Rattle.definition.specs.declared.replies.Response.{Response}
+use Rattle.definition.specs.Answers.{Response}
 use Rattle.definition.specs.Line.{columns, field_at}
 use Rattle.definition.specs.Answers.{refusal_number, response_answer, response_refusal}
 use Rattle.question.specs.declared.Question.{Question}
-use Rattle.question.specs.declared.Question.TheVariants.{Asked, IllFormed}
 use Rattle.question.specs.declared.Ending.{Ending}
 use Rattle.question.specs.declared.Ending.TheVariants.{Book, QuestionLine, TooManyGoals}
 
 -- ---- a question line: goal and depth, three columns each, written as a book's fields, and a newline; 7 bytes
-abbrev pub question_of : Bool → Option ℕ → Option ℕ → Question
-question_of true (some goal) (some depth) = Asked goal depth
-question_of true (some goal) none = IllFormed
-question_of true none depth = IllFormed
-question_of false goal depth = IllFormed
+abbrev pub question_of : Bool → Option ℕ → Option ℕ → Maybe Question
+question_of true (some goal) (some depth) = Some (record { goal = goal; depth = depth })
+question_of true (some goal) none = None
+question_of true none depth = None
+question_of false goal depth = None
 
-abbrev pub read_question : List ℕ → Question
+abbrev pub read_question : List ℕ → Maybe Question
 read_question s = question_of (eqb (length s) 7 && eqb (get_or s 6 0) 10) (field_at s 0) (field_at s 3)
 
 -- ---- an output line: goal, depth, answer and refusal, three columns each, and a newline; 13 bytes

@@ -8,23 +8,18 @@ ghost use Rattle.book_file.specs.Counts.{IsPrefixLen};
 ghost use Rattle.replay.specs.Recorded.{WorkLeft, AsRecorded, with_book, with_query};
 
 use book_file::read_full;
+use definition::replies;
 use std::fs::File;
 use std::io;
 use std::io::Read;
 
 // How many books and queries were replayed, and how many replies differed.
-#[derive(Clone, Copy)]
+#[derive(Debug, Default, Clone, Copy, PartialEq, Eq)]
 struct Tally {
     books: u64,
     queries: u64,
     differences: u64,
 }
-
-const NONE: Tally = Tally {
-    books: 0,
-    queries: 0,
-    differences: 0,
-};
 
 // ---- comparing
 
@@ -33,13 +28,10 @@ const NONE: Tally = Tally {
 fn work_is_left(refusal: u64, work: &[u8], before: &[u8]) -> bool
     ensures { result ≡ true → WorkLeft refusal work.now before.now }
 {
-    if refusal < 1 {
-        return buffer::all_zero(work);
+    match refusal {
+        1..=9 => work == before,
+        _ => buffer::all_zero(work),
     }
-    if 9 < refusal {
-        return buffer::all_zero(work);
-    }
-    work == before
 }
 
 // Whether a reply is as it was recorded.
@@ -54,13 +46,7 @@ fn as_recorded(
     ensures { result ≡ true → AsRecorded code recorded cache.now after.now
         work.now before.now }
 {
-    if code != recorded {
-        return false;
-    }
-    if cache != after {
-        return false;
-    }
-    work_is_left(code / 256, work, before)
+    code == recorded && cache == after && work_is_left(code / 256, work, before)
 }
 
 // ---- the file
@@ -69,7 +55,7 @@ fn as_recorded(
 fn number(file: &mut impl Read) -> u64 {
     let mut bytes = [0u8; 8];
     read_full(file, &mut bytes);
-    buffer::read_u64(&bytes, 0)
+    u64::from_le_bytes(bytes)
 }
 
 // The next bytes, whose length stands before them, at the start of a buffer; none where
@@ -86,11 +72,13 @@ fn bytes(file: &mut impl Read, buf: &mut [u8]) -> usize
 
 // ---- replaying
 
+const WORK_ROOM: usize = 1000000;
+
 // Room for the largest workspace, filled with sevens.
-fn sevens() -> [u8; 1000000]
-    ensures { 1000000 ≡ length result }
+fn sevens() -> [u8; WORK_ROOM]
+    ensures { WORK_ROOM ≡ length result }
 {
-    [7; 1000000]
+    [7; WORK_ROOM]
 }
 
 // Replays a query and says whether its reply is as it was recorded.
@@ -102,14 +90,14 @@ fn replay_query(file: &mut impl Read, book: &[u8], cache: &mut [u8], after: &mut
     let n = number(file) as usize;
     let recorded = number(file);
     bytes(file, after);
-    if 1000000 < n {
+    if WORK_ROOM < n {
         return false;
     }
     let mut work = sevens();
     let before = work;
     let r = query::query(book, cache, &mut work[..n], goal, depth);
     as_recorded(
-        r.code() as u64,
+        u64::from(replies::code(r)),
         recorded,
         cache,
         after,
@@ -119,35 +107,21 @@ fn replay_query(file: &mut impl Read, book: &[u8], cache: &mut [u8], after: &mut
 }
 
 impl Tally {
-    fn with_query(self, same: bool) -> Tally
-        ensures { result ≡ with_query same self }
+    fn count_query(&mut self, same: bool)
+        ensures { self.new ≡ with_query same self.old }
     {
-        let queries = self.queries.wrapping_add(1);
-        if same {
-            return Tally {
-                books: self.books,
-                queries,
-                differences: self.differences,
-            };
-        }
-        Tally {
-            books: self.books,
-            queries,
-            differences: self.differences.wrapping_add(1),
-        }
+        self.queries = self.queries.wrapping_add(1);
+        self.differences = self.differences.wrapping_add(u64::from(!same));
     }
 
-    fn with_book(self) -> Tally
-        ensures { result ≡ with_book self }
+    fn count_book(&mut self)
+        ensures { self.new ≡ with_book self.old }
     {
-        Tally {
-            books: self.books.wrapping_add(1),
-            queries: self.queries,
-            differences: self.differences,
-        }
+        self.books = self.books.wrapping_add(1);
     }
 }
 
+// The name is bytes that nobody looked at, and need not be text.
 fn say_difference(rt: &impl Print, name: &[u8], query: u64) -> io::Result<()> {
     rt.write_all(b"differs: ")?;
     rt.write_all(name)?;
@@ -161,22 +135,21 @@ fn replay_queries(
     book: &[u8],
     cache: &mut [u8],
     after: &mut [u8],
-    tally: Tally,
-) -> io::Result<Tally> {
-    let mut t = tally;
+    tally: &mut Tally,
+) -> io::Result<()> {
     let n = number(file);
     for i in 0..n {
         let same = replay_query(file, book, cache, after);
         if !same {
             say_difference(rt, name, i + 1)?;
         }
-        t = t.with_query(same);
+        tally.count_query(same);
     }
-    Ok(t)
+    Ok(())
 }
 
 // Replays a book's queries, with the cache carried from each to the next.
-fn replay_book(rt: &impl Print, file: &mut impl Read, tally: Tally) -> io::Result<Tally> {
+fn replay_book(rt: &impl Print, file: &mut impl Read, tally: &mut Tally) -> io::Result<()> {
     let mut name = [0u8; 4096];
     let mut book = book_file::buffer();
     let mut cache = book_file::buffer();
@@ -184,7 +157,7 @@ fn replay_book(rt: &impl Print, file: &mut impl Read, tally: Tally) -> io::Resul
     let n = bytes(file, &mut name);
     let b = bytes(file, &mut book);
     let c = bytes(file, &mut cache);
-    let t = tally.with_book();
+    tally.count_book();
     replay_queries(
         rt,
         file,
@@ -192,29 +165,28 @@ fn replay_book(rt: &impl Print, file: &mut impl Read, tally: Tally) -> io::Resul
         &book[..b],
         &mut cache[..c],
         &mut after[..c],
-        t,
+        tally,
     )
 }
 
-fn replay(rt: &impl Print, file: &mut impl Read) -> io::Result<Tally> {
-    let mut t = NONE;
+fn replay(rt: &impl Print, file: &mut impl Read, tally: &mut Tally) -> io::Result<()> {
     let books = number(file);
     for _ in 0..books {
-        t = replay_book(rt, file, t)?;
+        replay_book(rt, file, tally)?;
     }
-    Ok(t)
+    Ok(())
 }
 
 // A file that cannot be opened has no books.
 fn main(rt: HostRuntime) -> io::Result<()> {
-    let t = match File::open(&rt, "vectors.bin") {
-        Ok(mut file) => replay(&rt, &mut file)?,
-        Err(_) => NONE,
-    };
+    let mut tally = Tally::default();
+    if let Ok(mut file) = File::open(&rt, "vectors.bin") {
+        replay(&rt, &mut file, &mut tally)?;
+    }
     let Tally {
         books,
         queries,
         differences,
-    } = t;
+    } = tally;
     println!(rt; "replayed {books} books, {queries} queries, {differences} differences")
 }

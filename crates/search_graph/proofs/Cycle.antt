@@ -13,6 +13,7 @@ use Rattle.definition.specs.Stack.{Stack, CountsTrue}
 use Rattle.definition.specs.declared.paths.PathKind.{PathKind}
 use Rattle.definition.specs.declared.answers.Answer.{Answer}
 use Rattle.definition.specs.declared.format.Header.{Header}
+use Rattle.definition.specs.declared.replies.Refusal.{Refusal}
 use Rattle.definition.specs.declared.replies.Refusal.TheVariants.{Unreachable}
 use Rattle.definition.specs.Part.{Book, part_at}
 use Rattle.definition.specs.Graph.{Graph, with_stack}
@@ -28,19 +29,18 @@ use Rattle.stack.proofs.Places.{places_pushed, places_popped, same_places}
 use Rattle.book.specs.Parts.{part_in}
 use Rattle.book.specs.Read.{book_in}
 use Rattle.global_cache.specs.Cache.{CacheBytes}
-use Rattle.evaluation.specs.declared.Outcome.{Outcome}
-use Rattle.evaluation.specs.declared.Outcome.TheVariants.{Done, Stopped}
-use Rattle.evaluation.specs.declared.TaskOutcome.{TaskOutcome}
-use Rattle.evaluation.specs.declared.Ran.{Ran}
+use Rattle.std.specs.Prelude.{Result, Ok, Err}
+use Rattle.std.proofs.lemmas.Result.{IfOk-at_ok}
+use Rattle.evaluation.specs.declared.Evaluated.{Evaluated}
 use Rattle.evaluation.specs.Workspace.{WorkBytes, graph_in, stack_in}
-use Rattle.evaluation.specs.Outcomes.{outcome_of, task_outcome_of, IsDone, CountsIn, TaskCountsIn}
+use Rattle.evaluation.specs.Outcomes.{Outcome, TaskOutcome, done, outcome_of, task_outcome_of, IsDone, CountsIn, TaskCountsIn}
 use Rattle.delegate.specs.Picks.{graph_at}
 use Rattle.lookup.specs.declared.Found.{Found}
 use Rattle.lookup.specs.declared.Found.TheVariants.{Known, Push}
 use Rattle.lookup.specs.Lookups.{found}
 use Rattle.task.specs.declared.Iteration.{Iteration}
 use Rattle.task.specs.declared.Iteration.TheVariants.{End, Again}
-use Rattle.task.specs.Turns.{next_turn, turned, FewTurned, CountsTurned}
+use Rattle.task.specs.Turns.{next_turn, turned, taken, FewTurned, CountsTurned}
 use Rattle.task.proofs.Turns.{turn_is, next_is}
 use Rattle.search_graph.specs.Calls.{Running, evaluator, goal_from, task_from, Comes, TaskComes, part_from, computed}
 use Rattle.search_graph.specs.Between.{LookedUp, Pushed, IterationEnded, Finished}
@@ -162,7 +162,7 @@ module _ {book starts places cache work : List ℕ} {h : Header} {root height n 
 
   pub known : (a : Answer) → r ≡ Known a
       → Comes h.goals root height height (goal_from book h root height n work cache goal step lower) work work1
-      cache places (Done a n)
+      cache places (done a n)
   unfolding outcome_of found
   known a e =
       record {
@@ -183,7 +183,7 @@ module _ {book starts places cache work : List ℕ} {h : Header} {root height n 
     -- every goal is on the stack
     pub full : h.goals ≤ height
         → Comes h.goals root height height (goal_from book h root height n work cache goal step lower) work work1
-        cache places (Stopped Unreachable)
+        cache places (Err Unreachable)
     unfolding outcome_of
     full le =
         let none-off : h.goals - height ≡ 0 = omega arith in
@@ -232,8 +232,8 @@ module _ {book starts places cache work : List ℕ} {h : Header} {root height n 
     module _ (lt : height < h.goals) (known-goal : goal < h.goals) {work2 : List ℕ}
         (push : Pushed h.goals height goal step d work1 work2)
         {p : List ℕ} (starts-at : p ≡ drop (get_or starts goal 0) book) {left : ℕ} (less : left ≡ pred h.limit)
-        {work3 cache3 places3 : List ℕ} {o : Ran}
-        (ran : TaskComes h.goals root (height + 1 - 1) (task_from book p h root (height + 1) n left work2 cache)
+        {work3 cache3 places3 : List ℕ} {o : TaskOutcome}
+        (came : TaskComes h.goals root (height + 1 - 1) (task_from book p h root (height + 1) n left work2 cache)
         work2 work3 cache3 places3 o)
       where
         the_part : part_at (book_in book).parts goal ≡ some (part_in h.goals false p)
@@ -259,31 +259,31 @@ module _ {book starts places cache work : List ℕ} {h : Header} {root height n 
             ∙ ap (λ (x : Header). eval_part (evaluator book h (height + 1)) x.goals (part_in h.goals false p))
             run.read.header
 
-        tasks : task_outcome_of h.goals root height o.passes (graph_in h.goals work3) cache3 o.outcome
+        tasks : task_outcome_of h.goals root height (graph_in h.goals work3) cache3 o
             ≡ evaluate_goal_in_task (computer book h height goal) (pred h.limit) 1 false
             (with_stack (graph_at h.goals root height n work1 cache)
             (new_frame h.goals goal step d (stack_in h.goals height work1) ∷ stack_in h.goals height work1))
         tasks =
-            ap (λ (m : ℕ). task_outcome_of h.goals root m o.passes (graph_in h.goals work3) cache3 o.outcome) (sym popped)
-            ∙ ran.is
+            ap (λ (m : ℕ). task_outcome_of h.goals root m (graph_in h.goals work3) cache3 o) (sym popped)
+            ∙ came.is
             ∙ (λ i. evaluate_goal_in_task (sym computes i) (less i) 1 false (push.is root n cache i))
 
         -- the frames below are as they were, but for what no count and no place depends on
-        pub ran_counts : TaskCountsIn (stack_in h.goals height work3) o.outcome
+        pub ran_counts : TaskCountsIn (stack_in h.goals height work3) o
         ran_counts =
-            subst (λ (k : ℕ). TaskCountsIn (stack_in h.goals k work3) o.outcome) popped
-            (task_counts_in h.goals root (height + 1 - 1) o.passes (graph_in h.goals work3) cache3 o.outcome
+            subst (λ (k : ℕ). TaskCountsIn (stack_in h.goals k work3) o) popped
+            (task_counts_in h.goals root (height + 1 - 1) (graph_in h.goals work3) cache3 o
             (stack_in h.goals height work1) (looked_counts e)
-            (subst (TaskKept (skeleton (stack_in h.goals height work1))) (sym ran.is)
+            (subst (TaskKept (skeleton (stack_in h.goals height work1))) (sym came.is)
             (task_kept _ _ (computed book p false h (height + 1)) (computed_kept book p false h (height + 1) _) left 1 false
             (graph_at h.goals root (height + 1) n work2 cache) (ap skeleton (pushed_stack push)))))
 
-        ran_placed : PlacesHeld (stack_in h.goals height work) places3
-        ran_placed =
+        came_placed : PlacesHeld (stack_in h.goals height work) places3
+        came_placed =
             subst (λ (l : Stack). PlacesHeld l places3)
             (ap (λ (k : ℕ). stack_in h.goals k work2) popped
             ∙ under_is h.goals height (graph_in h.goals work2) (pushed_stack push) ∙ sym (looked_same e))
-            ran.placed
+            came.placed
 
         pub framed : {work4 cache4 : List ℕ} {x : Outcome}
             → Finished h height goal step d o work3 work4 cache3 cache4 x
@@ -293,8 +293,8 @@ module _ {book starts places cache work : List ℕ} {h : Header} {root height n 
             record {
               is = end.is root ∙ ap (after_task h goal step d) tasks ∙ sym pushes;
               few = end.few;
-              merged = λ i low. end.merged i ∙ ran.merged i (rw popped low) ∙ push.merged i ∙ looked.merged i;
-              placed = ran_placed;
+              merged = λ i low. end.merged i ∙ came.merged i (rw popped low) ∙ push.merged i ∙ looked.merged i;
+              placed = came_placed;
             }
 
 -- ---- rerun: a turn of its loop. The iterations from here on make the whole; `first` is the workspace before the loop,
@@ -310,90 +310,101 @@ pub record Turn (f : Graph → graph.Outcome) (goals root height most : ℕ) (wh
   pub bones : skeleton (stack_in goals height work) ≡ skeleton (stack_in goals height first)
   pub placed : PlacesHeld (stack_in goals height first) places
 
-pub turn_starts : {f : Graph → graph.Outcome} {goals root height : ℕ} {work cache places : List ℕ} {left : ℕ}
-    {overflow : Bool} {n : ℕ} → n ≤ 2 * goals → CountsTrue (stack_in goals height work)
-    → PlacesHeld (stack_in goals height work) places
-    → Turn f goals root height left (evaluate_goal_in_task f left 1 overflow (graph_at goals root height n work cache))
-    work work cache places left overflow n
-turn_starts {f} {goals} {root} {height} {work} {cache} {places} {left} {overflow} {n} few counts placed =
-    let first : left - left + 1 ≡ 1 = omega arith in
-    record {
-      low = omega arith;
-      few = few;
-      value = ap (λ (pass : ℕ). evaluate_goal_in_task f left pass overflow (graph_at goals root height n work cache)) first;
-      merged = λ i lt. refl;
-      counts = counts;
-      bones = refl;
-      placed = placed;
-    }
-
 module _ {f : Graph → graph.Outcome} {goals root height most : ℕ} {whole : task.TaskOutcome}
     {first work cache places : List ℕ}
     {left : ℕ} {overflow : Bool} {n : ℕ}
     (here : Turn f goals root height most whole first work cache places left overflow n)
     {work1 cache1 places1 : List ℕ} {o : Outcome}
     (read : Comes goals root height (height - 1) (f (graph_at goals root height n work cache)) work work1 cache1
-    places1 o)
-    {work2 : List ℕ} {r : Iteration} (ended : IterationEnded goals height left overflow o work1 work2 r) where
+    places1 o) where
   -- the number of this turn
   abbrev pass : ℕ
   pass = most - left + 1
 
-  goes_on : turned goals root height pass (next_turn f left pass) (graph_in goals work2) cache1 r ≡ whole
-  goes_on =
-      sym (ended.is root cache1 pass (next_turn f left pass))
-      ∙ ap (iteration left pass (next_turn f left pass) overflow) read.is
+  -- what is left to do after the part was run
+  turn_whole : iteration left pass (next_turn f left pass) overflow (outcome_of goals root height (graph_in goals work1) cache1 o)
+      ≡ whole
+  turn_whole =
+      ap (iteration left pass (next_turn f left pass) overflow) read.is
       ∙ sym (turn_is f left pass overflow (graph_at goals root height n work cache))
       ∙ here.value
-
-  merged_on : (i : ℕ) → i < height - 1 → merged_of goals i work2 ≡ merged_of goals i first
-  merged_on i lt = ended.merged i ∙ read.merged i lt ∙ here.merged i lt
 
   placed_on : PlacesHeld (stack_in goals height first) places1
   placed_on =
       same_places (stack_in goals height work) (stack_in goals height first) places1 (sym here.bones) read.placed
 
-  pub turn_ends : 1 ≤ height → most < 99 → (t : TaskOutcome) → r ≡ End t
-      → TaskComes goals root (height - 1) whole first work2 cache1 places1 (record { outcome = t; passes = pass })
-  unfolding turned
-  turn_ends under few t e =
-      record {
-        is = sym (ap (turned goals root height pass (next_turn f left pass) (graph_in goals work2) cache1) e) ∙ goes_on;
-        few = subst (FewTurned goals left) e ended.few;
-        passes = omega arith;
-        merged = merged_on;
-        placed = places_popped _ _ places1
-            (subst (λ (l : Stack). PlacesHeld l places1) (top goals (graph_in goals first) height under) placed_on);
-      }
+  placed_under : 1 ≤ height → PlacesHeld (stack_in goals (height - 1) first) places1
+  placed_under under =
+      places_popped _ _ places1
+      (subst (λ (l : Stack). PlacesHeld l places1) (top goals (graph_in goals first) height under) placed_on)
 
-  -- an iteration is left
-  pub turn_left : (met : Bool) (m : ℕ) → r ≡ Again met m → 0 < left
-  turn_left met m e = (subst (FewTurned goals left) e ended.few).1
+  module _ {work2 : List ℕ} {r : Result Iteration Refusal}
+      (ended : IterationEnded goals height left overflow o work1 work2 r) where
+    goes_on : taken goals root height pass (next_turn f left pass) (graph_in goals work2) cache1 r ≡ whole
+    goes_on = sym (ended.is root cache1 pass (next_turn f left pass)) ∙ turn_whole
 
-  pub turn_again : ((k : Stack) (g : Graph) → skeleton g.stack ≡ k → Kept k (f g))
-      → (met : Bool) (m : ℕ) → r ≡ Again met m
-      → Turn f goals root height most whole first work2 cache1 places1 (left - 1) met m
-  unfolding turned
-  turn_again keeps met m e =
-      let some = turn_left met m e in
-      let before = here.low in
-      let next-pass : suc pass ≡ most - (left - 1) + 1 = omega arith in
-      record {
-        low = omega arith;
-        few = (subst (FewTurned goals left) e ended.few).0;
-        value =
-            sym (ap (λ (k : ℕ). evaluate_goal_in_task f (left - 1) k met (graph_at goals root height m work2 cache1)) next-pass)
-            ∙ sym (ap (λ (next : Bool → Graph → task.TaskOutcome). next met (graph_at goals root height m work2 cache1)) (next_is f left pass some))
-            ∙ sym (ap (turned goals root height pass (next_turn f left pass) (graph_in goals work2) cache1) e) ∙ goes_on;
-        merged = merged_on;
-        counts = subst (CountsTurned (stack_in goals height work2)) e ended.counts;
-        bones =
-            again_kept left pass overflow met (graph_at goals root height m work2 cache1) _
-            (outcome_of goals root height (graph_in goals work1) cache1 o)
-            (λ next. ended.is root cache1 pass next
-            ∙ ap (turned goals root height pass next (graph_in goals work2) cache1) e)
-            (subst (Kept (skeleton (stack_in goals height work))) (sym read.is)
-            (keeps _ (graph_at goals root height n work cache) refl))
-            ∙ here.bones;
-        placed = placed_on;
-      }
+    merged_on : (i : ℕ) → i < height - 1 → merged_of goals i work2 ≡ merged_of goals i first
+    merged_on i lt = ended.merged i ∙ read.merged i lt ∙ here.merged i lt
+
+    -- a refusal is the task's
+    pub turn_refused : 1 ≤ height → (x : Refusal) → r ≡ Err x
+        → TaskComes goals root (height - 1) whole first work2 cache1 places1 (Err x)
+    turn_refused under x e =
+        record {
+          is = sym (ap (taken goals root height pass (next_turn f left pass) (graph_in goals work2) cache1) e) ∙ goes_on;
+          few = tt;
+          merged = merged_on;
+          placed = placed_under under;
+        }
+
+    module _ {i : Iteration} (ok : r ≡ Ok i) where
+      turns_on : turned goals root height pass (next_turn f left pass) (graph_in goals work2) cache1 i ≡ whole
+      turns_on = sym (ap (taken goals root height pass (next_turn f left pass) (graph_in goals work2) cache1) ok) ∙ goes_on
+
+      few_on : FewTurned goals left i
+      few_on = IfOk-at_ok (FewTurned goals left) ok ended.few
+
+      pub turn_ends : 1 ≤ height → most < 99 → (e : Evaluated) → i ≡ End e
+          → TaskComes goals root (height - 1) whole first work2 cache1 places1 (Ok (record { evaluated = e; passes = pass }))
+      unfolding turned
+      turn_ends under few e is =
+          record {
+            is = sym (ap (turned goals root height pass (next_turn f left pass) (graph_in goals work2) cache1) is) ∙ turns_on;
+            few = (subst (FewTurned goals left) is few_on, omega arith);
+            merged = merged_on;
+            placed = placed_under under;
+          }
+
+      -- an iteration is left
+      pub turn_left : (met : Bool) (m : ℕ) → i ≡ Again met m → 0 < left
+      turn_left met m e = (subst (FewTurned goals left) e few_on).1
+
+      pub turn_again : ((k : Stack) (g : Graph) → skeleton g.stack ≡ k → Kept k (f g))
+          → (met : Bool) (m : ℕ) → i ≡ Again met m
+          → Turn f goals root height most whole first work2 cache1 places1 (left - 1) met m
+      unfolding turned
+      turn_again keeps met m e =
+          let some = turn_left met m e in
+          let before = here.low in
+          let next-pass : suc pass ≡ most - (left - 1) + 1 = omega arith in
+          record {
+            low = omega arith;
+            few = (subst (FewTurned goals left) e few_on).0;
+            value =
+                sym (ap (λ (k : ℕ). evaluate_goal_in_task f (left - 1) k met (graph_at goals root height m work2 cache1)) next-pass)
+                ∙ sym (ap (λ (next : Bool → Graph → task.TaskOutcome). next met (graph_at goals root height m work2 cache1)) (next_is f left pass some))
+                ∙ sym (ap (turned goals root height pass (next_turn f left pass) (graph_in goals work2) cache1) e) ∙ turns_on;
+            merged = merged_on;
+            counts = subst (CountsTurned (stack_in goals height work2)) e
+                (IfOk-at_ok (CountsTurned (stack_in goals height work2)) ok ended.counts);
+            bones =
+                again_kept left pass overflow met (graph_at goals root height m work2 cache1) _
+                (outcome_of goals root height (graph_in goals work1) cache1 o)
+                (λ next. ended.is root cache1 pass next
+                ∙ ap (taken goals root height pass next (graph_in goals work2) cache1) ok
+                ∙ ap (turned goals root height pass next (graph_in goals work2) cache1) e)
+                (subst (Kept (skeleton (stack_in goals height work))) (sym read.is)
+                (keeps _ (graph_at goals root height n work cache) refl))
+                ∙ here.bones;
+            placed = placed_on;
+          }

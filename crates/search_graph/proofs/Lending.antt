@@ -13,16 +13,16 @@ use Rattle.layout.specs.Work.{graph_length, stack_of, entries_of, graph_of}
 use Rattle.stack.specs.Bytes.{StackBytes}
 use Rattle.definition.specs.Task.{iteration}
 use Rattle.stack.proofs.Parts.{part, returned}
-use Rattle.evaluation.specs.declared.Outcome.{Outcome}
-use Rattle.evaluation.specs.declared.Ran.{Ran}
+use Rattle.std.specs.Prelude.{Result, IfOk}
+use Rattle.definition.specs.declared.replies.Refusal.{Refusal}
 use Rattle.evaluation.specs.Workspace.{WorkBytes, graph_in, stack_in}
-use Rattle.evaluation.specs.Outcomes.{outcome_of, task_outcome_of}
+use Rattle.evaluation.specs.Outcomes.{Outcome, TaskOutcome, outcome_of, task_outcome_of}
 use Rattle.evaluation.proofs.Lent.{lent_bytes, lent_graph, graph_back, merged_back}
 use Rattle.lookup.specs.declared.Found.{Found}
 use Rattle.lookup.specs.Lookups.{found}
 use Rattle.lookup.specs.Answers.{Answered}
 use Rattle.task.specs.declared.Iteration.{Iteration}
-use Rattle.task.specs.Turns.{turned, CountsTurned}
+use Rattle.task.specs.Turns.{taken, CountsTurned}
 use Rattle.task.specs.Iterations.{TurnTaken}
 use Rattle.task.specs.Results as results
 use Rattle.search_graph.specs.Between.{LookedUp, Pushed, IterationEnded, Finished}
@@ -66,16 +66,16 @@ module _
           merged = merged_back h.goals work w n is ys kept;
         }
 
-    pub finished : (height goal : ℕ) (step : PathKind) (available : ℕ) (ran : Ran) (cache cache_after : List ℕ) (r : Outcome)
-        → results.Finished h height goal step available ran cache cache_after (part work 0 n) ys r
-        → Finished h height goal step available ran work (returned work 0 n ys) cache cache_after r
-    finished height goal step available ran cache cache_after r made =
+    pub finished : (height goal : ℕ) (step : PathKind) (available : ℕ) (o : TaskOutcome) (cache cache_after : List ℕ) (r : Outcome)
+        → results.Finished h height goal step available o cache cache_after (part work 0 n) ys r
+        → Finished h height goal step available o work (returned work 0 n ys) cache cache_after r
+    finished height goal step available o cache cache_after r made =
         record {
           is = λ root.
               ap (λ (bs : List ℕ). outcome_of h.goals root height bs cache_after r) (graph_back h.goals work w n is ys kept)
               ∙ made.is root
               ∙ ap (λ (bs : List ℕ). after_task h goal step available
-              (task_outcome_of h.goals root height ran.passes bs cache ran.outcome))
+              (task_outcome_of h.goals root height bs cache o))
               (lent_graph h.goals work w n is);
           few = made.few;
           merged = merged_back h.goals work w n is ys kept;
@@ -107,17 +107,17 @@ module _
           merged = merged_back goals work w n is ys kept;
         }
 
-    pub iteration_ended : (height left : ℕ) (overflow : Bool) (o : Outcome) (r : Iteration)
+    pub iteration_ended : (height left : ℕ) (overflow : Bool) (o : Outcome) (r : Result Iteration Refusal)
         → TurnTaken goals height left overflow o (part work 0 n) ys r
         → IterationEnded goals height left overflow o work (returned work 0 n ys) r
-    iteration_ended height left overflow o r taken =
+    iteration_ended height left overflow o r made =
         record {
           is = λ root cache pass next.
               ap (λ (bs : List ℕ). iteration left pass next overflow (outcome_of goals root height bs cache o)) (sym (lent_graph goals work w n is))
-              ∙ taken.is root cache pass next
-              ∙ ap (λ (bs : List ℕ). turned goals root height pass next bs cache r) (sym (graph_back goals work w n is ys kept));
-          few = taken.few;
-          counts = subst (λ (bs : List ℕ). CountsTurned (stack_of goals height bs) r)
-              (sym (graph_back goals work w n is ys kept)) taken.counts;
+              ∙ made.is root cache pass next
+              ∙ ap (λ (bs : List ℕ). taken goals root height pass next bs cache r) (sym (graph_back goals work w n is ys kept));
+          few = made.few;
+          counts = subst (λ (bs : List ℕ). IfOk r (CountsTurned (stack_of goals height bs)))
+              (sym (graph_back goals work w n is ys kept)) made.counts;
           merged = merged_back goals work w n is ys kept;
         }

@@ -34,18 +34,16 @@ use Rattle.book.specs.Parts.{Reads, part_in, PassedOver, ReadsParts, parts_in}
 use Rattle.book.specs.contracts.code.Code.{the_type}
 use Rattle.book.proofs.Walk.{a_line, no_goal_line, known_code, is_call, is_group_lem, is_pick, is_undecided}
 use Rattle.book.proofs.Walk.{no_parts, others_of, first_and_lem, none_read, none_then, others_read, first_then}
-use Rattle.evaluation.specs.declared.Outcome.{Outcome}
-use Rattle.evaluation.specs.declared.Outcome.TheVariants.{Done}
+use Rattle.std.specs.Prelude.{Result, Ok, Err}
+use Rattle.std.specs.declared.ops.ControlFlow.TheVariants.{Continue, Break}
+use Rattle.definition.specs.declared.replies.Refusal.{Refusal}
+use Rattle.evaluation.specs.declared.Done.{Done}
 use Rattle.evaluation.specs.Workspace.{graph_in, stack_in}
-use Rattle.evaluation.specs.Outcomes.{outcome_of, FewEntries}
+use Rattle.evaluation.specs.Outcomes.{Outcome, done, outcome_of, FewEntries}
 use Rattle.delegate.specs.declared.group.Group.{Group}
-use Rattle.delegate.specs.declared.group.Weighed.{Weighed}
-use Rattle.delegate.specs.declared.group.Weighed.TheVariants as weighed
 use Rattle.delegate.specs.Groups.{GroupStarted, GroupWeighed, GroupClosed}
 use Rattle.delegate.specs.Groups as groups
 use Rattle.delegate.specs.declared.pick.Pick.{Pick}
-use Rattle.delegate.specs.declared.pick.Tried.{Tried}
-use Rattle.delegate.specs.declared.pick.Tried.TheVariants as tried
 use Rattle.delegate.specs.Picks.{graph_at, PickBegun, CandidateEntered, CandidateFinished, PickEnded}
 use Rattle.delegate.specs.Picks as picks
 use Rattle.delegate.proofs.Groups.{rest_then}
@@ -96,7 +94,7 @@ module _ {book starts places cache work : List ℕ} {h : Header} {root height n 
   pub undecided_comes : (code : Code) → code ≡ code_of (line_in p).code → OneOf (0 ∷ 4 ∷ 5 ∷ []) (tag_of the_type code)
       → Comes h.goals root height (kept_below in_pick height) (part_from book p in_pick h root height n work cache)
       work work cache places
-      (Done answers.Undecided n)
+      (done answers.Undecided n)
   unfolding outcome_of
   undecided_comes code e k =
       record {
@@ -196,17 +194,19 @@ module _ {book : List ℕ} {h : Header} {root height : ℕ} {in_pick : Bool} {wh
     {group : Group} {t : List ℕ} {k : ℕ}
     (walk : GroupWalk book h root height in_pick whole room first work cache places group t k) where
   -- after the last part
-  pub group_ends : k ≤ 0 → {r : Outcome} → GroupClosed group r
-      → Comes h.goals root height (kept_below in_pick height) whole first work cache places r
-  group_ends z closed =
+  pub group_ends : k ≤ 0 → {d : Done} → GroupClosed group d
+      → Comes h.goals root height (kept_below in_pick height) whole first work cache places (Ok d)
+  unfolding outcome_of
+  group_ends z {d} closed =
       record {
-        is = closed.whole (evaluator book h height) h.goals root height (graph_in h.goals work) cache
+        is = (λ i. graph.Done (graph_at h.goals root height (closed.count i) work cache) d.answer)
+            ∙ closed.whole (evaluator book h height) h.goals (graph_at h.goals root height group.entries work cache)
             ∙ ap (λ (ps : Parts).
             groups.rest (evaluator book h height) h.goals group ps
             (graph_at h.goals root height group.entries work cache))
             (sym (no_parts h.goals in_pick k t walk.parts z))
             ∙ walk.value;
-        few = closed.few h.goals walk.few;
+        few = rw closed.count walk.few;
         merged = walk.merged;
         placed = walk.placed;
       }
@@ -214,14 +214,13 @@ module _ {book : List ℕ} {h : Header} {root height : ℕ} {in_pick : Bool} {wh
   -- after a part
   module _ {work1 cache1 places1 : List ℕ} {o : Outcome}
       (read : Comes h.goals root height (kept_below in_pick height)
-      (part_from book t in_pick h root height group.entries work cache) work work1 cache1 places1 o)
-      {r : Weighed} (weigh : GroupWeighed o group r) where
-    group_goes_on : (ps : Parts) → parts_in h.goals in_pick k t ≡ Then (part_in h.goals in_pick t) ps
-        → groups.left_of (evaluator book h height) h.goals root height ps (graph_in h.goals work1) cache1
-        r ≡ whole
-    group_goes_on ps e =
-        weigh.whole (evaluator book h height) h.goals root height ps (graph_in h.goals work1) cache1
-        ∙ ap (λ (x : graph.Outcome). and_then x (groups.next (evaluator book h height) h.goals group ps)) read.is
+      (part_from book t in_pick h root height group.entries work cache) work work1 cache1 places1 o) where
+    part_then : (ps : Parts) → parts_in h.goals in_pick k t ≡ Then (part_in h.goals in_pick t) ps
+        → and_then (outcome_of h.goals root height (graph_in h.goals work1) cache1 o)
+        (groups.next (evaluator book h height) h.goals group ps)
+        ≡ whole
+    part_then ps e =
+        ap (λ (x : graph.Outcome). and_then x (groups.next (evaluator book h height) h.goals group ps)) read.is
         ∙ sym (rest_then (evaluator book h height) h.goals group (part_in h.goals in_pick t) ps _)
         ∙ ap (λ (qs : Parts).
         groups.rest (evaluator book h height) h.goals group qs
@@ -236,39 +235,50 @@ module _ {book : List ℕ} {h : Header} {root height : ℕ} {in_pick : Bool} {wh
     group_placed = same_places (stack_in h.goals height work) (stack_in h.goals height first) places1
         (sym walk.bones) read.placed
 
-    pub group_stops : 0 < k → (x : Outcome) → r ≡ weighed.Ended x
-        → Comes h.goals root height (kept_below in_pick height) whole first work1 cache1 places1 x
-    unfolding groups.left_of
-    group_stops pos x e =
-        let ps = others_of h.goals in_pick k t walk.parts pos in
-        record {
-          is = sym (ap (groups.left_of (evaluator book h height) h.goals root height ps (graph_in h.goals work1)
-              cache1) e)
-              ∙ group_goes_on ps (first_and_lem h.goals in_pick k t walk.parts pos);
-          few = subst (groups.FewLeft h.goals) e (weigh.few h.goals read.few);
-          merged = group_merged;
-          placed = group_placed;
-        }
+    module _ {r : groups.Weighed} (weigh : GroupWeighed o group r) where
+      group_goes_on : (ps : Parts) → parts_in h.goals in_pick k t ≡ Then (part_in h.goals in_pick t) ps
+          → groups.left_of (evaluator book h height) h.goals root height ps (graph_in h.goals work1) cache1
+          r ≡ whole
+      group_goes_on ps e =
+          weigh.whole (evaluator book h height) h.goals root height ps (graph_in h.goals work1) cache1
+          ∙ part_then ps e
 
-    pub group_next : (x : Group) → r ≡ weighed.More x → {u : List ℕ} → LeftAt h.goals in_pick k t u
-        → GroupWalk book h root height in_pick whole room first work1 cache1 places1 x u (k - 1)
-    unfolding groups.left_of
-    group_next x e {u} left =
-        let ps = parts_in h.goals in_pick (k - 1) u in
-        let s = walk.shorter in
-        let s1 = left.shorter in
-        record {
-          few = subst (groups.FewLeft h.goals) e (weigh.few h.goals read.few);
-          parts = left.parts;
-          shorter = omega arith;
-          value = sym (ap (groups.left_of (evaluator book h height) h.goals root height ps
-              (graph_in h.goals work1) cache1) e)
-              ∙ group_goes_on ps left.first;
-          merged = group_merged;
-          bones = part_skeleton book h root height group.entries work cache in_pick t read (weigh.answered x e)
-              ∙ walk.bones;
-          placed = group_placed;
-        }
+      few_left : groups.FewLeft h.goals r
+      few_left = weigh.few h.goals read.few
+
+      pub group_stops : 0 < k → (x : Outcome) → r ≡ Break x
+          → Comes h.goals root height (kept_below in_pick height) whole first work1 cache1 places1 x
+      unfolding groups.left_of outcome_of
+      group_stops pos x is =
+          let ps = others_of h.goals in_pick k t walk.parts pos in
+          record {
+            is = sym (ap (groups.left_of (evaluator book h height) h.goals root height ps (graph_in h.goals work1)
+                cache1) is)
+                ∙ group_goes_on ps (first_and_lem h.goals in_pick k t walk.parts pos);
+            few = subst (groups.FewLeft h.goals) is few_left;
+            merged = group_merged;
+            placed = group_placed;
+          }
+
+      pub group_next : (x : Group) → r ≡ Continue x → {u : List ℕ} → LeftAt h.goals in_pick k t u
+          → GroupWalk book h root height in_pick whole room first work1 cache1 places1 x u (k - 1)
+      unfolding groups.left_of
+      group_next x is {u} left =
+          let ps = parts_in h.goals in_pick (k - 1) u in
+          let s = walk.shorter in
+          let s1 = left.shorter in
+          record {
+            few = subst (groups.FewLeft h.goals) is few_left;
+            parts = left.parts;
+            shorter = omega arith;
+            value = sym (ap (groups.left_of (evaluator book h height) h.goals root height ps
+                (graph_in h.goals work1) cache1) is)
+                ∙ group_goes_on ps left.first;
+            merged = group_merged;
+            bones = part_skeleton book h root height group.entries work cache in_pick t read (weigh.answered x is)
+                ∙ walk.bones;
+            placed = group_placed;
+          }
 
 -- ---- likewise of the loop over a pick's candidates, which stand inside a pick: the merged usages of the top frame are part of the pick
 abbrev pub pick_from : List ℕ → Header → ℕ → ℕ → List ℕ → List ℕ → Pick → List ℕ → ℕ → graph.Outcome
@@ -369,8 +379,7 @@ module _ {book : List ℕ} {h : Header} {root height : ℕ} {whole : graph.Outco
   module _ {work1 : List ℕ} (enter : CandidateEntered h.goals height work work1) {work2 cache2 places2 : List ℕ}
       {o : Outcome}
       (read : Comes h.goals root height height (part_from book t true h root height pick.entries work1 cache)
-      work1 work2 cache2 places2 o)
-      {work3 : List ℕ} {r : Tried} (finished : CandidateFinished h.goals height o pick work2 work3 r) where
+      work1 work2 cache2 places2 o) where
     own_kept : merged_of h.goals (height - 1) work2 ≡ merged_of h.goals (height - 1) work
     own_kept = read.merged (height - 1) (omega arith) ∙ enter.kept (height - 1) (omega arith)
 
@@ -381,11 +390,12 @@ module _ {book : List ℕ} {h : Header} {root height : ℕ} {whole : graph.Outco
     entered = ap (eval_part (evaluator book h height) h.goals (part_in h.goals true t))
         (enter.whole root pick.entries cache)
 
-    pick_goes_on : (ps : Parts) → parts_in h.goals true k t ≡ Then (part_in h.goals true t) ps
-        → picks.left_of (evaluator book h height) h.goals root height ps work3 cache2 r ≡ whole
-    pick_goes_on ps e =
-        finished.whole (evaluator book h height) ps root cache2
-        ∙ (λ i. and_then ((read.is ∙ entered) i)
+    candidate_then : (ps : Parts) → parts_in h.goals true k t ≡ Then (part_in h.goals true t) ps
+        → and_then (outcome_of h.goals root height (graph_in h.goals work2) cache2 o)
+        (picks.next (evaluator book h height) h.goals pick ps (merged_of h.goals (height - 1) work2))
+        ≡ whole
+    candidate_then ps e =
+        (λ i. and_then ((read.is ∙ entered) i)
         (picks.next (evaluator book h height) h.goals pick ps (own_kept i)))
         ∙ ap (λ (qs : Parts).
         picks.rest (evaluator book h height) h.goals pick qs (merged_of h.goals (height - 1) work)
@@ -393,9 +403,8 @@ module _ {book : List ℕ} {h : Header} {root height : ℕ} {whole : graph.Outco
         (sym e)
         ∙ walk.value
 
-    pick_merged : (i : ℕ) → i < height - 1 → merged_of h.goals i work3 ≡ merged_of h.goals i first
-    pick_merged i lt = finished.kept i lt ∙ read.merged i (omega arith) ∙ enter.kept i (omega arith)
-        ∙ walk.merged i lt
+    read_merged : (i : ℕ) → i < height - 1 → merged_of h.goals i work2 ≡ merged_of h.goals i first
+    read_merged i lt = read.merged i (omega arith) ∙ enter.kept i (omega arith) ∙ walk.merged i lt
 
     pick_bones : skeleton (stack_in h.goals height work1) ≡ skeleton (stack_in h.goals height first)
     pick_bones = entered_skeleton enter ∙ walk.bones
@@ -404,36 +413,46 @@ module _ {book : List ℕ} {h : Header} {root height : ℕ} {whole : graph.Outco
     pick_places = same_places (stack_in h.goals height work1) (stack_in h.goals height first) places2
         (sym pick_bones) read.placed
 
-    pub pick_stops : 0 < k → (x : Outcome) → r ≡ tried.Ended x
-        → Comes h.goals root height (height - 1) whole first work3 cache2 places2 x
-    unfolding picks.left_of
-    pick_stops pos x e =
-        let ps = others_of h.goals true k t walk.parts pos in
-        record {
-          is = sym (ap (picks.left_of (evaluator book h height) h.goals root height ps work3 cache2) e)
-              ∙ pick_goes_on ps (first_and_lem h.goals true k t walk.parts pos);
-          few = subst (picks.FewLeft h.goals) e finished.few;
-          merged = pick_merged;
-          placed = pick_places;
-        }
+    module _ {work3 : List ℕ} {r : Result Pick Refusal}
+        (finished : CandidateFinished h.goals height o pick work2 work3 r) where
+      pick_goes_on : (ps : Parts) → parts_in h.goals true k t ≡ Then (part_in h.goals true t) ps
+          → picks.left_of (evaluator book h height) h.goals root height ps work3 cache2 r ≡ whole
+      pick_goes_on ps e = finished.whole (evaluator book h height) ps root cache2 ∙ candidate_then ps e
 
-    pub pick_next : (x : Pick) → r ≡ tried.More x → {u : List ℕ} → LeftAt h.goals true k t u
-        → PickWalk book h root height whole room first work3 cache2 places2 x u (k - 1)
-    unfolding picks.left_of
-    pick_next x e {u} left =
-        let ps = parts_in h.goals true (k - 1) u in
-        let s = walk.shorter in
-        let s1 = left.shorter in
-        record {
-          few = subst (picks.FewLeft h.goals) e finished.few;
-          parts = left.parts;
-          shorter = omega arith;
-          value = sym (ap (picks.left_of (evaluator book h height) h.goals root height ps work3 cache2) e)
-              ∙ pick_goes_on ps left.first;
-          merged = pick_merged;
-          bones =
-              ap skeleton (finished.stack x e) ∙ candidate_same none (stack_in h.goals height work2)
-              ∙ part_skeleton book h root height pick.entries work1 cache true t read (finished.answered x e)
-              ∙ pick_bones;
-          placed = pick_places;
-        }
+      pick_merged : (i : ℕ) → i < height - 1 → merged_of h.goals i work3 ≡ merged_of h.goals i first
+      pick_merged i lt = finished.kept i lt ∙ read_merged i lt
+
+      -- a refusal is the pick's
+      pub pick_refused : 0 < k → (x : Refusal) → r ≡ Err x
+          → Comes h.goals root height (height - 1) whole first work3 cache2 places2 (Err x)
+      unfolding picks.left_of outcome_of
+      pick_refused pos x e =
+          let ps = others_of h.goals true k t walk.parts pos in
+          record {
+            is = sym (ap (picks.left_of (evaluator book h height) h.goals root height ps work3 cache2) e)
+                ∙ pick_goes_on ps (first_and_lem h.goals true k t walk.parts pos);
+            few = tt;
+            merged = pick_merged;
+            placed = pick_places;
+          }
+
+      pub pick_next : (x : Pick) → r ≡ Ok x → {u : List ℕ} → LeftAt h.goals true k t u
+          → PickWalk book h root height whole room first work3 cache2 places2 x u (k - 1)
+      unfolding picks.left_of
+      pick_next x e {u} left =
+          let ps = parts_in h.goals true (k - 1) u in
+          let s = walk.shorter in
+          let s1 = left.shorter in
+          record {
+            few = subst (picks.FewLeft h.goals) e finished.few;
+            parts = left.parts;
+            shorter = omega arith;
+            value = sym (ap (picks.left_of (evaluator book h height) h.goals root height ps work3 cache2) e)
+                ∙ pick_goes_on ps left.first;
+            merged = pick_merged;
+            bones =
+                ap skeleton (finished.stack x e) ∙ candidate_same none (stack_in h.goals height work2)
+                ∙ part_skeleton book h root height pick.entries work1 cache true t read (finished.answered x e)
+                ∙ pick_bones;
+            placed = pick_places;
+          }

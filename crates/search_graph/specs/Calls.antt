@@ -12,10 +12,8 @@ use Rattle.stack.specs.Places.{PlacesHeld}
 use Rattle.book.specs.Parts.{part_in}
 use Rattle.book.specs.Read.{IsBook, book_in}
 use Rattle.global_cache.specs.Cache.{CacheBytes}
-use Rattle.evaluation.specs.declared.Outcome.{Outcome}
-use Rattle.evaluation.specs.declared.Ran.{Ran}
 use Rattle.evaluation.specs.Workspace.{WorkBytes, graph_in, stack_in}
-use Rattle.evaluation.specs.Outcomes.{outcome_of, task_outcome_of, FewEntries, FewTaskEntries}
+use Rattle.evaluation.specs.Outcomes.{Outcome, TaskOutcome, outcome_of, task_outcome_of, FewEntries, FewTaskEntries}
 use Rattle.delegate.specs.Picks.{graph_at}
 
 -- a book that was read, cache and workspace of the right lengths, `height` frames with true counts of steps and their
@@ -64,11 +62,10 @@ pub record Comes (goals root height low : ℕ) (whole : graph.Outcome) (old new 
   pub placed : PlacesHeld (stack_in goals height old) places
 
 -- likewise of a task, whose frame was popped
-pub record TaskComes (goals root height : ℕ) (whole : task.TaskOutcome) (old new cache places : List ℕ) (r : Ran)
+pub record TaskComes (goals root height : ℕ) (whole : task.TaskOutcome) (old new cache places : List ℕ) (r : TaskOutcome)
     : Type 0 where
-  pub is : task_outcome_of goals root height r.passes (graph_in goals new) cache r.outcome ≡ whole
-  pub few : FewTaskEntries goals r.outcome
-  pub passes : r.passes < 256
+  pub is : task_outcome_of goals root height (graph_in goals new) cache r ≡ whole
+  pub few : FewTaskEntries goals r
   pub merged : (i : ℕ) → i < height → merged_of goals i new ≡ merged_of goals i old
   pub placed : PlacesHeld (stack_in goals height old) places
 

@@ -1,6 +1,7 @@
 // What stands between the calls of the cycle. It needs the graph alone, which is the first
-// part of the workspace.
-ghost use Rattle.std.specs.Prelude.{◌≡◌, ◌≤◌, ◌<◌, pred};
+// part of the workspace. One function that lends the graph to a closure would be no plainer:
+// each closure would have to say what its call says here.
+ghost use Rattle.std.specs.Prelude.{◌≤◌, ◌<◌};
 ghost use Rattle.definition.specs.Stack.{CountsTrue};
 ghost use Rattle.evaluation.specs.Workspace.{WorkBytes, stack_in};
 ghost use Rattle.evaluation.specs.Outcomes.{CountsIn, FewEntries};
@@ -8,20 +9,11 @@ ghost use Rattle.search_graph.specs.Between.{Looking, LookedUp, Pushed, Iteratio
 
 use definition::format::Header;
 use definition::paths::PathKind;
-use evaluation::{Outcome, Ran};
+use definition::replies::Refusal;
+use evaluation::{Outcome, TaskOutcome};
 use layout::offsets;
 use lookup::Found;
 use task::Iteration;
-
-// One iteration less; 0 iterations act as 1.
-pub fn one_less(limit: usize) -> usize
-    ensures { result ≡ pred limit }
-{
-    if limit == 0 {
-        return 0;
-    }
-    limit - 1
-}
 
 pub fn look_up(
     cache: &[u8],
@@ -77,7 +69,7 @@ pub fn end_iteration(
     height: usize,
     left: usize,
     overflow: bool,
-) -> Iteration
+) -> Result<Iteration, Refusal>
     requires work_bytes { WorkBytes goals work.old × CountsIn (stack_in goals height work.old) o }
     requires le_height { (1 ≤ height) × ((height ≤ goals) × FewEntries goals o) }
     ensures { IterationEnded goals height left overflow o work.old work.new result }
@@ -87,7 +79,7 @@ pub fn end_iteration(
 }
 
 pub fn finish(
-    ran: Ran,
+    o: TaskOutcome,
     cache: &mut [u8],
     work: &mut [u8],
     h: Header,
@@ -96,19 +88,10 @@ pub fn finish(
     step: PathKind,
     available: usize,
 ) -> Outcome
-    requires { Finishing h height goal ran work.old cache.old }
-    ensures { Finished h height goal step available ran work.old work.new
+    requires { Finishing h height goal o work.old cache.old }
+    ensures { Finished h height goal step available o work.old work.new
         cache.old cache.new result }
 {
     let n = offsets::graph_length(h.goals);
-    task::finish(
-        ran,
-        cache,
-        &mut work[0..n],
-        h,
-        height,
-        goal,
-        step,
-        available,
-    )
+    task::finish(o, cache, &mut work[0..n], h, height, goal, step, available)
 }

@@ -15,11 +15,10 @@ use definition::answers::Answer;
 use definition::format::Header;
 use definition::paths::PathKind;
 use definition::replies::Refusal;
-use delegate::group::Weighed;
-use delegate::pick::Tried;
 use delegate::{group, pick};
-use evaluation::{Outcome, Ran};
+use evaluation::{Done, Outcome, Ran, TaskOutcome};
 use lookup::Found;
+use std::ops::ControlFlow;
 use task::Iteration;
 
 // evaluate_goal, with `height` frames on the stack and `entries` provisional entries. The place
@@ -49,16 +48,17 @@ pub fn evaluate(
         cache, work, places, h, root, height, entries, goal, step, lower,
     );
     match found {
-        Found::Known(answer) => Outcome::Done(answer, entries),
+        Found::Known(answer) => Ok(Done { answer, entries }),
         Found::Push(available) => {
             let goals = h.goals;
             if goals <= height {
-                return Outcome::Stopped(Refusal::Unreachable);
+                return Err(Refusal::Unreachable);
             }
             between::push(work, goals, height, goal, step, available);
             places[goal] = height as u8;
             let p = part::of_goal(book, starts, goal);
-            let left = between::one_less(h.limit);
+            // one iteration is no rerun, and 0 iterations act as 1
+            let left = h.limit.saturating_sub(1);
             let ran = rerun(
                 book,
                 starts,
@@ -79,7 +79,8 @@ pub fn evaluate(
 
 // evaluate_goal_in_task: the iterations of the goal on top of the stack, of which `left`
 // more than the first are allowed, and how many there were. A loop, so that iterations take
-// no stack.
+// no stack. A `for` over the iterations would be no plainer: it needs an answer for after the
+// last one, which is never reached, since with none left an iteration ends the task.
 #[cycle(evaluate_read_part_rerun)]
 fn rerun(
     book: &[u8],
@@ -93,7 +94,7 @@ fn rerun(
     height: usize,
     entries: usize,
     left: usize,
-) -> Ran
+) -> TaskOutcome
     requires running { Running book.now starts.now places.old cache.old work.old h root height entries }
     requires le_height { (1 ≤ height) × ((left < 99) × Reads h.goals false p.now) }
     ensures { TaskComes h.goals root (height - 1)
@@ -107,11 +108,11 @@ fn rerun(
         let o = read_part(
             book, starts, places, p, cache, work, h, root, height, kept, false,
         );
-        let next = between::end_iteration(o, work, h.goals, height, more, overflow);
+        let next = between::end_iteration(o, work, h.goals, height, more, overflow)?;
         match next {
-            Iteration::End(t) => {
+            Iteration::End(evaluated) => {
                 let passes = left - more + 1;
-                return Ran { outcome: t, passes };
+                return Ok(Ran { evaluated, passes });
             }
             Iteration::Again(met, n) => {
                 overflow = met;
@@ -122,7 +123,10 @@ fn rerun(
     }
 }
 
-// compute_goal, of the part that `p` starts with.
+// compute_goal, of the part that `p` starts with. One function, as document 01 names it: with
+// the parts below a group or a pick in functions of their own each goal on the stack would take
+// more of the machine's stack, and the header would be copied once more on the way. A call, the
+// commonest, is evaluated at once, below a group and below a pick alike.
 #[cycle(evaluate_read_part_rerun)]
 fn read_part(
     book: &[u8],
@@ -156,10 +160,8 @@ fn read_part(
         Code::Group(op) => {
             let mut group = group::start(op, entries);
             let mut t = &p[16..];
-            let mut k = part::count(p);
-            while 0 < k {
+            for left in (0..part::count(p)).rev() {
                 let below = part::code(t);
-                // a call, the commonest, is evaluated at once
                 let o = if let Code::Call = below {
                     let call = Call::first(t);
                     let step = call.step;
@@ -192,32 +194,25 @@ fn read_part(
                         in_pick,
                     )
                 };
-                let next = group::weigh(o, group);
-                match next {
-                    Weighed::Ended(outcome) => {
-                        return outcome;
-                    }
-                    Weighed::More(g) => {
-                        group = g;
-                    }
+                match group::weigh(o, group) {
+                    ControlFlow::Break(outcome) => return outcome,
+                    ControlFlow::Continue(next) => group = next,
                 }
-                k = k - 1;
-                if 0 < k {
+                if 0 < left {
                     let u = part::next(t);
                     t = u;
                 }
             }
-            group::close(group)
+            Ok(group::close(group))
         }
         Code::Pick => {
             let mut pick = pick::begin(work, h.goals, height, entries);
-            let mut t = &p[16..];
-            let mut k = part::count(p);
-            while 0 < k {
+            let mut rest = &p[16..];
+            for untried in (0..part::count(p)).rev() {
                 pick::enter_candidate(work, h.goals, height);
-                let candidate = part::code(t);
-                let o = if let Code::Call = candidate {
-                    let asked = Call::first(t);
+                let candidate = part::code(rest);
+                let tried = if let Code::Call = candidate {
+                    let asked = Call::first(rest);
                     let step = asked.step;
                     evaluate(
                         book,
@@ -238,7 +233,7 @@ fn read_part(
                         book,
                         starts,
                         places,
-                        t,
+                        rest,
                         cache,
                         work,
                         h,
@@ -248,23 +243,17 @@ fn read_part(
                         true,
                     )
                 };
-                let next = pick::finish_candidate(o, pick, work, h.goals, height);
-                match next {
-                    Tried::Ended(outcome) => {
-                        return outcome;
-                    }
-                    Tried::More(next_pick) => {
-                        pick = next_pick;
-                    }
-                }
-                k = k - 1;
-                if 0 < k {
-                    let u = part::next(t);
-                    t = u;
+                pick = pick::finish_candidate(tried, pick, work, h.goals, height)?;
+                if 0 < untried {
+                    let after = part::next(rest);
+                    rest = after;
                 }
             }
             pick::end(pick, work, h.goals, height)
         }
-        _ => Outcome::Done(Answer::Undecided, entries),
+        _ => Ok(Done {
+            answer: Answer::Undecided,
+            entries,
+        }),
     }
 }

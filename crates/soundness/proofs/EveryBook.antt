@@ -23,7 +23,7 @@ use Rattle.definition.specs.declared.paths.PathKind.{PathKind}
 use Rattle.definition.specs.declared.paths.PathKind.TheVariants.{Inductive}
 use Rattle.definition.specs.declared.replies.Refusal.{Refusal}
 use Rattle.definition.specs.declared.replies.Refusal.TheVariants.{CacheConflict, ProvisionalCacheFull, Unreachable}
-use Rattle.definition.specs.declared.replies.Response.TheVariants.{Refused}
+use Rattle.std.specs.Prelude.{Err}
 use Rattle.soundness.specs.Always.{Always, Apart, Conflict, Distinct, Ends, EntryInOrder, Every, Expected, FinishesFrame, Follows, Full, HasHead, HeadsOn, InOrder, Keeps, Known, NeverUnreachable, OnlyUnder, Passes, Run, goals_of}
 use Rattle.soundness.specs.Trace.{trace_goal}
 use Rattle.definition.proofs.Tests.{and_left, and_right}
@@ -233,7 +233,7 @@ failed_early (c ∷ cs) h r e = one c.passed (failed_early cs h.1 r) e
     one false ih e = let z : c.otherwise ≡ r = cc in rw z at h.0
 
 abbrev Refuses : Refusal → Reply → Type 0
-Refuses r x = x.response ≡ Refused r
+Refuses r x = x.response ≡ Err r
 
 module _ (r : Refusal) (late : Early r → ⊥) (cache work : List ℕ) (goal depth : ℕ) where
   of_outcome : (o : Outcome) → Refuses r (reply_of cache work o) → o ≡ Stopped r

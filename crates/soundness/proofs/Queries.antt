@@ -19,7 +19,7 @@ use Rattle.definition.specs.declared.answers.Answer.TheVariants.{No, Yes}
 use Rattle.definition.specs.declared.format.Header.{Header}
 use Rattle.definition.specs.declared.paths.PathKind.TheVariants.{Inductive}
 use Rattle.definition.specs.declared.replies.Refusal.{Refusal}
-use Rattle.definition.specs.declared.replies.Response.TheVariants.{Refused}
+use Rattle.std.specs.Prelude.{Err}
 use Rattle.soundness.specs.Always.{CacheInOrder, Counted}
 use Rattle.soundness.specs.Sets.{Goals}
 use Rattle.soundness.specs.Statement.{AllRight, Query, RightReply, reply_to}
@@ -165,7 +165,7 @@ module _ (W : World) where
       left : Sound W r.cache
 
     refused : (goal : ℕ) (r : Refusal) (cache work : List ℕ) → Sound W cache
-        → Replied goal (record { response = Refused r; cache = cache; work = work })
+        → Replied goal (record { response = Err r; cache = cache; work = work })
     refused goal r cache work v =
         record {
           right =

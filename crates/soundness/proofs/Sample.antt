@@ -10,7 +10,7 @@ use Rattle.definition.specs.Reader.{Accepted, read_book}
 use Rattle.definition.specs.Usages.{counter_limit}
 use Rattle.definition.specs.declared.answers.Answer.TheVariants.{Yes}
 use Rattle.definition.specs.declared.paths.PathKind.TheVariants.{Coinductive, Inductive}
-use Rattle.definition.specs.declared.replies.Response.TheVariants.{Answered}
+use Rattle.std.specs.Prelude.{Ok}
 use Rattle.soundness.specs.Groups.{GroupsFit, OneKindEach, grouped, reaches}
 use Rattle.soundness.specs.Sets.{greatest, least}
 use Rattle.soundness.specs.Statement.{AllRight}
@@ -71,7 +71,7 @@ mixed_out = mixed_right.1.0.when_no refl
 -- ---- the condition is needed: a goal that calls itself by a step of either kind is answered Yes, and the least set
 -- does not have it
 pub not_torn : (read_book torn_bytes ≡ Accepted torn_book)
-    × ((query torn_bytes (replicate 35 0) workspace 0 1).response ≡ Answered Yes)
+    × ((query torn_bytes (replicate 35 0) workspace 0 1).response ≡ Ok Yes)
     × T (not (least torn_book true 0))
 unfolding counter_limit
 not_torn = (refl, refl, tt)

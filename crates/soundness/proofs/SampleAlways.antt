@@ -27,7 +27,7 @@ use Rattle.definition.specs.declared.paths.PathKind.{PathKind}
 use Rattle.definition.specs.declared.paths.PathKind.TheVariants.{Inductive}
 use Rattle.definition.specs.declared.replies.Refusal.{Refusal}
 use Rattle.definition.specs.declared.replies.Refusal.TheVariants.{CacheConflict, ProvisionalCacheFull, Unreachable}
-use Rattle.definition.specs.declared.replies.Response.TheVariants.{Refused}
+use Rattle.std.specs.Prelude.{Err}
 use Rattle.definition.specs.declared.usages.HeadUsages.{HeadUsages}
 use Rattle.soundness.specs.Always.{Always, CacheInOrder, Distinct, Ends, EntryInOrder, Every, Expected, FinishesFrame, Follows, FrameInOrder, FramesInOrder, HasHead, HeadsOn, InOrder, Keeps, Known, NeverUnreachable, Passes, goals_of}
 use Rattle.soundness.proofs.SampleBooks.{book, header, workspace}
@@ -414,5 +414,5 @@ hit_too_deep f = omega (arith, f.hit 0 2 (λ nested. true) _ (omega arith) (omeg
 
 -- ---- no query comes to an unreachable branch
 of_all_bytes : NeverUnreachable → (bytes cache work : List ℕ) (goal depth : ℕ)
-    → (query bytes cache work goal depth).response ≡ Refused Unreachable → ⊥
+    → (query bytes cache work goal depth).response ≡ Err Unreachable → ⊥
 of_all_bytes never bytes cache work goal depth e = never bytes cache work goal depth e

@@ -7,7 +7,7 @@ use native.Mathlib.Omega.{arith}
 use lib.ListN.{get_or, replicate}
 use Rattle.definition.specs.declared.answers.Answer.TheVariants.{Yes}
 use Rattle.definition.specs.declared.replies.Refusal.TheVariants.{CacheForm}
-use Rattle.definition.specs.declared.replies.Response.TheVariants.{Answered, Refused}
+use Rattle.std.specs.Prelude.{Ok, Err}
 use Rattle.definition.specs.CacheForm.{cache_fits}
 use Rattle.definition.specs.GlobalCache.{slot_at, slot_passes}
 use Rattle.definition.specs.Part.{Book}
@@ -57,14 +57,14 @@ other_length v = let e : ◌≡◌ {A = ℕ} 34 35 = v.size in omega arith
 
 -- with 1 pass or 2 the answer is the same. 3 are more than L, so that the cache is not in form: the statement asks
 -- that both are or neither
-answered : (query torn_bytes (held 1 2) workspace 0 5).response ≡ Answered Yes
+answered : (query torn_bytes (held 1 2) workspace 0 5).response ≡ Ok Yes
 unfolding counter_limit
 answered = refl
 
-refused : (query torn_bytes (held 1 3) workspace 0 5).response ≡ Refused CacheForm
+refused : (query torn_bytes (held 1 3) workspace 0 5).response ≡ Err CacheForm
 refused = refl
 
-one_or_two : PassesUnread → (query torn_bytes (held 1 1) workspace 0 5).response ≡ Answered Yes
+one_or_two : PassesUnread → (query torn_bytes (held 1 1) workspace 0 5).response ≡ Ok Yes
 one_or_two passes =
     (passes torn_bytes torn_book refl (held 1 1) (held 1 2) (alike 1 2) refl asked).0.response ∙ answered
 

@@ -14,8 +14,8 @@ use Rattle.definition.specs.declared.answers.Answer.{Answer}
 use Rattle.definition.specs.declared.answers.Answer.TheVariants.{No, Overflow, Undecided, Yes}
 use Rattle.definition.specs.declared.paths.PathKind.TheVariants.{Coinductive, Inductive}
 use Rattle.definition.specs.declared.replies.Refusal.{Refusal}
-use Rattle.definition.specs.declared.replies.Response.{Response}
-use Rattle.definition.specs.declared.replies.Response.TheVariants.{Answered, Refused}
+use Rattle.definition.specs.Answers.{Response}
+use Rattle.std.specs.Prelude.{Ok, Err}
 use Rattle.soundness.specs.Sets.{Goals, greatest, least}
 use Rattle.soundness.specs.Statement.{AllRight, Demand3, NoStep, Query, RightReply, RightWithout}
 use Rattle.soundness.proofs.SampleBooks.{at_depth, book, bytes, empty_all, line, lines, queries}
@@ -25,28 +25,28 @@ abbrev replying : Response → Reply
 replying r = record { response = r; cache = []; work = [] }
 
 abbrev says : Answer → Response → Bool
-says a (Answered b) = same_answer a b
-says a (Refused r) = false
+says a (Ok b) = same_answer a b
+says a (Err r) = false
 
-apart : (a : Answer) (r : Response) → r ≡ Answered a → T (not (says a r)) → T (not (says a (Answered a)))
+apart : (a : Answer) (r : Response) → r ≡ Ok a → T (not (says a r)) → T (not (says a (Ok a)))
 apart a r e t = subst (λ (x : Response). T (not (says a x))) e t
 
 -- a Yes says that the goal is in the set, under both readings, and a No that it is outside
 module _ (goal : ℕ) where
-  yes_under_false : RightReply (λ reading g. reading) goal (replying (Answered Yes)) → ⊥
+  yes_under_false : RightReply (λ reading g. reading) goal (replying (Ok Yes)) → ⊥
   yes_under_false r = r.when_yes refl false
 
-  yes_under_true : RightReply (λ reading g. not reading) goal (replying (Answered Yes)) → ⊥
+  yes_under_true : RightReply (λ reading g. not reading) goal (replying (Ok Yes)) → ⊥
   yes_under_true r = r.when_yes refl true
 
-  no_under_true : RightReply (λ reading g. reading) goal (replying (Answered No)) → ⊥
+  no_under_true : RightReply (λ reading g. reading) goal (replying (Ok No)) → ⊥
   no_under_true r = r.when_no refl true
 
-  no_under_false : RightReply (λ reading g. not reading) goal (replying (Answered No)) → ⊥
+  no_under_false : RightReply (λ reading g. not reading) goal (replying (Ok No)) → ⊥
   no_under_false r = r.when_no refl false
 
 -- it is the goal that was asked
-yes_of_its_goal : RightReply (λ reading goal. eqb goal 1) 0 (replying (Answered Yes)) → ⊥
+yes_of_its_goal : RightReply (λ reading goal. eqb goal 1) 0 (replying (Ok Yes)) → ⊥
 yes_of_its_goal r = r.when_yes refl true
 
 -- another answer, and a refusal, says nothing
@@ -56,8 +56,8 @@ unclaimed set goal y t u =
     record { when_yes = λ e. absurd (apart Yes y.response e t); when_no = λ e. absurd (apart No y.response e u) }
 
 nothing_said : (set : Bool → Goals) (goal : ℕ) (r : Refusal)
-    → RightReply set goal (replying (Answered Undecided)) × RightReply set goal (replying (Answered Overflow))
-    × RightReply set goal (replying (Refused r))
+    → RightReply set goal (replying (Ok Undecided)) × RightReply set goal (replying (Ok Overflow))
+    × RightReply set goal (replying (Err r))
 nothing_said set goal r = (unclaimed set goal _ tt tt, unclaimed set goal _ tt tt, unclaimed set goal _ tt tt)
 
 -- ---- a list of queries
@@ -83,7 +83,7 @@ first_query_counts a = a.0.when_no refl true
 cache_is_carried : AllRight (λ reading goal. true) empty_all conflicting after_conflict
 unfolding counter_limit
 cache_is_carried =
-    (unclaimed _ _ _ tt tt, (record { when_yes = λ e reading. tt; when_no = λ e. absurd (apart No (Answered Yes) e tt) }, tt))
+    (unclaimed _ _ _ tt tt, (record { when_yes = λ e reading. tt; when_no = λ e. absurd (apart No (Ok Yes) e tt) }, tt))
 
 -- ---- books without steps of a kind
 

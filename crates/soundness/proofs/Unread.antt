@@ -17,7 +17,7 @@ use Rattle.definition.specs.declared.endings.Ending.TheVariants as ending
 use Rattle.definition.specs.declared.format.Header.{Header}
 use Rattle.definition.specs.declared.replies.Refusal.{Refusal}
 use Rattle.definition.specs.declared.replies.Refusal.TheVariants.{CacheConflict, CacheForm, CacheLength, DepthAboveTop, UnknownGoal, Unreachable, WorkLength}
-use Rattle.definition.specs.declared.replies.Response.TheVariants.{Answered, Refused}
+use Rattle.std.specs.Prelude.{Ok, Err}
 use Rattle.definition.specs.Answers.{combine, same_answer}
 use Rattle.definition.specs.CacheForm.{cache_fits, cache_length, goals_fit, slots_fit}
 use Rattle.definition.specs.Candidates.{can_ignore, enter_single_candidate, finish_single_candidate, finished_usages, ignore_on_top, no_candidate_usages, set_candidate_usages}
@@ -403,7 +403,7 @@ module _ (b : Book) (ok : BookOk b) (c d work : List ℕ) (goal depth : ℕ) (v 
   outcome_alike : (o o' : Outcome) → Same h o o' → RepliesAlike h (reply_of c work o) (reply_of d work o')
   outcome_alike (Done g a) (Done g' a') (e, z, t) =
       record {
-        response = ap Answered e;
+        response = ap Ok e;
         work = refl;
         cache = t.alike;
         form = goals_alike h g.stack g.global_cache g'.global_cache t h.goals (omega arith);
@@ -412,7 +412,7 @@ module _ (b : Book) (ok : BookOk b) (c d work : List ℕ) (goal depth : ℕ) (v 
   outcome_alike (Stopped r) (Done g a) w = absurd w
   outcome_alike (Stopped r) (Stopped r') w =
       record {
-        response = ap Refused w;
+        response = ap Err w;
         work = refl;
         cache =
             record {

@@ -12,7 +12,6 @@ use lib.Seq.{get_or-set_same, get_or-set_other}
 use Rattle.definition.specs.declared.paths.PathKind.{PathKind}
 use Rattle.definition.specs.declared.paths.PathKind.TheVariants.{Inductive, Unknown, Coinductive, ForcedAmbiguity}
 use Rattle.definition.specs.declared.usages.HeadUsages.{HeadUsages}
-use Rattle.definition.specs.declared.heads.CycleHead.{CycleHead}
 use Rattle.definition.specs.Paths.{extend_with, empty_path, flag_of}
 use Rattle.definition.specs.Usages.{no_usages, add_usages_from_nested}
 use Rattle.definition.specs.Heads.{insert_head}
@@ -27,7 +26,7 @@ use Rattle.layout.proofs.Frames.{set_after, frame_reached_lem, frame_overflow_le
 use Rattle.stack.specs.Results.{is_some}
 use Rattle.stack.proofs.Parts.{part, returned, part_length, part_back}
 use Rattle.layout.specs.AtIndex.{add_from_nested_at}
-use Rattle.stack.specs.Child.{HeadBegun, tracked_at, joined, used, track_at, join_at, use_own, add_head_at, reach_frame, insert_own}
+use Rattle.stack.specs.Child.{HeadBegun, tracked_at, used, track_at, join_used, use_own, use_at, reach_frame, insert_own}
 
 -- ---- `track`
 tracked_none : (o : Option (List HeadUsages)) (i : ℕ) (u : HeadUsages) → is_some o ≡ false → o ≡ tracked_at o i u
@@ -56,14 +55,14 @@ track_frame goals bs ys a e i u long is-a is-e kept is_y =
     ∙ ap (with_candidate_usages (frame_of goals bs)) (tracked (get_or bs frame_tracks 0) us i u)
 
 -- ---- `join`
-pub join_frame : (goals : ℕ) (bs ys : List ℕ) (e i p : ℕ) (step : PathKind) (c : CycleHead) → length bs ≡ frame_size goals → e ≡ candidate_start goals → p ≡ extend_with c.paths step
-    → length ys ≡ length (part bs 40 e) → heads_of goals ys ≡ insert_head (heads_of goals (part bs 40 e)) i p c.usages
-    → frame_of goals (returned bs 40 e ys) ≡ join_at step i c (frame_of goals bs)
+pub join_frame : (goals : ℕ) (bs ys : List ℕ) (e i p : ℕ) (u : HeadUsages) → length bs ≡ frame_size goals → e ≡ candidate_start goals
+    → length ys ≡ length (part bs 40 e) → heads_of goals ys ≡ insert_head (heads_of goals (part bs 40 e)) i p u
+    → frame_of goals (returned bs 40 e ys) ≡ join_used i p u (frame_of goals bs)
 unfolding frame_of
-join_frame goals bs ys e i p step c long is-e is-p kept is_y =
+join_frame goals bs ys e i p u long is-e kept is_y =
     let n : length ys ≡ heads_size goals = omega (arith, part_length bs 40 e ys (omega arith) (omega arith) kept) in
     let w : e - 40 ≡ heads_size goals = omega arith in
-    let is : heads_of goals ys ≡ joined step i c (heads_of goals (region 40 (heads_size goals) bs)) = is_y ∙ ap₂ (λ (m q : ℕ). insert_head (heads_of goals (region 40 m bs)) i q c.usages) w is-p in
+    let is : heads_of goals ys ≡ insert_head (heads_of goals (region 40 (heads_size goals) bs)) i p u = is_y ∙ ap (λ (m : ℕ). insert_head (heads_of goals (region 40 m bs)) i p u) w in
     ap (frame_of goals) (part_back bs 40 e ys (omega arith) (omega arith) kept)
     ∙ frame_heads goals bs long ys n
     ∙ ap (with_heads (frame_of goals bs)) is
@@ -112,7 +111,7 @@ head_new goals bs ys t x long is e is_x kept is_y =
           ∙ ap (λ (f : Frame). with_usages f u) (frame_usages goals bs long ys n);
     }
 
--- ---- `use_itself` and `count_itself`
+-- ---- `use_itself`
 pub use_frame : (goals : ℕ) (old bs ys : List ℕ) (u : HeadUsages) → length bs ≡ frame_size goals → HeadBegun goals old bs
     → length ys ≡ length (part bs 8 40) → usages_of ys ≡ add_usages_from_nested (usages_of (part bs 8 40)) u
     → frame_of goals (returned bs 8 40 ys) ≡ use_own u (frame_of goals old)
@@ -124,41 +123,33 @@ use_frame goals old bs ys u long begun kept is_y =
     ∙ begun.others (some (usages_of ys))
     ∙ ap (λ (x : HeadUsages). with_usages (frame_of goals old) (some x)) (is_y ∙ ap (λ (x : HeadUsages). add_usages_from_nested x u) begun.usages)
 
--- ---- `count_joined`: the step's own path is the same one step further
+-- ---- `count_head`: the step's own path is the same one step further
 pub flag_extended : (k : PathKind) → flag_of k ≡ extend_with (flag_of k) k
 flag_extended Inductive = refl
 flag_extended Unknown = refl
 flag_extended Coinductive = refl
 flag_extended ForcedAmbiguity = refl
 
--- ---- `add_head`
-module _ (step : PathKind) (own i : ℕ) (c : CycleHead) (f g h : Frame) (first : g ≡ track_at i c.usages f) where
+-- ---- `add`
+module _ (own i p : ℕ) (u : HeadUsages) (f g h : Frame) (first : g ≡ track_at i u f) where
   abbrev choice : Bool → Bool → Frame
   choice t s =
       with_candidate_usages
       (with_usages
-      (with_heads f (elim t [ true ↦ joined step i c f.heads | false ↦ f.heads ]))
-      (elim s [ true ↦ used c.usages f.usages | false ↦ f.usages ]))
-      (tracked_at f.candidate_usages i c.usages)
+      (with_heads f (elim t [ true ↦ insert_head f.heads i p u | false ↦ f.heads ]))
+      (elim s [ true ↦ used u f.usages | false ↦ f.usages ]))
+      (tracked_at f.candidate_usages i u)
 
-  pub head_below : h ≡ join_at step i c g → i < own → h ≡ add_head_at step own i c f
-  head_below e lt = e ∙ ap (join_at step i c) first ∙ sym (ap₂ choice (lt-ltb i own lt) (ne_eqb i own (λ q. omega arith)))
+  pub head_below : h ≡ join_used i p u g → i < own → h ≡ use_at own i p u f
+  head_below e lt = e ∙ ap (join_used i p u) first ∙ sym (ap₂ choice (lt-ltb i own lt) (ne_eqb i own (λ q. omega arith)))
 
-  pub head_own : h ≡ use_own c.usages g → i ≡ own → h ≡ add_head_at step own i c f
-  head_own e q = e ∙ ap (use_own c.usages) first ∙ sym (ap₂ choice (le-ltb i own (omega arith)) (eq-eqb i own q))
+  pub head_own : h ≡ use_own u g → i ≡ own → h ≡ use_at own i p u f
+  head_own e q = e ∙ ap (use_own u) first ∙ sym (ap₂ choice (le-ltb i own (omega arith)) (eq-eqb i own q))
 
-  pub head_above : h ≡ g → own ≤ i → (i ≡ own → ⊥) → h ≡ add_head_at step own i c f
+  pub head_above : h ≡ g → own ≤ i → (i ≡ own → ⊥) → h ≡ use_at own i p u f
   head_above e le ne = e ∙ first ∙ sym (ap₂ choice (le-ltb i own le) (ne_eqb i own ne))
 
 -- ---- `reach`
-pub marked_yes : (t o : Bool) → o ≡ true → true ≡ (t || o)
-marked_yes true o e = refl
-marked_yes false o e = sym e
-
-pub marked_no : (t o : Bool) → o ≡ false → t ≡ (t || o)
-marked_no true o e = refl
-marked_no false o e = sym e
-
 pub reach_frame_lem : (goals : ℕ) (bs : List ℕ) (m l : ℕ) (overflow : Bool) (reached : ℕ) → length bs ≡ frame_size goals
     → truth m ≡ (truth (get_or bs 5 0) || overflow) → l ≡ min (get_or (set bs 5 m) 3 0) reached
     → frame_of goals (set (set bs 5 m) 3 l) ≡ reach_frame overflow reached (frame_of goals bs)

@@ -51,11 +51,11 @@ answer_small Overflow = omega arith
 abbrev pub start_fields : ℕ → PathKind → ℕ → List ℕ
 start_fields goal step available = goal ∷ kind_number step ∷ available ∷ available ∷ 0 ∷ 0 ∷ 0 ∷ 0 ∷ []
 
-pub start_fields_lem : (bs : List ℕ) → length bs ≡ 8 → (goal available : ℕ) (step : PathKind) (g k d1 d2 : ℕ) → g ≡ goal → k ≡ kind_number step → d1 ≡ available → d2 ≡ available
-    → set (set (set (set (set (set (set (set bs 0 g) 1 k) 2 d1) 3 d2) 4 0) 5 0) 6 0) 7 0 ≡ start_fields goal step available
-start_fields_lem bs len goal available step g k d1 d2 eg ek e1 e2 =
-    sized 8 (λ l. set (set (set (set (set (set (set (set l 0 g) 1 k) 2 d1) 3 d2) 4 0) 5 0) 6 0) 7 0 ≡ g ∷ k ∷ d1 ∷ d2 ∷ 0 ∷ 0 ∷ 0 ∷ 0 ∷ []) (λ b0 b1 b2 b3 b4 b5 b6 b7. refl) bs len
-    ∙ (λ t. eg t ∷ ek t ∷ e1 t ∷ e2 t ∷ 0 ∷ 0 ∷ 0 ∷ 0 ∷ [])
+pub start_fields_lem : (bs : List ℕ) → length bs ≡ 8 → (goal available : ℕ) (step : PathKind) (k : ℕ) → k ≡ kind_number step
+    → set (set (set (set (set (set (set (set bs 0 goal) 1 k) 2 available) 3 available) 4 0) 5 0) 6 0) 7 0 ≡ start_fields goal step available
+start_fields_lem bs len goal available step k ek =
+    sized 8 (λ l. set (set (set (set (set (set (set (set l 0 goal) 1 k) 2 available) 3 available) 4 0) 5 0) 6 0) 7 0 ≡ goal ∷ k ∷ available ∷ available ∷ 0 ∷ 0 ∷ 0 ∷ 0 ∷ []) (λ b0 b1 b2 b3 b4 b5 b6 b7. refl) bs len
+    ∙ (λ t. goal ∷ ek t ∷ available ∷ available ∷ 0 ∷ 0 ∷ 0 ∷ 0 ∷ [])
 
 -- eight bytes, the heads and the nested goals are written
 module _ (goals goal available : ℕ) (step : PathKind) (bs hs zs : List ℕ) (long : length bs ≡ frame_size goals) (heads : length hs ≡ heads_size goals) (nested : length zs ≡ goals) where

@@ -9,4 +9,5 @@ pub mod Records
 pub mod Loops
 pub mod Places
 pub mod Graph
+pub mod Ranges
 pub mod Theorems

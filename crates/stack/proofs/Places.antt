@@ -14,8 +14,8 @@ use Rattle.definition.specs.Stack.{Frame, Stack, OnStack, stack_find}
 use Rattle.definition.proofs.Skeleton.{skeleton}
 use Rattle.layout.specs.Work.{stack_of}
 use Rattle.layout.proofs.Graphs.{length_stack, stack_unfold}
-use Rattle.stack.specs.declared.frame.Provisional.{Provisional}
-use Rattle.stack.specs.declared.OnStack.TheVariants.{At, Nowhere}
+use Rattle.std.specs.Prelude.{Some, None}
+use Rattle.stack.specs.declared.OnStack as code
 use Rattle.stack.specs.Bytes.{frame_at}
 use Rattle.stack.specs.Places.{Placed, PlacesHeld}
 use Rattle.stack.proofs.Loops.{empty}
@@ -75,11 +75,11 @@ module _ (goals : ℕ) (bs places : List ℕ) (goal i : ℕ) (is : i ≡ get_or 
         | no ne ↦ find_next n (λ x. ne (q.0 x)) ∙ found_at_lem n q.1 (omega arith) e
       ]
 
-pub at_below : (i : ℕ) (p : Provisional) (j : ℕ) (q : Provisional) (height : ℕ) → i < height → At i p ≡ At j q → j < height
-at_below i p j q height lt e = let f : i ≡ j = cc in omega arith
+pub at_below : (o p : code.OnStack) (height : ℕ) → o.index < height → Some o ≡ Some p → p.index < height
+at_below o p height lt e = let f : o ≡ p = cc in subst (λ (x : code.OnStack). x.index < height) f lt
 
-pub nowhere_below : (j : ℕ) (q : Provisional) (height : ℕ) → Nowhere ≡ At j q → j < height
-nowhere_below j q height e = let z : ◌≡◌ {A = ℕ} 0 1 = cc in absurd (omega arith)
+pub nowhere_below : (o : code.OnStack) (height : ℕ) → None ≡ Some o → o.index < height
+nowhere_below o height e = let z : ◌≡◌ {A = ℕ} 0 1 = cc in absurd (omega arith)
 
 -- ---- a new frame: the goal's place becomes its index
 off_top : (f : Frame) (s : Stack) (goal : ℕ) → stack_find (f ∷ s) goal ≡ none

@@ -1,6 +1,7 @@
 -- A frame's first eight bytes as a record: loaded, stored, marked.
 use mathlib.Core.Path.{◌≡◌, refl, ap, ◌∙◌}
-use mathlib.Core.Bool.{not}
+use mathlib.Core.Bool.{Bool, true, false, not}
+use mir.Val.{bool_byte}
 use mathlib.Core.List.{List, [], ◌∷◌, ◌++◌}
 use Prim.Native.Nat.{ℕ, zero, suc, ◌<◌}
 use native.Mathlib.Omega.{arith}
@@ -27,6 +28,10 @@ loaded bs = λ t. record {
 }
 
 -- ---- `store`
+pub flag_bool : (b : Bool) → bool_byte b ≡ flag_byte b
+flag_bool true = refl
+flag_bool false = refl
+
 pub stored : (bs : List ℕ) → length bs ≡ 8 → (f : FrameRecord) (v : ℕ) → v ≡ flag_byte f.overflow
     → set (set (set (set (set (set (set (set bs 0 f.input) 1 f.step) 2 f.available) 3 f.reached) 4 f.provisional) 5 v) 6 f.head) 7 f.tracks ≡ bytes_of f
 stored bs len f v e =

@@ -1,6 +1,7 @@
 -- What the reads of a frame's bytes give.
 use mathlib.Core.Path.{◌≡◌, refl, sym, ap, ◌∙◌}
 use mathlib.Core.Bool.{Bool, true, false, not}
+use mir.Val.{bool_byte}
 use mathlib.Core.Option.{Option, none, some}
 use mathlib.Core.List.{◌∷◌}
 use Prim.Native.Nat.{ℕ, zero, suc, ◌-◌, ◌/◌, ◌<◌}
@@ -18,12 +19,16 @@ use Rattle.definition.specs.Parent.{or_no_usages}
 use Rattle.definition.specs.Lookup.{allowed_depth_for_nested}
 use Rattle.layout.specs.Frame.{truth, result_of, when_set}
 use Rattle.stack.specs.Results.{is_some}
-use Rattle.stack.specs.declared.frame.Depth.TheVariants.{Allowed, Overflow}
+use Rattle.std.specs.Prelude.{Some, None}
 
 -- ---- a byte that says whether something is there
 pub test_truth : (n : ℕ) → not (eqb n 0) ≡ truth n
 test_truth zero = refl
 test_truth (suc n) = ap not (ne_eqb (suc n) 0 (λ e. omega arith))
+
+pub truth_byte : (b : Bool) → truth (bool_byte b) ≡ b
+truth_byte true = refl
+truth_byte false = refl
 
 pub test_some : {A : Type 0} (n : ℕ) (x : A) → not (eqb n 0) ≡ is_some (when_set n x)
 test_some zero x = refl
@@ -44,10 +49,10 @@ result_present zero a ne is = absurd (ne refl)
 result_present (suc n) a ne is = let e : suc n - 1 ≡ n = omega arith in ap some (is ∙ ap answer_of e)
 
 -- ---- the depth for a nested goal
-pub allowed_small : (x d : ℕ) → x < 256 → Allowed x ≡ Allowed d → d < 256
+pub allowed_small : (x d : ℕ) → x < 256 → Some x ≡ Some d → d < 256
 allowed_small x d h e = let f : x ≡ d = cc in omega arith
 
-pub overflow_small : (d : ℕ) → Overflow ≡ Allowed d → d < 256
+pub overflow_small : (d : ℕ) → None ≡ Some d → d < 256
 overflow_small d e = let z : ◌≡◌ {A = ℕ} 0 1 = cc in absurd (omega arith)
 
 pub divided_small : (x divisor : ℕ) → x < 256 → x / divisor < 256

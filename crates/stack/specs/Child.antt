@@ -31,20 +31,24 @@ used u before = some (add_usages_from_nested (or_no_usages before) u)
 abbrev pub track_at : ℕ → HeadUsages → Frame → Frame
 track_at i u f = with_candidate_usages f (tracked_at f.candidate_usages i u)
 
-abbrev pub join_at : PathKind → ℕ → CycleHead → Frame → Frame
-join_at step i c f = with_heads f (joined step i c f.heads)
+abbrev pub join_used : ℕ → ℕ → HeadUsages → Frame → Frame
+join_used i paths u f = with_heads f (insert_head f.heads i paths u)
 
 abbrev pub use_own : HeadUsages → Frame → Frame
 use_own u f = with_usages f (used u f.usages)
 
--- the head c of the child, at index i, for the parent at index `own`
-abbrev pub add_head_at : PathKind → ℕ → ℕ → CycleHead → Frame → Frame
-add_head_at step own i c f =
+-- a head at index i, reached by paths and used, for the parent at index `own`
+abbrev pub use_at : ℕ → ℕ → ℕ → HeadUsages → Frame → Frame
+use_at own i paths u f =
     with_candidate_usages
     (with_usages
-    (with_heads f (elim (ltb i own) [ true ↦ joined step i c f.heads | false ↦ f.heads ]))
-    (elim (eqb i own) [ true ↦ used c.usages f.usages | false ↦ f.usages ]))
-    (tracked_at f.candidate_usages i c.usages)
+    (with_heads f (elim (ltb i own) [ true ↦ insert_head f.heads i paths u | false ↦ f.heads ]))
+    (elim (eqb i own) [ true ↦ used u f.usages | false ↦ f.usages ]))
+    (tracked_at f.candidate_usages i u)
+
+-- the head c of the child, at index i, one step further
+abbrev pub add_head_at : PathKind → ℕ → ℕ → CycleHead → Frame → Frame
+add_head_at step own i c f = use_at own i (extend_with c.paths step) c.usages f
 
 -- the head of a cycle: reached by the last step alone, and used once, in the kind of the whole cycle
 abbrev pub cycle_head : PathKind → PathKind → CycleHead

@@ -1,4 +1,7 @@
-// One frame's bytes: `layout::offsets` says where its fields and blocks stand.
+// One frame's bytes: `layout::offsets` says where its fields and blocks stand. They are bytes at
+// fixed places, and no struct, since they lie in memory that a caller lends. Nor is a frame a struct
+// of its bytes and the number of goals: it is cut out of the graph anew at each use, so that
+// `frame::input(f, goals)` would become `Frame { bytes: f, goals }.input()`.
 ghost use Rattle.std.specs.Prelude.{◌≡◌, [], ◌∷◌, ℕ, ◌<◌, length};
 ghost use Rattle.definition.specs.Paths.{kind_number};
 ghost use Rattle.definition.specs.Steps.{count_steps};
@@ -6,14 +9,14 @@ ghost use Rattle.definition.specs.Stack.{Stack, step_kinds, required_depth_of};
 ghost use Rattle.definition.specs.Parent.{or_no_usages, mark_overflow};
 ghost use Rattle.definition.specs.Task.{rerun_frame};
 ghost use Rattle.definition.specs.Evaluate.{new_frame};
+ghost use Rattle.definition.specs.Options.{maybe_of};
 ghost use Rattle.buffer.specs.Regions.{region};
 ghost use Rattle.layout.specs.Blocks.{heads_size};
 ghost use Rattle.layout.specs.Frame.{heads_start, frame_of};
 ghost use Rattle.layout.specs.Steps.{unpacked};
 ghost use Rattle.stack.specs.Bytes.{FrameBytes, FrameChanged};
-ghost use Rattle.stack.specs.Results.{is_some, provisional_of, NestedDepth};
+ghost use Rattle.stack.specs.Results.{is_some, NestedDepth};
 
-use buffer::scalars;
 use definition::answers::Answer;
 use definition::paths::PathKind;
 use definition::usages::HeadUsages;
@@ -23,41 +26,27 @@ pub mod child;
 mod fields;
 pub mod tracked;
 
-// A frame's provisional result.
-#[derive(Clone, Copy)]
-pub enum Provisional {
-    NoResult,
-    Result(Answer),
-}
-
-// The depth that a nested goal is allowed.
-#[derive(Clone, Copy)]
-pub enum Depth {
-    Allowed(usize),
-    Overflow,
-}
-
 // ---- reads
 
 pub fn input(frame: &[u8], goals: usize) -> usize
     requires { FrameBytes goals frame.now }
     ensures { (result ≡ (frame_of goals frame.now).input) × (result < 256) }
 {
-    scalars::wide(frame[offsets::FRAME_INPUT])
+    usize::from(frame[offsets::FRAME_INPUT])
 }
 
 pub fn step_kind(frame: &[u8], goals: usize) -> PathKind
     requires { FrameBytes goals frame.now }
     ensures { result ≡ (frame_of goals frame.now).step_kind_from_parent }
 {
-    PathKind::from_number(frame[offsets::FRAME_STEP])
+    PathKind::from(frame[offsets::FRAME_STEP])
 }
 
 pub fn available(frame: &[u8], goals: usize) -> usize
     requires { FrameBytes goals frame.now }
     ensures { (result ≡ (frame_of goals frame.now).available_depth) × (result < 256) }
 {
-    scalars::wide(frame[offsets::FRAME_AVAILABLE])
+    usize::from(frame[offsets::FRAME_AVAILABLE])
 }
 
 // The least available depth that a nested goal reached.
@@ -65,18 +54,18 @@ pub fn reached(frame: &[u8], goals: usize) -> usize
     requires { FrameBytes goals frame.now }
     ensures { (result ≡ (frame_of goals frame.now).min_reached_available_depth) × (result < 256) }
 {
-    scalars::wide(frame[offsets::FRAME_REACHED])
+    usize::from(frame[offsets::FRAME_REACHED])
 }
 
-pub fn provisional_result(frame: &[u8], goals: usize) -> Provisional
+pub fn provisional_result(frame: &[u8], goals: usize) -> Option<Answer>
     requires { FrameBytes goals frame.now }
-    ensures { provisional_of result ≡ (frame_of goals frame.now).provisional_result }
+    ensures { maybe_of result ≡ (frame_of goals frame.now).provisional_result }
 {
     let n = frame[offsets::FRAME_PROVISIONAL];
     if n == 0 {
-        return Provisional::NoResult;
+        return None;
     }
-    Provisional::Result(Answer::from_number(n - 1))
+    Some(Answer::from(n - 1))
 }
 
 pub fn overflow(frame: &[u8], goals: usize) -> bool
@@ -145,31 +134,26 @@ pub fn required_depth(frame: &[u8], goals: usize) -> usize
     requires { FrameBytes goals frame.now }
     ensures { (result ≡ required_depth_of (frame_of goals frame.now)) × (result < 256) }
 {
-    let a = available(frame, goals);
-    let b = reached(frame, goals);
-    if a < b {
-        return 0;
-    }
-    a - b
+    available(frame, goals).saturating_sub(reached(frame, goals))
 }
 
-// The depth that the frame allows a nested goal; `lower` is LowerAvailableDepth::Yes.
-pub fn nested_depth(frame: &[u8], goals: usize, divisor: usize, lower: bool) -> Depth
+// The depth that the frame allows a nested goal, none where that is overflow; `lower` is LowerAvailableDepth::Yes.
+pub fn nested_depth(frame: &[u8], goals: usize, divisor: usize, lower: bool) -> Option<usize>
     requires { FrameBytes goals frame.now × (0 < divisor) }
     ensures { (root : ℕ) (fs : Stack) → NestedDepth root divisor (frame_of goals frame.now ∷ fs)
         lower result }
 {
     let depth = available(frame, goals);
     if !lower {
-        return Depth::Allowed(depth);
+        return Some(depth);
     }
     if depth == 0 {
-        return Depth::Overflow;
+        return None;
     }
     if overflow(frame, goals) {
-        return Depth::Allowed(depth / divisor);
+        return Some(depth / divisor);
     }
-    Depth::Allowed(depth - 1)
+    Some(depth - 1)
 }
 
 // ---- writes
@@ -179,10 +163,10 @@ fn start_fields(b: &mut [u8], goal: usize, step: PathKind, available: usize)
     requires { (length b.old ≡ 8) × ((goal < 256) × (available < 256)) }
     ensures { b.new ≡ goal ∷ kind_number step ∷ available ∷ available ∷ 0 ∷ 0 ∷ 0 ∷ 0 ∷ [] }
 {
-    b[offsets::FRAME_INPUT] = scalars::low(goal);
-    b[offsets::FRAME_STEP] = step.number();
-    b[offsets::FRAME_AVAILABLE] = scalars::low(available);
-    b[offsets::FRAME_REACHED] = scalars::low(available);
+    b[offsets::FRAME_INPUT] = goal as u8;
+    b[offsets::FRAME_STEP] = u8::from(step);
+    b[offsets::FRAME_AVAILABLE] = available as u8;
+    b[offsets::FRAME_REACHED] = available as u8;
     b[offsets::FRAME_PROVISIONAL] = 0;
     b[offsets::FRAME_OVERFLOW] = 0;
     b[offsets::FRAME_IS_HEAD] = 0;
@@ -219,7 +203,7 @@ pub fn reset(frame: &mut [u8], goals: usize, answer: Answer)
     requires { FrameBytes goals frame.old }
     ensures { FrameChanged goals (λ f. rerun_frame f answer) frame.old frame.new }
 {
-    frame[offsets::FRAME_PROVISIONAL] = answer.number() + 1;
+    frame[offsets::FRAME_PROVISIONAL] = u8::from(answer) + 1;
     frame[offsets::FRAME_OVERFLOW] = 0;
     frame[offsets::FRAME_IS_HEAD] = 1;
     frame[offsets::FRAME_TRACKS] = 0;

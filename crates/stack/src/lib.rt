@@ -1,5 +1,7 @@
 // stack.rs: the frames of the goals that are being evaluated, at their index in the
-// graph. How many there are is no byte of it.
+// graph. How many there are is no byte of it, and no field of a struct beside it: the height
+// changes from call to call, and the graph is lent now to be read and now to be written, so that
+// a struct of the three would be made anew for each call.
 #![tactic(auto)]
 
 ghost use Rattle.std.specs.Prelude.{◌≡◌, ◌<◌, ◌≤◌};
@@ -16,19 +18,17 @@ ghost use Rattle.stack.specs.Places.{Placed};
 ghost use Rattle.stack.specs.Results.{Found, NestedDepth};
 ghost use Rattle.stack.specs.Written.{TopWritten, StackChanged, TopChanged};
 
-use buffer::scalars;
 use definition::answers::Answer;
 use definition::paths::PathKind;
-use frame::{Depth, Provisional};
-use layout::{offsets, steps};
+use layout::{ranges, steps};
 
 pub mod frame;
 
 // What `find` finds: the index of the goal's frame, and its provisional result.
-#[derive(Clone, Copy)]
-pub enum OnStack {
-    At(usize, Provisional),
-    Nowhere,
+#[derive(Debug, Clone, Copy, PartialEq, Eq)]
+pub struct OnStack {
+    pub index: usize,
+    pub provisional_result: Option<Answer>,
 }
 
 // The bytes of frame i.
@@ -36,9 +36,7 @@ pub fn frame_at(graph: &[u8], goals: usize, i: usize) -> &[u8]
     requires { GraphBytes goals graph.now × (i < goals) }
     ensures { result.now ≡ frame_bytes goals i graph.now }
 {
-    let start = offsets::frame_start(goals, i);
-    let end = start + offsets::frame_size(goals);
-    &graph[start..end]
+    &graph[ranges::frame(goals, i)]
 }
 
 // The steps of each kind on a stack of some height.
@@ -68,9 +66,8 @@ pub fn push(
 {
     let below = steps_of(graph, goals, height);
     let all = steps::with(below, step);
-    let start = offsets::frame_start(goals, height);
-    let end = start + offsets::frame_size(goals);
-    frame::start(&mut graph[start..end], goals, goal, step, available, all);
+    let frame = &mut graph[ranges::frame(goals, height)];
+    frame::start(frame, goals, goal, step, available, all);
 }
 
 // The frame at index `own`, on top again, before its next iteration.
@@ -78,9 +75,7 @@ pub fn reset_for_rerun(graph: &mut [u8], goals: usize, own: usize, answer: Answe
     requires { GraphBytes goals graph.old × (own < goals) }
     ensures { TopChanged goals own (λ f. rerun_frame f answer) graph.old graph.new }
 {
-    let start = offsets::frame_start(goals, own);
-    let end = start + offsets::frame_size(goals);
-    frame::reset(&mut graph[start..end], goals, answer);
+    frame::reset(&mut graph[ranges::frame(goals, own)], goals, answer);
 }
 
 // handle_overflow: the top frame met overflow.
@@ -91,26 +86,34 @@ pub fn mark_top_overflow(graph: &mut [u8], goals: usize, height: usize)
     if height == 0 {
         return;
     }
-    let start = offsets::frame_start(goals, height - 1);
-    let end = start + offsets::frame_size(goals);
-    frame::mark_overflow(&mut graph[start..end], goals);
+    frame::mark_overflow(&mut graph[ranges::frame(goals, height - 1)], goals);
 }
 
 // Stack::find: the goal's place tells where its frame can be, if there is one.
-pub fn find(graph: &[u8], goals: usize, places: &[u8; 64], height: usize, goal: usize) -> OnStack
+pub fn find(
+    graph: &[u8],
+    goals: usize,
+    places: &[u8; 64],
+    height: usize,
+    goal: usize,
+) -> Option<OnStack>
     requires graph_bytes { GraphBytes goals graph.now × ((height ≤ goals) × (goal < goals)) }
     requires placed { Placed (stack_of goals height graph.now) places.now }
     ensures { Found goals height graph.now goal result }
 {
-    let i = scalars::wide(places[goal]);
-    if height <= i {
-        return OnStack::Nowhere;
+    let index = usize::from(places[goal]);
+    if height <= index {
+        return None;
     }
-    let f = frame_at(graph, goals, i);
-    if frame::input(f, goals) == goal {
-        return OnStack::At(i, frame::provisional_result(f, goals));
+    let f = frame_at(graph, goals, index);
+    if frame::input(f, goals) != goal {
+        return None;
     }
-    OnStack::Nowhere
+    let provisional_result = frame::provisional_result(f, goals);
+    Some(OnStack {
+        index,
+        provisional_result,
+    })
 }
 
 // cycle_path_kind: the kind of the path from a head to the top of the stack and on by
@@ -138,9 +141,7 @@ pub fn any_on_stack(graph: &[u8], goals: usize, height: usize, nested: &[u8]) ->
     requires { GraphBytes goals graph.now × (height ≤ goals) }
     ensures { result ≡ any_on_stack (stack_of goals height graph.now) nested.now }
 {
-    let mut i = height;
-    while 0 < i {
-        i = i - 1;
+    for i in (0..height).rev() {
         let f = frame_at(graph, goals, i);
         if buffer::get(nested, frame::input(f, goals)) != 0 {
             return true;
@@ -157,12 +158,12 @@ pub fn allowed_depth_for_nested(
     root: usize,
     height: usize,
     lower: bool,
-) -> Depth
+) -> Option<usize>
     requires { GraphBytes goals graph.now × ((height ≤ goals) × ((0 < divisor) × (root < 256))) }
     ensures { NestedDepth root divisor (stack_of goals height graph.now) lower result }
 {
     if height == 0 {
-        return Depth::Allowed(root);
+        return Some(root);
     }
     let f = frame_at(graph, goals, height - 1);
     frame::nested_depth(f, goals, divisor, lower)

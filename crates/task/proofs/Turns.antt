@@ -11,6 +11,7 @@ use Rattle.definition.specs.declared.answers.Answer.TheVariants.{Overflow}
 use Rattle.definition.specs.declared.endings.Ending.{Ending}
 use Rattle.definition.specs.contracts.endings.Ending.{the_type}
 use Rattle.definition.specs.declared.endings.Ending.TheVariants as ending
+use Rattle.std.specs.Prelude.{Ok, Err}
 use Rattle.definition.specs.declared.replies.Refusal.{Refusal}
 use Rattle.definition.specs.Stack.{Stack, Frame, CountsTrue}
 use Rattle.definition.specs.Graph.{Graph, finalize, with_stack}
@@ -26,14 +27,12 @@ use Rattle.stack.proofs.Loops.{top}
 use Rattle.stack.proofs.Counts.{rerun_true}
 use Rattle.provisional_cache.proofs.Writes.{frame_kept}
 use Rattle.pop.specs.Endings as pops
-use Rattle.evaluation.specs.declared.Outcome.{Outcome}
-use Rattle.evaluation.specs.declared.Outcome.TheVariants.{Done, Stopped}
-use Rattle.evaluation.specs.declared.TaskOutcome.TheVariants.{Evaluated, TaskStopped}
-use Rattle.evaluation.specs.Outcomes.{outcome_of, task_outcome_of}
+use Rattle.evaluation.specs.declared.Done.{Done}
+use Rattle.evaluation.specs.Outcomes.{Outcome, outcome_of, ran_of}
 use Rattle.task.specs.declared.Iteration.{Iteration}
 use Rattle.task.specs.declared.Iteration.TheVariants.{End, Again}
 use Rattle.task.specs.Turns.{next_turn, turned, FewLeft, FewTurned}
-use Rattle.task.specs.Iterations.{FramePopped, Followed, TurnTaken}
+use Rattle.task.specs.Iterations.{FramePopped, TurnTaken}
 
 abbrev Next : Type 0
 Next = Bool → Graph → task.TaskOutcome
@@ -65,8 +64,8 @@ module _ (goals height n : ℕ) (e : Ending) (overflow : Bool) (answer : Answer)
 
   -- the goal's outcome
   pub over : OneOf (0 ∷ 1 ∷ 2 ∷ 3 ∷ 4 ∷ []) (tag_of the_type e) → (e ≡ ending.Overflow → answer ≡ Overflow)
-      → FramePopped goals height e n overflow answer old mid (End (Evaluated answer overflow kept))
-  unfolding turned task_outcome_of
+      → FramePopped goals height e n overflow answer old mid (End (record { answer = answer; overflow = overflow; entries = kept }))
+  unfolding turned ran_of
   over k limit =
       let h = st.high in
       let same = sym (frame_kept goals old mid own popped.frames (omega arith)) in
@@ -103,7 +102,7 @@ module _ (goals height n : ℕ) (e : Ending) (overflow : Bool) (answer : Answer)
             (subst CountsTrue (sym (popped.frames.stacks height st.high)) st.counts)));
       }
 
--- ---- `followed`
+-- ---- `end_iteration`
 
 -- any ending but the step limit's
 pub not_limit : (e : Ending) → OneOf (0 ∷ 1 ∷ 2 ∷ 3 ∷ 5 ∷ []) (tag_of the_type e) → e ≡ ending.Overflow → ⊥
@@ -113,83 +112,74 @@ not_limit e k is =
     miss (0 ∷ 1 ∷ 2 ∷ 3 ∷ 5 ∷ []) 4 tt z
 
 -- what is read of the frame's bytes
-pub met_is : (goals own : ℕ) (bs r : List ℕ) (overflow b met : Bool) → r ≡ frame_bytes goals own bs
+pub met_is : (goals at : ℕ) (bs r : List ℕ) (overflow b met : Bool) → r ≡ frame_bytes goals at bs
     → b ≡ (frame_of goals r).encountered_overflow → met ≡ (overflow || b)
-    → met ≡ (overflow || (frame_at goals own bs).encountered_overflow)
-met_is goals own bs r overflow b met is e m =
+    → met ≡ (overflow || (frame_at goals at bs).encountered_overflow)
+met_is goals at bs r overflow b met is e m =
     m
     ∙ ap (λ (x : Bool). overflow || x) (e ∙ ap (λ (l : List ℕ). (frame_of goals l).encountered_overflow) is)
 
-pub ending_is : (goals own left : ℕ) (bs r : List ℕ) (answer : Answer) (x : Ending) → r ≡ frame_bytes goals own bs
+pub ending_is : (goals at left : ℕ) (bs r : List ℕ) (answer : Answer) (x : Ending) → r ≡ frame_bytes goals at bs
     → x ≡ ending_of left (frame_of goals r) answer
-    → x ≡ ending_of left (frame_at goals own bs) answer
-ending_is goals own left bs r answer x is e = e ∙ ap (λ (l : List ℕ). ending_of left (frame_of goals l) answer) is
+    → x ≡ ending_of left (frame_at goals at bs) answer
+ending_is goals at left bs r answer x is e = e ∙ ap (λ (l : List ℕ). ending_of left (frame_of goals l) answer) is
 
-module _ (goals height n left : ℕ) (overflow : Bool) (answer : Answer) (old : List ℕ) (some : 1 ≤ height) (met : Bool)
+module _ (goals height left : ℕ) (overflow : Bool) (done : Done) (old : List ℕ) (some : 1 ≤ height) (met : Bool)
     (is-met : met ≡ (overflow || (frame_at goals (height - 1) old).encountered_overflow))
-    (e : Ending) (is-e : e ≡ ending_of left (frame_at goals (height - 1) old) answer) (new : List ℕ) (r : Iteration) where
+    (e : Ending) (is-e : e ≡ ending_of left (frame_at goals (height - 1) old) done.answer) (new : List ℕ) (r : Iteration) where
   abbrev frame : Frame
   frame = frame_at goals (height - 1) old
 
   opened : (root : ℕ) (cache : List ℕ) (pass : ℕ) (next : Next)
-      → task.end_iteration left pass next overflow (graph_of goals root height n old cache) answer (stack_of goals height old)
-      ≡ task.after_pop next pass met frame answer e (pop e (graph_of goals root height n old cache))
+      → task.end_iteration left pass next overflow (graph_of goals root height done.entries old cache) done.answer (stack_of goals height old)
+      ≡ task.after_pop next pass met frame done.answer e (pop e (graph_of goals root height done.entries old cache))
   opened root cache pass next =
-      let g : Graph = graph_of goals root height n old cache in
+      let g : Graph = graph_of goals root height done.entries old cache in
       let s = top goals old height some in
-      ap (task.end_iteration left pass next overflow g answer) s
-      ∙ ap (λ (x : Stack). task.after_pop next pass (overflow || frame.encountered_overflow) frame answer
-      (ending_of left frame answer) (pop (ending_of left frame answer) (with_stack g x))) (sym s)
-      ∙ ap₂ (λ (m : Bool) (x : Ending). task.after_pop next pass m frame answer x (pop x g)) (sym is-met) (sym is-e)
+      ap (task.end_iteration left pass next overflow g done.answer) s
+      ∙ ap (λ (x : Stack). task.after_pop next pass (overflow || frame.encountered_overflow) frame done.answer
+      (ending_of left frame done.answer) (pop (ending_of left frame done.answer) (with_stack g x))) (sym s)
+      ∙ ap₂ (λ (m : Bool) (x : Ending). task.after_pop next pass m frame done.answer x (pop x g)) (sym is-met) (sym is-e)
 
   few_turned : (i : Iteration) → FewLeft goals e i → FewTurned goals left i
   few_turned (End t) w = w
-  few_turned (Again m k) w = (w.0, rerun_left left frame answer (sym is-e ∙ w.1))
+  few_turned (Again m k) w = (w.0, rerun_left left frame done.answer (sym is-e ∙ w.1))
 
-  pub follows : FramePopped goals height e n met answer old new r
-      → Followed goals height n left overflow answer old new r
-  follows made =
+  follows_done : FramePopped goals height e done.entries met done.answer old new r
+      → TurnTaken goals height left overflow (Ok done) old new (Ok r)
+  unfolding outcome_of
+  follows_done made =
       record {
         is = λ root cache pass next. opened root cache pass next ∙ made.is root cache pass next;
         few = few_turned r made.few;
         counts = made.counts;
       }
 
+  pub follows : (o : Outcome) → o ≡ Ok done → FramePopped goals height e done.entries met done.answer old new r
+      → TurnTaken goals height left overflow o old new (Ok r)
+  follows o was made =
+      subst (λ (x : Outcome). TurnTaken goals height left overflow x old new (Ok r)) (sym was) (follows_done made)
+
   -- past the step limit
-  pub follows_limit : e ≡ ending.Overflow → FramePopped goals height ending.Overflow n met Overflow old new r
-      → Followed goals height n left overflow answer old new r
-  follows_limit is made =
-      follows (record {
+  pub follows_limit : (o : Outcome) → o ≡ Ok done → e ≡ ending.Overflow
+      → FramePopped goals height ending.Overflow done.entries met Overflow old new r
+      → TurnTaken goals height left overflow o old new (Ok r)
+  follows_limit o was is made =
+      follows o was (record {
         is = λ root cache pass next.
-            ap (λ (x : Ending). task.after_pop next pass met frame answer x
-            (pop x (graph_of goals root height n old cache))) is ∙ made.is root cache pass next;
+            ap (λ (x : Ending). task.after_pop next pass met frame done.answer x
+            (pop x (graph_of goals root height done.entries old cache))) is ∙ made.is root cache pass next;
         few = subst (λ (x : Ending). FewLeft goals x r) (sym is) made.few;
         counts = made.counts;
       })
 
--- ---- `end_iteration`
-module _ (goals height left : ℕ) (overflow : Bool) (bs : List ℕ) (o : Outcome) where
-  pub turn_stopped : (r : Refusal) → o ≡ Stopped r → TurnTaken goals height left overflow o bs bs (End (TaskStopped r))
-  unfolding outcome_of task_outcome_of turned
-  turn_stopped r is =
-      record {
-        is = λ root cache pass next. ap (λ (x : Outcome). task.iteration left pass next overflow
-            (outcome_of goals root height bs cache x)) is;
-        few = tt;
-        counts = tt;
-      }
-
-  pub turn_done : (answer : Answer) (n : ℕ) → o ≡ Done answer n → (new : List ℕ) (r : Iteration)
-      → Followed goals height n left overflow answer bs new r → TurnTaken goals height left overflow o bs new r
-  unfolding outcome_of
-  turn_done answer n is new r w =
-      record {
-        is = λ root cache pass next.
-            ap (λ (x : Outcome). task.iteration left pass next overflow (outcome_of goals root height bs cache x)) is
-            ∙ w.is root cache pass next;
-        few = w.few;
-        counts = w.counts;
-      }
+-- a refusal
+pub turn_refused : (goals height left : ℕ) (overflow : Bool) (o : Outcome) (old : List ℕ) (x : Refusal) → o ≡ Err x
+    → TurnTaken goals height left overflow o old old (Err x)
+unfolding outcome_of
+turn_refused goals height left overflow o old x was =
+    subst (λ (y : Outcome). TurnTaken goals height left overflow y old old (Err x)) (sym was)
+    (record { is = λ root cache pass next. refl; few = tt; counts = tt })
 
 -- a turn is one of the definition's, with those after it
 pub turn_is : (compute : Graph → graph.Outcome) (left pass : ℕ) (overflow : Bool) (g : Graph)

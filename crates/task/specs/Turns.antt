@@ -1,22 +1,15 @@
 -- The end of an iteration, with the next one as a function, and what it stands for in bytes.
-use Rattle.std.specs.Prelude.{◌≡◌, Bool, List, ℕ, zero, suc, ◌-◌, ◌*◌, ◌≤◌, ◌<◌}
-use Rattle.std.proofs.Math.Option.{Option, none, some}
-use Rattle.definition.specs.declared.endings.Fixpoint.{Fixpoint}
+use Rattle.std.specs.Prelude.{◌≡◌, Bool, List, ℕ, zero, suc, ◌-◌, ◌*◌, ◌≤◌, ◌<◌, Result, Ok, Err}
 use Rattle.definition.specs.declared.endings.Ending.{Ending}
 use Rattle.definition.specs.declared.endings.Ending.TheVariants.{Rerun}
+use Rattle.definition.specs.declared.replies.Refusal.{Refusal}
 use Rattle.definition.specs.Stack.{Stack, CountsTrue}
 use Rattle.definition.specs.Graph.{Graph, Outcome}
 use Rattle.definition.specs.Task as task
 use Rattle.layout.specs.Work.{graph_of}
-use Rattle.evaluation.specs.Outcomes.{task_outcome_of, FewTaskEntries}
+use Rattle.evaluation.specs.Outcomes.{ran_of}
 use Rattle.task.specs.declared.Iteration.{Iteration}
 use Rattle.task.specs.declared.Iteration.TheVariants.{End, Again}
-use Rattle.task.specs.declared.ending.Searched.{Searched}
-use Rattle.task.specs.declared.ending.Searched.TheVariants.{Reached, Missed}
-
-abbrev pub searched_of : Searched → Option Fixpoint
-searched_of (Reached fixpoint) = some fixpoint
-searched_of Missed = none
 
 -- the turn of `evaluateGoalInTask` after the one with the number `pass`, with which `left` more are allowed
 abbrev pub next_turn : (Graph → Outcome) → ℕ → ℕ → Bool → Graph → task.TaskOutcome
@@ -26,17 +19,24 @@ next_turn compute (suc left) pass = task.evaluate_goal_in_task compute left (suc
 -- `height` frames were on the stack, and are again in the next turn; `pass` turns were taken
 unfoldable pub turned : ℕ → ℕ → ℕ → ℕ → (Bool → Graph → task.TaskOutcome) → List ℕ → List ℕ → Iteration
     → task.TaskOutcome
-turned goals root height pass next bs cache (End t) = task_outcome_of goals root (height - 1) pass bs cache t
+turned goals root height pass next bs cache (End e) =
+    ran_of goals root (height - 1) bs cache (record { evaluated = e; passes = pass })
 turned goals root height pass next bs cache (Again met n) = next met (graph_of goals root height n bs cache)
+
+-- likewise, or a refusal
+abbrev pub taken : ℕ → ℕ → ℕ → ℕ → (Bool → Graph → task.TaskOutcome) → List ℕ → List ℕ → Result Iteration Refusal
+    → task.TaskOutcome
+taken goals root height pass next bs cache (Ok i) = turned goals root height pass next bs cache i
+taken goals root height pass next bs cache (Err r) = task.TaskStopped r
 
 -- where there is a next turn, the counts of steps on the stack s are true
 abbrev pub CountsTurned : Stack → Iteration → Type 0
-CountsTurned s (End t) = Unit {0}
+CountsTurned s (End e) = Unit {0}
 CountsTurned s (Again met n) = CountsTrue s
 
 -- no more entries than the graph has room for, and another turn only where P
 abbrev FewWhere : Type 0 → ℕ → Iteration → Type 0
-FewWhere P goals (End t) = FewTaskEntries goals t
+FewWhere P goals (End e) = e.entries ≤ 2 * goals
 FewWhere P goals (Again met n) = (n ≤ 2 * goals) × P
 
 -- where the ending is a rerun

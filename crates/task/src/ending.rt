@@ -1,42 +1,38 @@
 // Which ending applies to a frame after an iteration: decided here, and nowhere else.
 ghost use Rattle.std.specs.Prelude.{◌≡◌};
+ghost use Rattle.definition.specs.Options.{maybe_of};
 ghost use Rattle.definition.specs.Endings.{reached_fixpoint, run_again, without_fixpoint, ending_of_head, ending_of};
 ghost use Rattle.layout.specs.Frame.{frame_of};
 ghost use Rattle.stack.specs.Bytes.{FrameBytes};
-ghost use Rattle.stack.specs.Results.{provisional_of};
-ghost use Rattle.task.specs.Turns.{searched_of};
 
 use definition::answers::Answer;
 use definition::endings::{Ending, Fixpoint};
 use definition::usages::HeadUsages;
 use stack::frame;
-use stack::frame::Provisional;
 
-// Whether a fixpoint is reached, and then which.
-#[derive(Clone, Copy)]
-pub enum Searched {
-    Reached(Fixpoint),
-    Missed,
-}
-
-// The answer is what the cycles were given: the provisional result or, in the first iteration,
-// the initial result of a kind, where they were all of that kind.
-fn reached_fixpoint(provisional: Provisional, usages: HeadUsages, answer: Answer) -> Searched
-    ensures { searched_of result ≡ reached_fixpoint (provisional_of provisional) usages answer }
+// The fixpoint that is reached, if one is. The answer is what the cycles were given: the
+// provisional result or, in the first iteration, the initial result of a kind, where they were
+// all of that kind.
+fn reached_fixpoint(
+    provisional: Option<Answer>,
+    usages: HeadUsages,
+    answer: Answer,
+) -> Option<Fixpoint>
+    ensures { maybe_of result ≡ reached_fixpoint (maybe_of provisional) usages answer }
 {
     match provisional {
-        Provisional::Result(before) => {
-            if before.same(answer) {
-                return Searched::Reached(Fixpoint::Later);
+        Some(before) => {
+            if before == answer {
+                return Some(Fixpoint::Later);
             }
-            Searched::Missed
+            None
         }
-        Provisional::NoResult => {
+        None => {
             let kind = answer.initial_kind();
             if usages.is_single(kind) {
-                return Searched::Reached(Fixpoint::First(kind));
+                return Some(Fixpoint::First(kind));
             }
-            Searched::Missed
+            None
         }
     }
 }
@@ -67,16 +63,15 @@ fn without_fixpoint(left: usize, usages: HeadUsages, answer: Answer) -> Ending
 
 fn ending_of_head(
     left: usize,
-    provisional: Provisional,
+    provisional: Option<Answer>,
     usages: HeadUsages,
     answer: Answer,
 ) -> Ending
-    ensures { result ≡ ending_of_head left (provisional_of provisional) usages answer }
+    ensures { result ≡ ending_of_head left (maybe_of provisional) usages answer }
 {
-    let searched = reached_fixpoint(provisional, usages, answer);
-    match searched {
-        Searched::Reached(fixpoint) => Ending::Fixpoint(fixpoint),
-        Searched::Missed => without_fixpoint(left, usages, answer),
+    match reached_fixpoint(provisional, usages, answer) {
+        Some(fixpoint) => Ending::Fixpoint(fixpoint),
+        None => without_fixpoint(left, usages, answer),
     }
 }
 

@@ -5,11 +5,10 @@ ghost use Rattle.stack.specs.Bytes.{GraphBytes, frame_at};
 ghost use Rattle.task.specs.Places.{Popped, Room};
 ghost use Rattle.task.specs.Results.{InGlobalCache, InProvisionalCache, InCache};
 
-use definition::answers::Answer;
 use definition::format::Header;
 use definition::paths::PathKind;
 use definition::replies::Refusal;
-use evaluation::Outcome;
+use evaluation::{Done, Evaluated, Outcome, Ran};
 use layout::heads;
 use stack::frame;
 
@@ -37,54 +36,53 @@ fn in_global_cache(
     graph: &[u8],
     h: Header,
     height: usize,
-    entries: usize,
     goal: usize,
-    overflow: bool,
-    answer: Answer,
-    passes: usize,
+    ran: Ran,
 ) -> Outcome
-    requires { Popped h height entries goal graph.now cache.old × (passes < 256) }
-    ensures { InGlobalCache h height entries goal overflow answer passes graph.now
-        cache.old cache.new result }
+    requires { Popped h height goal graph.now cache.old ran }
+    ensures { InGlobalCache h height goal ran graph.now cache.old cache.new result }
 {
     let goals = h.goals;
     let top = h.top;
     let required = frame::required_depth(stack::frame_at(graph, goals, height), goals);
     if top < required {
-        return Outcome::Stopped(Refusal::Unreachable);
+        return Err(Refusal::Unreachable);
     }
+    let Evaluated {
+        answer,
+        overflow,
+        entries,
+    } = ran.evaluated;
     let nested = nested_at(graph, goals, height);
-    let made = global_cache::insert(
-        cache, goals, top, goal, overflow, required, answer, passes, nested,
-    );
-    match made {
-        global_cache::Insertion::Kept => Outcome::Done(answer, entries),
-        global_cache::Insertion::Conflict => Outcome::Stopped(Refusal::CacheConflict),
-    }
+    global_cache::insert(
+        cache, goals, top, goal, overflow, required, answer, ran.passes, nested,
+    )?;
+    Ok(Done { answer, entries })
 }
 
 fn in_provisional_cache(
     graph: &mut [u8],
     h: Header,
     height: usize,
-    entries: usize,
     goal: usize,
     step: PathKind,
-    overflow: bool,
-    answer: Answer,
+    evaluated: Evaluated,
 ) -> Outcome
-    requires { Room h height entries goal graph.old }
-    ensures { InProvisionalCache h height entries goal step overflow answer
-        graph.old graph.new result }
+    requires { Room h height evaluated.entries goal graph.old }
+    ensures { InProvisionalCache h height goal step evaluated graph.old graph.new result }
 {
-    let goals = h.goals;
-    let made = provisional_cache::insert(
-        graph, goals, height, entries, goal, step, overflow, answer,
-    );
-    match made {
-        provisional_cache::Insertion::Kept => Outcome::Done(answer, entries + 1),
-        provisional_cache::Insertion::Full => Outcome::Stopped(Refusal::ProvisionalCacheFull),
-    }
+    let Evaluated {
+        answer,
+        overflow,
+        entries,
+    } = evaluated;
+    provisional_cache::insert(
+        graph, h.goals, height, entries, goal, step, overflow, answer,
+    )?;
+    Ok(Done {
+        answer,
+        entries: entries + 1,
+    })
 }
 
 // insert_global_cache where the frame has no heads, else insert_provisional_cache: a result
@@ -94,25 +92,22 @@ pub fn result(
     graph: &mut [u8],
     h: Header,
     height: usize,
-    entries: usize,
     goal: usize,
     step: PathKind,
-    overflow: bool,
-    answer: Answer,
-    passes: usize,
+    ran: Ran,
 ) -> Outcome
-    requires { Popped h height entries goal graph.old cache.old × (passes < 256) }
-    ensures { InCache h height entries goal step overflow answer passes
-        cache.old cache.new graph.old graph.new result }
+    requires { Popped h height goal graph.old cache.old ran }
+    ensures { InCache h height goal step ran cache.old cache.new graph.old graph.new result }
 {
-    let goals = h.goals;
-    if is_headless(graph, goals, height) {
-        return in_global_cache(
-            cache, graph, h, height, entries, goal, overflow, answer, passes,
-        );
+    if is_headless(graph, h.goals, height) {
+        return in_global_cache(cache, graph, h, height, goal, ran);
     }
+    let evaluated = ran.evaluated;
     if h.provisional {
-        return in_provisional_cache(graph, h, height, entries, goal, step, overflow, answer);
+        return in_provisional_cache(graph, h, height, goal, step, evaluated);
     }
-    Outcome::Done(answer, entries)
+    Ok(Done {
+        answer: evaluated.answer,
+        entries: evaluated.entries,
+    })
 }

@@ -7,25 +7,25 @@ ghost use Rattle.definition.specs.declared.answers.Answer.TheVariants as answers
 ghost use Rattle.definition.specs.declared.endings.Ending.TheVariants as endings;
 ghost use Rattle.stack.specs.Bytes.{StackBytes};
 ghost use Rattle.task.specs.Places.{IterationEnded, TaskEnded};
-ghost use Rattle.task.specs.Iterations.{FramePopped, Followed, TurnTaken};
+ghost use Rattle.task.specs.Iterations.{FramePopped, TurnTaken};
 ghost use Rattle.task.specs.Results.{Finished};
 
-use buffer::scalars;
 use definition::answers::Answer;
 use definition::endings::Ending;
 use definition::format::Header;
 use definition::paths::PathKind;
-use evaluation::{Outcome, Ran, TaskOutcome};
+use definition::replies::Refusal;
+use evaluation::{Evaluated, Outcome, TaskOutcome};
 use stack::frame;
 
 mod ending;
 mod insert;
 
-// After an iteration: the goal's outcome, or another iteration, with whether overflow
-// was met so far and how many provisional entries there are.
-#[derive(Clone, Copy)]
+// After an iteration: what the goal came to, or another iteration, with whether overflow
+// was met so far and how many provisional entries there are. Neither is an error or an absence.
+#[derive(Debug, Clone, Copy, PartialEq, Eq)]
 pub enum Iteration {
-    End(TaskOutcome),
+    End(Evaluated),
     Again(bool, usize),
 }
 
@@ -54,38 +54,17 @@ fn popped(
             stack::reset_for_rerun(graph, goals, height - 1, answer);
             Iteration::Again(overflow, kept)
         }
-        _ => Iteration::End(TaskOutcome::Evaluated(answer, overflow, kept)),
+        _ => Iteration::End(Evaluated {
+            answer,
+            overflow,
+            entries: kept,
+        }),
     }
 }
 
-// What follows the iteration: past the step limit the goal's answer is an overflow. That an
-// iteration met overflow counts for the goal, though the frame forgets it in a rerun.
-fn followed(
-    graph: &mut [u8],
-    goals: usize,
-    height: usize,
-    entries: usize,
-    left: usize,
-    overflow: bool,
-    answer: Answer,
-) -> Iteration
-    requires { StackBytes goals height graph.old × ((1 ≤ height) × (entries ≤ 2 * goals)) }
-    ensures { Followed goals height entries left overflow answer
-        graph.old graph.new result }
-{
-    let f = stack::frame_at(graph, goals, height - 1);
-    let met = scalars::either(overflow, frame::overflow(f, goals));
-    let ending = ending::ending_of(f, goals, left, answer);
-    match ending {
-        Ending::Overflow => {
-            let limit = Ending::Overflow;
-            popped(graph, goals, height, limit, entries, met, Answer::Overflow)
-        }
-        _ => popped(graph, goals, height, ending, entries, met, answer),
-    }
-}
-
-// An iteration of the frame on top of the stack ended; `left` more are allowed.
+// An iteration of the frame on top of the stack ended; `left` more are allowed. Past the step
+// limit the goal's answer is an overflow. That an iteration met overflow counts for the goal,
+// though the frame forgets it in a rerun. A refusal is the goal's.
 pub fn end_iteration(
     o: Outcome,
     graph: &mut [u8],
@@ -93,23 +72,31 @@ pub fn end_iteration(
     height: usize,
     left: usize,
     overflow: bool,
-) -> Iteration
+) -> Result<Iteration, Refusal>
     requires { IterationEnded goals height graph.old o }
     ensures { TurnTaken goals height left overflow o graph.old graph.new result }
 {
-    match o {
-        Outcome::Stopped(r) => Iteration::End(TaskOutcome::TaskStopped(r)),
-        Outcome::Done(answer, entries) => {
-            followed(graph, goals, height, entries, left, overflow, answer)
+    let done = o?;
+    let f = stack::frame_at(graph, goals, height - 1);
+    let met = overflow | frame::overflow(f, goals);
+    let ending = ending::ending_of(f, goals, left, done.answer);
+    let entries = done.entries;
+    // Two calls, as one would be no function of its own in the machine code: it would stand inside
+    // the cycle of calls, where a query took 383,248 bytes of stack in place of 294,848.
+    match ending {
+        Ending::Overflow => {
+            let limit = Ending::Overflow;
+            Ok(popped(graph, goals, height, limit, entries, met, Answer::Overflow))
         }
+        _ => Ok(popped(graph, goals, height, ending, entries, met, done.answer)),
     }
 }
 
 // ---- after the last iteration; the goal's frame stood at index `height`
 
-// The goal was evaluated: the parent is updated and the result kept.
+// The goal was evaluated: the parent is updated and the result kept. A refusal is handed on.
 pub fn finish(
-    ran: Ran,
+    o: TaskOutcome,
     cache: &mut [u8],
     graph: &mut [u8],
     h: Header,
@@ -118,21 +105,14 @@ pub fn finish(
     step: PathKind,
     available: usize,
 ) -> Outcome
-    requires { TaskEnded h height goal graph.old cache.old ran }
-    ensures { Finished h height goal step available ran
+    requires { TaskEnded h height goal graph.old cache.old o }
+    ensures { Finished h height goal step available o
         cache.old cache.new graph.old graph.new result }
 {
-    let o = ran.outcome;
-    match o {
-        TaskOutcome::TaskStopped(r) => Outcome::Stopped(r),
-        TaskOutcome::Evaluated(answer, overflow, entries) => {
-            let goals = h.goals;
-            let required = frame::required_depth(stack::frame_at(graph, goals, height), goals);
-            let reached = scalars::minus(available, required);
-            parent::update_from_frame(graph, goals, height, step, overflow, reached);
-            insert::result(
-                cache, graph, h, height, entries, goal, step, overflow, answer, ran.passes,
-            )
-        }
-    }
+    let ran = o?;
+    let goals = h.goals;
+    let required = frame::required_depth(stack::frame_at(graph, goals, height), goals);
+    let reached = available.saturating_sub(required);
+    parent::update_from_frame(graph, goals, height, step, ran.evaluated.overflow, reached);
+    insert::result(cache, graph, h, height, goal, step, ran)
 }

@@ -6,12 +6,13 @@ use Prim.Native.Nat.{◌-◌, ℕ}
 use lib.Dec.{eqb}
 use lib.ListN.{drop}
 use borrow.Author.Tests.{eq-eqb, ne_eqb}
-use Rattle.definition.proofs.Tests.{not_second}
+use Rattle.std.proofs.lemmas.Bool.{and_right}
 use Rattle.book.specs.Codes.{code_of}
 use Rattle.book.specs.Lines.{field_in}
 use Rattle.tidy.specs.declared.part.Joined.{Joined}
 use Rattle.tidy.specs.Write.{line_with, write_line}
-use Rattle.tidy.specs.Engine.{dropped_if, headed, headed_length, is_group, is_only, is_spliced, joined_if, line_dropped}
+use Rattle.tidy.specs.Engine.{dropped_if, headed, headed_length, is_only, is_spliced, joined_if, line_dropped}
+use Rattle.book.specs.Codes.{is_group}
 
 module _ (code n : ℕ) (out : List ℕ) where
   abbrev pub Joins : Joined → List ℕ → Type 0
@@ -24,7 +25,7 @@ module _ (code n : ℕ) (out : List ℕ) where
   no_group e = stays (rw e)
 
   pub other_code : (k : ℕ) → k ≡ field_in out 0 → (k ≡ code → ⊥) → Joins (record { count = 1; bytes = n }) out
-  other_code k e h = stays (not_second (is_group (code_of code)) (eqb (field_in out 0) code) (ne_eqb (field_in out 0) code (λ f. h (e ∙ f))))
+  other_code k e h = stays (and_right (is_group (code_of code)) (eqb (field_in out 0) code) (ne_eqb (field_in out 0) code (λ f. h (e ∙ f))))
 
   pub same_code : is_group (code_of code) ≡ true → (k : ℕ) → k ≡ field_in out 0 → k ≡ code → (count : ℕ) → count ≡ field_in out 3
       → (after : List ℕ) → after ≡ line_dropped n out → Joins (record { count = count; bytes = n - 16 }) after

@@ -23,7 +23,8 @@ use Rattle.book.proofs.Walk.{has_line}
 use Rattle.tidy.specs.Rules.{is_list}
 use Rattle.tidy.specs.Tidy.{tidy_part}
 use Rattle.tidy.specs.Write.{flag, op_code, part_lines}
-use Rattle.tidy.specs.Engine.{StartsWithin, is_group, is_node}
+use Rattle.tidy.specs.Engine.{StartsWithin}
+use Rattle.book.specs.Codes.{is_group, is_node}
 
 -- ---- the node that a code says
 abbrev pub node_op : Code → Op

@@ -24,7 +24,8 @@ use Rattle.tidy.specs.declared.part.Joined.{Joined}
 use Rattle.tidy.specs.Rules.{append, is_list}
 use Rattle.tidy.specs.Tidy.{join, join_all, joins, node_or, tidy_part, tidy_parts}
 use Rattle.tidy.specs.Write.{call_line, count, line_with, op_code, part_lines, parts_lines, write_line, write_lines, write_part}
-use Rattle.tidy.specs.Engine.{StartsWithin, WroteAs, WrotePart, dropped_if, headed, headed_length, is_node, is_only, is_spliced, joined_if, line_dropped}
+use Rattle.tidy.specs.Engine.{StartsWithin, WroteAs, WrotePart, dropped_if, headed, headed_length, is_only, is_spliced, joined_if, line_dropped}
+use Rattle.book.specs.Codes.{is_node}
 use Rattle.tidy.proofs.Parts.{append_assoc, append_end, is_alone, is_joined, joins_list, joins_same}
 use Rattle.tidy.proofs.Fits.{count_sizes, size, size_some, sizes}
 use Rattle.tidy.proofs.Fields.{length_lines}

@@ -1,14 +1,12 @@
 -- What the engine's functions come to, in bytes.
-use Rattle.std.specs.Prelude.{◌≡◌, Bool, true, false, ◌&&◌, List, ◌∷◌, ◌++◌, ℕ, ◌+◌, ◌-◌, ◌/◌, ◌≤◌, eqb, length, take, drop, set}
+use Rattle.std.specs.Prelude.{◌≡◌, Bool, true, false, ◌&&◌, List, ◌∷◌, ◌++◌, ℕ, ◌-◌, ◌≤◌, eqb, length, take, drop}
 use Rattle.std.proofs.Math.Option.{some}
 use Rattle.definition.specs.declared.format.Line.{Line}
-use Rattle.definition.specs.Line.{last_column, leading_column}
+use Rattle.definition.specs.Line.{columns}
 use Rattle.book.specs.Read.{IsAccepted, book_in}
 use Rattle.definition.specs.Reader.{TakenPart, read_goal, read_part}
 use Rattle.buffer.specs.Regions.{overwrite, region}
-use Rattle.book.specs.declared.code.Code.{Code}
-use Rattle.book.specs.declared.code.Code.TheVariants as codes
-use Rattle.book.specs.Codes.{code_of}
+use Rattle.book.specs.Codes.{code_of, is_group}
 use Rattle.book.specs.Lines.{field_in, lines_in}
 use Rattle.tidy.specs.declared.part.Sizes.{Sizes}
 use Rattle.tidy.specs.declared.part.Joined.{Joined}
@@ -16,26 +14,9 @@ use Rattle.tidy.specs.Tidy.{tidy_part}
 use Rattle.tidy.specs.Write.{line_with, part_lines, write_line, write_lines}
 use Rattle.tidy.specs.Reply.{padded, tidy_bytes}
 
--- ---- what a line's code says
-abbrev pub is_group : Code → Bool
-is_group codes.Goal = false
-is_group codes.Call = false
-is_group (codes.Group op) = true
-is_group codes.Pick = false
-is_group codes.Undecided = false
-is_group codes.Unknown = false
-
-abbrev pub is_node : Code → Bool
-is_node codes.Goal = false
-is_node codes.Call = false
-is_node (codes.Group op) = true
-is_node codes.Pick = true
-is_node codes.Undecided = false
-is_node codes.Unknown = false
-
 -- ---- a number, in the three columns from place i on
 abbrev pub put_columns : List ℕ → ℕ → ℕ → List ℕ
-put_columns s i n = set (set (set s i (leading_column (n / 100))) (i + 1) (leading_column (n / 10))) (i + 2) (last_column n)
+put_columns s i n = overwrite s i (columns n)
 
 -- ---- the first line of n bytes goes
 abbrev pub line_dropped : ℕ → List ℕ → List ℕ

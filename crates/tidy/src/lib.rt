@@ -6,52 +6,50 @@ mod line;
 mod part;
 
 ghost use Rattle.std.specs.Prelude.{◌≡◌, ◌≤◌, ◌<◌, length};
-ghost use Rattle.tidy.specs.Reply.{length_used, refusal_of, replied, response_code, tidy};
+ghost use Rattle.tidy.specs.Reply.{untidied_number, replied, response_code, tidy};
 ghost use Rattle.tidy.specs.Promises.{Promises};
+ghost use Rattle.tidy.specs.declared.Untidied.TheVariants.{Unread};
 ghost use Rattle.tidy.specs.Engine.{StartsGoal, WroteGoal, IsRead, WroteBook};
 
 use crate::part::Sizes;
-use book::BookRead;
 use definition::replies::Refusal;
 
-#[derive(Clone, Copy)]
-pub enum Response {
-    // The length used.
-    Written(u16),
+// Why a book is not tidied.
+#[derive(Debug, Clone, Copy, PartialEq, Eq)]
+pub enum Untidied {
     // One of the refusals 1 to 4.
     Unread(Refusal),
     // Refusal 14: the output is not as long as the book.
     OutputLength,
 }
 
-impl Response {
-    // The length used, 0 for a refusal.
-    fn length(self) -> u16
-        ensures { result ≡ length_used self }
+impl From<Refusal> for Untidied {
+    ghost from_gives = { λ refusal why. why ≡ Unread refusal };
+
+    fn from(refusal: Refusal) -> Untidied {
+        Untidied::Unread(refusal)
+    }
+}
+
+impl Untidied {
+    // The refusal's number.
+    pub fn number(self) -> u16
+        ensures { result ≡ untidied_number self }
     {
         match self {
-            Response::Written(n) => n,
-            Response::Unread(_) => 0,
-            Response::OutputLength => 0,
+            Untidied::Unread(r) => u32::from(r) as u16,
+            Untidied::OutputLength => 14,
         }
     }
+}
 
-    // The refusal's number, 0 for none.
-    pub fn refusal(self) -> u16
-        ensures { result ≡ refusal_of self }
-    {
-        match self {
-            Response::Written(_) => 0,
-            Response::Unread(r) => r.number() as u16,
-            Response::OutputLength => 14,
-        }
-    }
-
-    // Length used + 65536 * refusal.
-    pub fn code(self) -> u32
-        ensures { result ≡ response_code self }
-    {
-        (self.length() as u32) + 65536 * (self.refusal() as u32)
+// Length used + 65536 * refusal, as C has it: one of them is 0.
+pub fn code(response: Result<u16, Untidied>) -> u32
+    ensures { result ≡ response_code response }
+{
+    match response {
+        Ok(length) => u32::from(length),
+        Err(why) => 65536 * u32::from(why.number()),
     }
 }
 
@@ -75,40 +73,35 @@ fn write_book(book: &[u8], out: &mut [u8], goals: usize) -> usize
     line::write(out, book::line::first(book));
     let mut read: usize = 16;
     let mut wrote: usize = 16;
-    let mut g: usize = 0;
-    while g < goals {
+    for g in 0..goals {
         let s = write_goal(&book[read..], &mut out[wrote..], g as u16);
-        read = read + s.read;
-        wrote = wrote + s.wrote;
-        g = g + 1;
+        read += s.read;
+        wrote += s.wrote;
     }
     buffer::fill_zero(&mut out[wrote..]);
     wrote
 }
 
 // Writes a book that was read, where the output is as long as it.
-fn write_into(book: &[u8], out: &mut [u8], goals: usize) -> Response
+fn write_into(book: &[u8], out: &mut [u8], goals: usize) -> Result<u16, Untidied>
     requires { IsRead book.now goals }
     ensures { replied result out.new ≡ tidy book.now out.old }
 {
     if out.len() != book.len() {
-        return Response::OutputLength;
+        return Err(Untidied::OutputLength);
     }
     let n = write_book(book, out, goals);
     let length = n as u16;
-    Response::Written(length)
+    Ok(length)
 }
 
 // Writes the book's plain form to the output, and zeros behind it; a refusal leaves the
 // output as it was.
-pub fn tidy(book: &[u8], out: &mut [u8]) -> Response
+pub fn tidy(book: &[u8], out: &mut [u8]) -> Result<u16, Untidied>
     ensures out_after { replied result out.new ≡ tidy book.now out.old }
     ensures promises { Promises book.now out.old (replied result out.new) }
 {
     let mut starts = [0u16; 64];
-    let read = book::read(book, &mut starts);
-    match read {
-        BookRead::Rejected(r) => Response::Unread(r),
-        BookRead::Accepted(h) => write_into(book, out, h.goals),
-    }
+    let h = book::read(book, &mut starts)?;
+    write_into(book, out, h.goals)
 }

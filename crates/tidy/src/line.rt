@@ -11,9 +11,7 @@ fn put(s: &mut [u8], i: usize, n: u16)
     requires { i + 3 ≤ length s.old }
     ensures { s.new ≡ put_columns s.old i n }
 {
-    s[i] = columns::leading(n / 100);
-    s[i + 1] = columns::leading(n / 10);
-    s[i + 2] = columns::last(n);
+    s[i..i + 3].copy_from_slice(&columns::of_number(n));
 }
 
 fn fill(s: &mut [u8], l: Line)
@@ -25,7 +23,7 @@ fn fill(s: &mut [u8], l: Line)
     put(s, 6, l.second);
     put(s, 9, l.third);
     put(s, 12, l.fourth);
-    s[15] = 10;
+    s[15] = b'\n';
 }
 
 // Writes a line to the first 16 bytes.

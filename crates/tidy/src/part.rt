@@ -1,52 +1,23 @@
 // A part in its plain form. The parts of a node are written one by one, each spliced in
 // as soon as it stands there; the node's own line is written when its parts are known.
 ghost use Rattle.std.specs.Prelude.{◌≡◌, ◌≤◌, ◌<◌, length};
-ghost use Rattle.book.specs.Codes.{code_of};
-ghost use Rattle.tidy.specs.Engine.{is_group, is_node, line_dropped, is_spliced, joined_if, dropped_if, is_only, headed_length, headed, StartsWithin, WrotePart};
+ghost use Rattle.tidy.specs.Engine.{line_dropped, is_spliced, joined_if, dropped_if, is_only, headed_length, headed, StartsWithin, WrotePart};
 
 use crate::line;
 use book::code::Code;
 
 // How many bytes what was read takes in the book, and what was written in the output.
-#[derive(Clone, Copy)]
+#[derive(Debug, Clone, Copy, PartialEq, Eq)]
 pub struct Sizes {
     pub read: usize,
     pub wrote: usize,
 }
 
 // Parts that stand in the output: how many, and their bytes.
-#[derive(Clone, Copy)]
+#[derive(Debug, Clone, Copy, PartialEq, Eq)]
 pub struct Joined {
     pub count: u16,
     pub bytes: usize,
-}
-
-// Whether a line's code says all or any.
-fn is_group(code: u16) -> bool
-    ensures { result ≡ is_group (code_of code) }
-{
-    match Code::of_number(code) {
-        Code::Goal => false,
-        Code::Call => false,
-        Code::Group(_) => true,
-        Code::Pick => false,
-        Code::Undecided => false,
-        Code::Unknown => false,
-    }
-}
-
-// Whether a line's code says all, any or pick.
-fn is_node(code: u16) -> bool
-    ensures { result ≡ is_node (code_of code) }
-{
-    match Code::of_number(code) {
-        Code::Goal => false,
-        Code::Call => false,
-        Code::Group(_) => true,
-        Code::Pick => true,
-        Code::Undecided => false,
-        Code::Unknown => false,
-    }
 }
 
 // Takes the first line of n bytes away: the others move up.
@@ -64,7 +35,7 @@ fn join(out: &mut [u8], n: usize, code: u16) -> Joined
     ensures { (result ≡ joined_if (is_spliced code out.old) n out.old)
         × (out.new ≡ dropped_if (is_spliced code out.old) n out.old) }
 {
-    if !is_group(code) {
+    if !Code::from(code).is_group() {
         return Joined { count: 1, bytes: n };
     }
     if book::line::field_at(out, 0) != code {
@@ -80,10 +51,7 @@ fn join(out: &mut [u8], n: usize, code: u16) -> Joined
 fn is_only(code: u16, count: u16) -> bool
     ensures { result ≡ is_only code count }
 {
-    if !is_group(code) {
-        return false;
-    }
-    count == 1
+    Code::from(code).is_group() && count == 1
 }
 
 // Writes a node's line before its parts, with which it takes n bytes. An all or any of
@@ -108,8 +76,9 @@ pub fn write(part: &[u8], out: &mut [u8], nest: u8) -> Sizes
     ensures { WrotePart nest part.now out.old out.new result }
 {
     let l = book::line::first(part);
+    // stays a number: the node's own line is written with it, and others' lines are compared with it
     let code = l.code;
-    if !is_node(code) {
+    if !Code::from(code).is_node() {
         line::write(out, l);
         return Sizes {
             read: 16,
@@ -119,14 +88,12 @@ pub fn write(part: &[u8], out: &mut [u8], nest: u8) -> Sizes
     let mut read: usize = 16;
     let mut wrote: usize = 16;
     let mut count: u16 = 0;
-    let mut left = l.first;
-    while 0 < left {
+    for _ in 0..l.first {
         let s = write(&part[read..], &mut out[wrote..], nest - 1);
         let j = join(&mut out[wrote..], s.wrote, code);
-        read = read + s.read;
-        wrote = wrote + j.bytes;
-        count = count + j.count;
-        left = left - 1;
+        read += s.read;
+        wrote += j.bytes;
+        count += j.count;
     }
     let n = head(out, wrote, code, count);
     Sizes { read, wrote: n }

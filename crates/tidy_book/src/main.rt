@@ -3,22 +3,18 @@
 #![tactic(auto)]
 
 use std::io;
-use tidy::Response;
+use tidy::Untidied;
 
-fn print_refusal(rt: &impl Print, r: Response) -> io::Result<()> {
-    let columns = book::columns::of_number(r.refusal());
+fn print_refusal(rt: &impl Print, why: Untidied) -> io::Result<()> {
+    let columns = book::columns::of_number(why.number());
     rt.write_all(&columns)?;
     rt.write_all(b"\n")
 }
 
 fn print_tidy(rt: &impl Print, book: &[u8], out: &mut [u8]) -> io::Result<()> {
-    let r = tidy::tidy(book, out);
-    match r {
-        Response::Written(length) => {
-            let n = length as usize;
-            rt.write_all(&out[..n])
-        }
-        _ => print_refusal(rt, r),
+    match tidy::tidy(book, out) {
+        Ok(length) => rt.write_all(&out[..usize::from(length)]),
+        Err(why) => print_refusal(rt, why),
     }
 }
 

@@ -9,8 +9,8 @@ loop-init g c =
         book = l.book;
         accepted = l.accepted;
         few = l.few;
-        cache_length_lem = c.fill_zero.auto.s ∙ l.cache_length_lem;
+        cache_length_lem = c.fill.auto.self ∙ l.cache_length_lem;
         work_length_lem = l.work_length_lem;
       };
-      carried = record { n = length c.args.cache.now; earlier = []; left = sym c.fill_zero.ensures };
+      carried = record { n = length c.args.cache.now; earlier = []; left = sym (c.fill.ensures.after (λ y e. e)) };
     }

@@ -1,12 +1,8 @@
-use lib.Pow.{pow_pos}
-use Rattle.bits.proofs.Flags.{flags_below, below_past, one_shifted}
+use Rattle.bits.proofs.Flags.{flags_below, below_past}
 use Rattle.bits.proofs.below.Goals as goal
 
 pub returns-then-i-ge64 : goal.returns-then-i-ge64
 returns-then-i-ge64 c = below_past 64 c.args.i c.args.m c.if-i-ge64.true
-
-pub overflow_sub-result : goal.overflow_sub-result
-overflow_sub-result c = rw (one_shifted 64 c.args.i c.if-i-ge64.false) (pow_pos c.args.i)
 
 pub returns : goal.returns
 returns c = flags_below 64 c.args.i c.args.m c.if-i-ge64.false

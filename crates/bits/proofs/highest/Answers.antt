@@ -1,6 +1,6 @@
 use native.Mathlib.Omega.{arith}
 use lib.Dec.{lit<}
-use Rattle.bits.proofs.Places.{leading}
+use Rattle.bits.proofs.Ends.{leading}
 use Rattle.bits.proofs.highest.Goals as goal
 
 pub overflow_sub-result : goal.overflow_sub-result

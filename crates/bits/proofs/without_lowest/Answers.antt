@@ -1,4 +1,4 @@
-use Rattle.bits.proofs.Places.{flags_clear, clear_less}
+use Rattle.bits.proofs.Ends.{flags_clear, clear_less}
 use Rattle.bits.proofs.without_lowest.Goals as goal
 
 pub returns : goal.returns

@@ -5,19 +5,19 @@ use lib.ListN.{length, length-set}
 use Rattle.book.proofs.Sizes.{further}
 use Rattle.book.proofs.Bodies.{body_starts, body_bad, line_room, body_good, body_ends}
 use Rattle.book.proofs.read_body.Goals as goal
-use Rattle.book.proofs.read_body.Goals.{Else-n-eq0}
+use Rattle.book.proofs.read_body.Goals.{In-Some}
 
 -- the goal's line and its part lie within the book, and its place in `starts` too
-room : (c : Else-n-eq0) → c.loop-g.at + 16 ≤ length c.args.book.now
+room : (c : In-Some) → c.loop-g.at + 16 ≤ length c.args.book.now
 room c =
     let a = c.args in
     let l = c.loop-g in
-    line_room a.goals a.book.now l.starts l.at l.g l.invariant.0 c.loop-g-test.true c.goal_size-n.result c.goal_size-n.ensures.0 c.if-n-eq0.false c.goal_size-n.ensures.1
+    line_room a.goals a.book.now l.starts l.at l.g l.invariant.0 c.loop-g-test.true c.goal_size.result c.goal_size.ensures.0 c.in-Some.n c.in-Some.is c.in-Some.ensures.1
 
-beyond : (c : Else-n-eq0) → c.loop-g.at + c.goal_size-n.result ≤ length c.args.book.now
-beyond c = further c.loop-g.at c.args.book.now c.goal_size-n.result c.loop-g.invariant.0.within c.goal_size-n.ensures.1
+beyond : (c : In-Some) → c.loop-g.at + c.in-Some.n ≤ length c.args.book.now
+beyond c = further c.loop-g.at c.args.book.now c.in-Some.n c.loop-g.invariant.0.within c.in-Some.ensures.1
 
-slot : (c : Else-n-eq0) → c.loop-g.g < length c.loop-g.starts
+slot : (c : In-Some) → c.loop-g.g < length c.loop-g.starts
 slot c = omega (arith, c.loop-g.invariant.1, c.requires.1.1, c.loop-g-test.true)
 
 pub loop-g-init : goal.loop-g-init
@@ -29,13 +29,10 @@ slice_bounds-goal_size-count c = c.loop-g.invariant.0.within
 pub slice_bounds-goal_size-start : goal.slice_bounds-goal_size-start
 slice_bounds-goal_size-start c = c.loop-g.invariant.0.within
 
-pub shape_of-starts-then-n-eq0 : goal.shape_of-starts-then-n-eq0
-shape_of-starts-then-n-eq0 c = c.loop-g.invariant.1
-
-pub returns-then-n-eq0 : goal.returns-then-n-eq0
-returns-then-n-eq0 c = let a = c.args in
+pub returns-in_default : goal.returns-in_default
+returns-in_default c = let a = c.args in
     let l = c.loop-g in
-    body_bad a.goals a.book.now l.starts l.at l.g l.invariant.0 c.loop-g-test.true c.goal_size-n.result c.goal_size-n.ensures.0 l.starts c.if-n-eq0.true
+    body_bad a.goals a.book.now l.starts l.at l.g l.invariant.0 c.loop-g-test.true c.goal_size.result c.goal_size.ensures.0 l.starts c.in_default.is
 
 pub overflow_add-starts : goal.overflow_add-starts
 overflow_add-starts c = omega (arith, room c, c.requires.1.0)
@@ -52,16 +49,10 @@ bounds-starts-g c = slot c
 pub overflow_add-at : goal.overflow_add-at
 overflow_add-at c = omega (arith, beyond c, c.requires.1.0)
 
-pub overflow_add-g : goal.overflow_add-g
-overflow_add-g c = omega arith
-
-pub loop-g-smaller : goal.loop-g-smaller
-loop-g-smaller c = omega arith
-
 pub loop-g-preserved : goal.loop-g-preserved
 loop-g-preserved c = let a = c.args in
     let l = c.loop-g in
-    (body_good a.goals a.book.now l.starts l.at l.g l.invariant.0 c.loop-g-test.true c.goal_size-n.result c.goal_size-n.ensures.0 c.if-n-eq0.false c.goal_size-n.ensures.1 (slot c), length-set l.starts l.g _ ∙ l.invariant.1)
+    (body_good a.goals a.book.now l.starts l.at l.g l.invariant.0 c.loop-g-test.true c.goal_size.result c.goal_size.ensures.0 c.in-Some.n c.in-Some.is c.in-Some.ensures.1 (slot c), length-set l.starts l.g _ ∙ l.invariant.1)
 
 pub overflow_sub-result : goal.overflow_sub-result
 overflow_sub-result c = c.loop-g.invariant.0.within

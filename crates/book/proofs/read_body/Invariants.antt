@@ -1,11 +1,7 @@
 use mathlib.Core.Path.{◌≡◌}
-use Prim.Native.Nat.{◌-◌}
 use lib.ListN.{length}
 use Rattle.book.proofs.Bodies.{Body}
 use Rattle.book.proofs.read_body.Given as goal
 
 abbrev pub invariant-loop-g : goal.invariant-loop-g
 invariant-loop-g l = Body l.goals l.book l.starts l.at l.g × (length l.starts ≡ length l.initial.starts)
-
-abbrev pub decreases-loop-g : goal.decreases-loop-g
-decreases-loop-g l = l.goals - l.g

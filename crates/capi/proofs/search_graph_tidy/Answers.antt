@@ -1,15 +1,5 @@
 use Rattle.capi.proofs.Tidying.{promised, tidied}
-use borrow.Author.Rules.{rules}
 use Rattle.capi.proofs.search_graph_tidy.Goals as goal
-
-pub tidy-requires : goal.tidy-requires
-tidy-requires c = search rules
-
-pub code-requires : goal.code-requires
-code-requires c = search rules
-
-pub shape_of-out : goal.shape_of-out
-shape_of-out c = search rules
 
 pub returns : goal.returns
 returns c =

@@ -10,18 +10,18 @@ lookup_at_depth-requires c =
         graph = c.requires.asked.graph;
         cache = c.requires.asked.cache;
         goal = c.requires.asked.goal;
-        available = c.allowed_depth_for_nested-depth.ensures.small c.in-Allowed.available c.in-Allowed.is;
+        available = c.allowed_depth_for_nested-depth.ensures.small c.in-Some.available c.in-Some.is;
       };
       placed = c.requires.placed;
     }
 
-pub returns-in-Allowed : goal.returns-in-Allowed
-returns-in-Allowed c =
+pub returns-in-Some : goal.returns-in-Some
+returns-in-Some c =
     record {
       is =
           λ compute. depth_allowed c.args.h c.args.root c.args.height c.args.entries c.args.goal c.args.step c.args.lower c.args.graph.now
-          c.args.cache.now c.allowed_depth_for_nested-depth.result (c.allowed_depth_for_nested-depth.ensures.is c.args.h refl) compute c.in-Allowed.available
-          c.in-Allowed.is
+          c.args.cache.now c.allowed_depth_for_nested-depth.result (c.allowed_depth_for_nested-depth.ensures.is c.args.h refl) compute c.in-Some.available
+          c.in-Some.is
           ∙ c.lookup_at_depth.ensures.is c.args.root compute;
       low = c.lookup_at_depth.ensures.low;
       missed = c.lookup_at_depth.ensures.missed;

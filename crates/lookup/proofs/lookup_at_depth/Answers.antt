@@ -9,16 +9,16 @@ use Rattle.lookup.specs.Lookups.{Counted}
 use Rattle.lookup.proofs.Hits.{known_pushes, push_small, at_entry, at_slot, at_cycle, at_push, cycle_off}
 use Rattle.lookup.proofs.lookup_at_depth.Goals as goal
 
-pub returns-in-Result : goal.returns-in-Result
-returns-in-Result c =
+pub returns-in-Some : goal.returns-in-Some
+returns-in-Some c =
     record {
       is =
           λ root compute. at_entry c.args.h c.args.height c.args.entries c.args.goal c.args.step c.args.available c.args.cache.now root compute
           c.args.graph.now c.lookup_provisional_cache-provisional.new.graph c.lookup_provisional_cache-provisional.result
-          (c.lookup_provisional_cache-provisional.ensures.is root c.args.cache.now) c.in-Result.answer c.in-Result.is;
-      low = λ d e. known_pushes c.in-Result.answer d e;
-      missed = λ d e. known_pushes c.in-Result.answer d e;
-      off = λ d e. known_pushes c.in-Result.answer d e;
+          (c.lookup_provisional_cache-provisional.ensures.is root c.args.cache.now) c.in-Some.answer c.in-Some.is;
+      low = λ d e. known_pushes c.in-Some.answer d e;
+      missed = λ d e. known_pushes c.in-Some.answer d e;
+      off = λ d e. known_pushes c.in-Some.answer d e;
     }
 
 pub lookup_global_cache-global-requires : goal.lookup_global_cache-global-requires
@@ -30,18 +30,18 @@ lookup_global_cache-global-requires c =
       available = c.requires.asked_at.available;
     }
 
-pub returns-in-Result-global : goal.returns-in-Result-global
-returns-in-Result-global c =
+pub returns-in-Some-global : goal.returns-in-Some-global
+returns-in-Some-global c =
     record {
       is =
           λ root compute. at_slot c.args.h c.args.height c.args.entries c.args.goal c.args.step c.args.available c.args.cache.now root compute
           c.args.graph.now c.lookup_provisional_cache-provisional.new.graph c.lookup_provisional_cache-provisional.result
           (c.lookup_provisional_cache-provisional.ensures.is root c.args.cache.now) c.in_default.is
           (c.lookup_provisional_cache-provisional.ensures.missed c.in_default.is) c.lookup_global_cache-global.new.graph
-          c.lookup_global_cache-global.result (c.lookup_global_cache-global.ensures.is root) c.in-Result-global.answer c.in-Result-global.is;
-      low = λ d e. known_pushes c.in-Result-global.answer d e;
-      missed = λ d e. known_pushes c.in-Result-global.answer d e;
-      off = λ d e. known_pushes c.in-Result-global.answer d e;
+          c.lookup_global_cache-global.result (c.lookup_global_cache-global.ensures.is root) c.in-Some-global.answer c.in-Some-global.is;
+      low = λ d e. known_pushes c.in-Some-global.answer d e;
+      missed = λ d e. known_pushes c.in-Some-global.answer d e;
+      off = λ d e. known_pushes c.in-Some-global.answer d e;
     }
 
 pub check_cycle_on_stack-cycle-requires : goal.check_cycle_on_stack-cycle-requires
@@ -53,8 +53,8 @@ check_cycle_on_stack-cycle-requires c =
       placed = subst (λ (bs : List ℕ). Placed (stack_of c.args.h.goals c.args.height bs) c.args.places.now) same c.requires.placed;
     }
 
-pub returns-in-Result-cycle : goal.returns-in-Result-cycle
-returns-in-Result-cycle c =
+pub returns-in-Some-cycle : goal.returns-in-Some-cycle
+returns-in-Some-cycle c =
     record {
       is =
           λ root compute. at_cycle c.args.h c.args.height c.args.entries c.args.goal c.args.step c.args.available c.args.cache.now root compute
@@ -63,10 +63,10 @@ returns-in-Result-cycle c =
           (c.lookup_provisional_cache-provisional.ensures.missed c.in_default.is) c.lookup_global_cache-global.new.graph
           c.lookup_global_cache-global.result (c.lookup_global_cache-global.ensures.is root) c.in_default-global.is
           (c.lookup_global_cache-global.ensures.missed c.in_default-global.is) c.check_cycle_on_stack-cycle.new.graph c.check_cycle_on_stack-cycle.result
-          (c.check_cycle_on_stack-cycle.ensures.is root c.args.entries c.args.cache.now) c.in-Result-cycle.answer c.in-Result-cycle.is;
-      low = λ d e. known_pushes c.in-Result-cycle.answer d e;
-      missed = λ d e. known_pushes c.in-Result-cycle.answer d e;
-      off = λ d e. known_pushes c.in-Result-cycle.answer d e;
+          (c.check_cycle_on_stack-cycle.ensures.is root c.args.entries c.args.cache.now) c.in-Some-cycle.answer c.in-Some-cycle.is;
+      low = λ d e. known_pushes c.in-Some-cycle.answer d e;
+      missed = λ d e. known_pushes c.in-Some-cycle.answer d e;
+      off = λ d e. known_pushes c.in-Some-cycle.answer d e;
     }
 
 pub returns : goal.returns

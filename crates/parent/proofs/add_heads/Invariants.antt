@@ -10,8 +10,5 @@ use Rattle.stack.specs.Bytes.{frame_at}
 use Rattle.stack.specs.Written.{TopWritten}
 use Rattle.parent.proofs.add_heads.Given as goal
 
-abbrev pub invariant-loop-left : goal.invariant-loop-left
-invariant-loop-left l = (length l.graph ≡ length l.initial.graph) × (l.left < 2 ^ 64) × (Within l.left (heads_of l.goals (region l.start (heads_size l.goals) l.initial.graph))) × (TopWritten l.goals l.own (frame_at l.goals l.own l.graph) l.initial.graph l.graph) × (add_heads l.step l.own (keep (flags 64 l.left) (heads_of l.goals (region l.start (heads_size l.goals) l.initial.graph))) (frame_at l.goals l.own l.graph) ≡ add_heads l.step l.own (heads_of l.goals (region l.start (heads_size l.goals) l.initial.graph)) (frame_at l.goals l.own l.initial.graph))
-
-abbrev pub decreases-loop-left : goal.decreases-loop-left
-decreases-loop-left l = l.left
+abbrev pub invariant-loop-i : goal.invariant-loop-i
+invariant-loop-i l = (length l.graph ≡ length l.initial.graph) × (l.i-iterator.mask < 2 ^ 64) × (Within l.i-iterator.mask (heads_of l.goals (region l.start (heads_size l.goals) l.initial.graph))) × (TopWritten l.goals l.own (frame_at l.goals l.own l.graph) l.initial.graph l.graph) × (add_heads l.step l.own (keep (flags 64 l.i-iterator.mask) (heads_of l.goals (region l.start (heads_size l.goals) l.initial.graph))) (frame_at l.goals l.own l.graph) ≡ add_heads l.step l.own (heads_of l.goals (region l.start (heads_size l.goals) l.initial.graph)) (frame_at l.goals l.own l.initial.graph))

@@ -1,4 +1,4 @@
-use mathlib.Core.Path.{refl, sym, ◌∙◌}
+use mathlib.Core.Path.{sym, ◌∙◌}
 use Prim.Native.Nat.{◌<◌, ◌*◌}
 use native.Mathlib.Omega.{arith}
 use mathlib.Core.Bool.{Bool}
@@ -7,12 +7,6 @@ use Rattle.layout.specs.Work.{stack_of, entries_of}
 use Rattle.provisional_cache.proofs.Entries.{entry_at_bytes}
 use Rattle.provisional_cache.proofs.Loops.{read_at, any_here, any_next, any_none}
 use Rattle.provisional_cache.proofs.any_applies.Goals as goal
-
-pub loop-i-init : goal.loop-i-init
-loop-i-init c = (omega arith, refl)
-
-pub entry_at-entry-requires : goal.entry_at-entry-requires
-entry_at-entry-requires c = let s = c in (s.requires.0.bytes, omega arith)
 
 pub applies-requires : goal.applies-requires
 applies-requires c =
@@ -33,7 +27,7 @@ returns-then-applies c =
     any_here s.args.goals s.args.graph.now s.args.entries l.i
     (stack_of s.args.goals s.args.height s.args.graph.now) s.args.step s.args.nested.now
     (any_entry_applies (stack_of s.args.goals s.args.height s.args.graph.now) s.args.step s.args.nested.now
-    (entries_of s.args.goals s.args.entries s.args.graph.now)) l.invariant.1 loop-test.true
+    (entries_of s.args.goals s.args.entries s.args.graph.now)) l.invariant loop-test.true
     (sym
     (c.applies.ensures
     ∙ read_at {A = Bool}
@@ -41,30 +35,22 @@ returns-then-applies c =
     s.args.goals s.args.graph.now l.i entry_at.result.now entry_at.ensures)
     ∙ c.if-applies.true)
 
-pub overflow_add-i : goal.overflow_add-i
-overflow_add-i c = omega arith
-
-pub loop-i-smaller : goal.loop-i-smaller
-loop-i-smaller c = omega arith
-
 pub loop-i-preserved : goal.loop-i-preserved
 loop-i-preserved c =
     let s = c in
     let l = c.loop-i in
     let loop-test = c.loop-i-test in
-    let entry_at = c.entry_at-entry in (
-      omega arith,
-      any_next s.args.goals s.args.graph.now s.args.entries l.i
-          (stack_of s.args.goals s.args.height s.args.graph.now) s.args.step s.args.nested.now
-          (any_entry_applies (stack_of s.args.goals s.args.height s.args.graph.now) s.args.step s.args.nested.now
-          (entries_of s.args.goals s.args.entries s.args.graph.now)) l.invariant.1 loop-test.true
-          (sym
-          (c.applies.ensures
-          ∙ read_at {A = Bool}
-          (entry_applies (stack_of s.args.goals s.args.height s.args.graph.now) s.args.step s.args.nested.now)
-          s.args.goals s.args.graph.now l.i entry_at.result.now entry_at.ensures)
-          ∙ c.if-applies.false),
-    )
+    let entry_at = c.entry_at-entry in
+    any_next s.args.goals s.args.graph.now s.args.entries l.i
+    (stack_of s.args.goals s.args.height s.args.graph.now) s.args.step s.args.nested.now
+    (any_entry_applies (stack_of s.args.goals s.args.height s.args.graph.now) s.args.step s.args.nested.now
+    (entries_of s.args.goals s.args.entries s.args.graph.now)) l.invariant loop-test.true
+    (sym
+    (c.applies.ensures
+    ∙ read_at {A = Bool}
+    (entry_applies (stack_of s.args.goals s.args.height s.args.graph.now) s.args.step s.args.nested.now)
+    s.args.goals s.args.graph.now l.i entry_at.result.now entry_at.ensures)
+    ∙ c.if-applies.false)
 
 pub returns : goal.returns
 returns c =
@@ -73,4 +59,4 @@ returns c =
     any_none s.args.goals s.args.graph.now s.args.entries l.i
     (stack_of s.args.goals s.args.height s.args.graph.now) s.args.step s.args.nested.now
     (any_entry_applies (stack_of s.args.goals s.args.height s.args.graph.now) s.args.step s.args.nested.now
-    (entries_of s.args.goals s.args.entries s.args.graph.now)) l.invariant.1 c.loop-i-test.false
+    (entries_of s.args.goals s.args.entries s.args.graph.now)) l.invariant c.loop-i-test.false

@@ -1,10 +1,6 @@
 use native.Mathlib.Omega.{arith}
 use Rattle.provisional_cache.proofs.Inserts.{insert_full, insert_kept}
-use borrow.Author.Rules.{rules}
 use Rattle.provisional_cache.proofs.insert.Goals as goal
-
-pub overflow_mul-goals : goal.overflow_mul-goals
-overflow_mul-goals c = search rules
 
 pub returns-then-goals-entries : goal.returns-then-goals-entries
 returns-then-goals-entries c =
@@ -12,14 +8,8 @@ returns-then-goals-entries c =
     insert_full s.args.goals s.args.height s.args.entries s.args.goal s.args.step s.args.overflow
     s.args.answer s.args.graph.now c.if-goals-entries.true
 
-pub path_from_head-path-requires : goal.path_from_head-path-requires
-path_from_head-path-requires c = search rules
-
 pub write_entry-requires : goal.write_entry-requires
 write_entry-requires c = let s = c in (s.requires.0.bytes, (s.requires.1.0, (omega arith, s.requires.1.1)))
-
-pub shape_of-graph : goal.shape_of-graph
-shape_of-graph c = search rules
 
 pub returns : goal.returns
 returns c =

@@ -9,9 +9,6 @@ use Rattle.provisional_cache.proofs.none_or_above.Goals as goal
 pub returns-then-height-eq0 : goal.returns-then-height-eq0
 returns-then-height-eq0 c = let s = c in above_root s.args.goals s.args.height s.args.head s.args.graph.now c.if-height-eq0.true
 
-pub frame_at-requires : goal.frame_at-requires
-frame_at-requires c = let s = c in (s.requires.0, omega arith)
-
 pub heads-hs-requires : goal.heads-hs-requires
 heads-hs-requires c =
     let s = c in

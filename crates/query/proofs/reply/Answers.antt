@@ -1,11 +1,13 @@
 use Rattle.query.proofs.Evaluations.{answered, stopped}
 use Rattle.query.proofs.reply.Goals as goal
 
-pub returns-in-Done : goal.returns-in-Done
-returns-in-Done c =
-    λ goals root bs. answered goals root bs c.args.cache.now c.args.work.now c.args.o c.fill_zero.new.s c.fill_zero.ensures c.in-Done.answer c.in-Done.field-1 c.in-Done.is
-
-pub returns-in-Stopped : goal.returns-in-Stopped
-returns-in-Stopped c =
+pub returns-in-Ok : goal.returns-in-Ok
+returns-in-Ok c =
     λ goals root bs.
-    stopped goals root bs c.args.cache.now c.args.work.now c.args.o c.fill_zero.new.s c.fill_zero.ensures c.in-Stopped.r c.in-Stopped.is c.fill_zero-in-Stopped.new.s c.fill_zero-in-Stopped.ensures
+    answered goals root bs c.args.cache.now c.args.work.now c.args.o c.fill_zero.new.s c.fill_zero.ensures c.in-Ok.done
+    c.in-Ok.is
+
+pub returns-in-Err : goal.returns-in-Err
+returns-in-Err c =
+    λ goals root bs.
+    stopped goals root bs c.args.cache.now c.args.work.now c.args.o c.fill_zero.new.s c.fill_zero.ensures c.in-Err.r c.in-Err.is c.fill_zero-in-Err.new.s c.fill_zero-in-Err.ensures

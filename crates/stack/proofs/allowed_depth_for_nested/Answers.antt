@@ -5,17 +5,10 @@ use Rattle.layout.specs.Work.{stack_of}
 use Rattle.stack.proofs.Values.{allowed_small}
 use Rattle.stack.proofs.Loops.{depth_root, depth_top}
 use Rattle.stack.proofs.Graph.{frame_bytes_lem}
-use borrow.Author.Rules.{rules}
 use Rattle.stack.proofs.allowed_depth_for_nested.Goals as goal
 
 pub returns-then-height-eq0 : goal.returns-then-height-eq0
 returns-then-height-eq0 c = let s = c in record { is = λ h e. depth_root h s.args.goals s.args.root s.args.height s.args.graph.now s.args.lower c.if-height-eq0.true; small = λ d e. allowed_small s.args.root d s.requires.1.1.1 e }
-
-pub overflow_sub-height : goal.overflow_sub-height
-overflow_sub-height c = search rules
-
-pub frame_at-f-requires : goal.frame_at-f-requires
-frame_at-f-requires c = search rules
 
 pub nested_depth-requires : goal.nested_depth-requires
 nested_depth-requires c = let s = c in (frame_bytes_lem s.args.goals s.args.graph.now c.frame_at-f.result.now (s.args.height - 1) s.requires.0 (omega arith) c.frame_at-f.ensures, s.requires.1.1.0)

@@ -10,12 +10,6 @@ use Rattle.stack.proofs.steps_of.Goals as goal
 pub returns-then-height-eq0 : goal.returns-then-height-eq0
 returns-then-height-eq0 c = let s = c in no_steps s.args.goals s.args.height s.args.graph.now (search rules)
 
-pub overflow_sub-height : goal.overflow_sub-height
-overflow_sub-height c = search rules
-
-pub frame_at-requires : goal.frame_at-requires
-frame_at-requires c = search rules
-
 pub steps-requires : goal.steps-requires
 steps-requires c =
     let s = c in

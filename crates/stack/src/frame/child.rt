@@ -1,51 +1,40 @@
 // What a nested goal leaves in its parent's frame: update_parent_goal of mod.rs, on one frame's
 // bytes.
-ghost use Rattle.std.specs.Prelude.{◌≡◌, false, ◌||◌, ◌<◌, min};
-ghost use Rattle.definition.specs.Usages.{one_usage};
+ghost use Rattle.std.specs.Prelude.{false, ◌<◌};
 ghost use Rattle.definition.specs.Parent.{add_rest, Ordinary, CycleOnStack, ProvisionalCacheHit};
-ghost use Rattle.layout.specs.Frame.{truth};
 ghost use Rattle.stack.specs.Bytes.{FrameBytes, FrameChanged};
-ghost use Rattle.stack.specs.Child.{track_at, join_at, HeadBegun, use_own, add_head_at, cycle_head};
+ghost use Rattle.stack.specs.Child.{track_at, join_used, HeadBegun, use_own, use_at, add_head_at, cycle_head};
 ghost use Rattle.stack.specs.Child.{reach_frame, insert_goal, insert_own, extend_nested, finish_nested};
 
 use crate::frame;
-use buffer::scalars;
 use definition::heads::CycleHead;
 use definition::paths::{PathKind, PathsToNested};
 use definition::usages::HeadUsages;
+use layout::used::Used;
 use layout::{candidate, heads, nested, offsets, records};
 
-// ---- heads
+// ---- a head that the nested goal used: by the usages that it had of it, or once
 
-// The usages of the head at index i, in the candidate that the frame tracks, if any.
-fn track(frame: &mut [u8], goals: usize, i: usize, usages: HeadUsages)
+// In the candidate that the frame tracks, if any.
+fn track<U: Used>(frame: &mut [u8], goals: usize, i: usize, used: U)
     requires { FrameBytes goals frame.old × (i < goals) }
-    ensures { FrameChanged goals (track_at i usages) frame.old frame.new }
+    ensures { FrameChanged goals (track_at i (U.uses used)) frame.old frame.new }
 {
     if !frame::tracks(frame, goals) {
         return;
     }
     let start = offsets::candidate_start(goals);
     let end = offsets::nested_start(goals);
-    candidate::add_from_nested(&mut frame[start..end], goals, i, usages);
+    candidate::add_from_nested(&mut frame[start..end], goals, i, used);
 }
 
-// The head at index i, reached by one step more.
-fn join(frame: &mut [u8], goals: usize, step: PathKind, i: usize, head: CycleHead)
+// Among the parent's heads.
+fn join<U: Used>(frame: &mut [u8], goals: usize, i: usize, paths: u8, used: U)
     requires { FrameBytes goals frame.old × (i < goals) }
-    ensures { FrameChanged goals (join_at step i head) frame.old frame.new }
+    ensures { FrameChanged goals (join_used i paths (U.uses used)) frame.old frame.new }
 {
-    let paths = PathsToNested { bits: head.paths };
-    let extended = paths.extend_with(step);
-    let usages = head.usages;
     let end = offsets::candidate_start(goals);
-    heads::insert(
-        &mut frame[offsets::FRAME_HEADS..end],
-        goals,
-        i,
-        extended.bits,
-        usages,
-    );
+    heads::insert(&mut frame[offsets::FRAME_HEADS..end], goals, i, paths, used);
 }
 
 // The parent is a head; its usages start at none where it was none before.
@@ -63,19 +52,31 @@ fn become_head(frame: &mut [u8], goals: usize)
     frame[offsets::FRAME_IS_HEAD] = 1;
 }
 
-// The parent itself is used as a head.
-fn use_itself(frame: &mut [u8], goals: usize, usages: HeadUsages)
+// The parent itself is the head.
+fn use_itself<U: Used>(frame: &mut [u8], goals: usize, used: U)
     requires { FrameBytes goals frame.old }
-    ensures { FrameChanged goals (use_own usages) frame.old frame.new }
+    ensures { FrameChanged goals (use_own (U.uses used)) frame.old frame.new }
 {
     become_head(frame, goals);
-    records::count_nested(
-        &mut frame[offsets::FRAME_USAGES..offsets::FRAME_HEADS],
-        usages,
-    );
+    used.count(&mut frame[offsets::FRAME_USAGES..offsets::FRAME_HEADS]);
 }
 
-// A head of the nested goal, at index i; the parent's own index is `own`.
+// The head at index i, reached by `paths`; the parent's own index is `own`.
+fn add<U: Used>(frame: &mut [u8], goals: usize, own: usize, i: usize, paths: u8, used: U)
+    requires { FrameBytes goals frame.old × (i < goals) }
+    ensures { FrameChanged goals (use_at own i paths (U.uses used)) frame.old frame.new }
+{
+    track(frame, goals, i, used);
+    if i < own {
+        join(frame, goals, i, paths, used);
+        return;
+    }
+    if i == own {
+        use_itself(frame, goals, used);
+    }
+}
+
+// A head of the nested goal, at index i, by one step more.
 pub fn add_head(
     frame: &mut [u8],
     goals: usize,
@@ -87,58 +88,12 @@ pub fn add_head(
     requires { FrameBytes goals frame.old × (i < goals) }
     ensures { FrameChanged goals (add_head_at step own i head) frame.old frame.new }
 {
-    let usages = head.usages;
-    track(frame, goals, i, usages);
-    if i < own {
-        join(frame, goals, step, i, head);
-        return;
-    }
-    if i == own {
-        use_itself(frame, goals, usages);
-    }
+    let paths = PathsToNested { bits: head.paths };
+    let extended = paths.extend_with(step);
+    add(frame, goals, own, i, extended.bits, head.usages);
 }
 
-// ---- a head that is used once, by a cycle of a kind: one counter is touched
-
-fn count_tracked(frame: &mut [u8], goals: usize, i: usize, kind: PathKind)
-    requires { FrameBytes goals frame.old × (i < goals) }
-    ensures { FrameChanged goals (track_at i (one_usage kind)) frame.old frame.new }
-{
-    if !frame::tracks(frame, goals) {
-        return;
-    }
-    let start = offsets::candidate_start(goals);
-    let end = offsets::nested_start(goals);
-    candidate::count(&mut frame[start..end], goals, i, kind);
-}
-
-fn count_joined(frame: &mut [u8], goals: usize, step: PathKind, i: usize, kind: PathKind)
-    requires { FrameBytes goals frame.old × (i < goals) }
-    ensures { FrameChanged goals (join_at step i (cycle_head step kind)) frame.old
-        frame.new }
-{
-    let end = offsets::candidate_start(goals);
-    heads::insert_used(
-        &mut frame[offsets::FRAME_HEADS..end],
-        goals,
-        i,
-        step.flag(),
-        kind,
-    );
-}
-
-fn count_itself(frame: &mut [u8], goals: usize, kind: PathKind)
-    requires { FrameBytes goals frame.old }
-    ensures { FrameChanged goals (use_own (one_usage kind)) frame.old frame.new }
-{
-    become_head(frame, goals);
-    records::count_usage(
-        &mut frame[offsets::FRAME_USAGES..offsets::FRAME_HEADS],
-        kind,
-    );
-}
-
-// A goal on the stack, at index `head`, by a cycle of a kind.
+// A goal on the stack, at index `head`, by a cycle of a kind: one counter is touched.
 pub fn count_head(
     frame: &mut [u8],
     goals: usize,
@@ -151,44 +106,20 @@ pub fn count_head(
     ensures { FrameChanged goals (add_head_at step own head (cycle_head step kind)) frame.old
         frame.new }
 {
-    count_tracked(frame, goals, head, kind);
-    if head < own {
-        count_joined(frame, goals, step, head, kind);
-        return;
-    }
-    if head == own {
-        count_itself(frame, goals, kind);
-    }
+    add(frame, goals, own, head, step.flag(), kind);
 }
 
 // ---- the rest
-
-// The mark of overflow, after more was met, or was not.
-fn marked(before: u8, overflow: bool) -> u8
-    ensures { truth result ≡ (truth before || overflow) }
-{
-    if overflow {
-        return 1;
-    }
-    before
-}
-
-fn lesser(a: u8, b: usize) -> u8
-    ensures { result ≡ min a b }
-{
-    if b < scalars::wide(a) {
-        return scalars::low(b);
-    }
-    a
-}
 
 // Overflow, and the depth that was reached.
 fn reach(frame: &mut [u8], goals: usize, overflow: bool, reached: usize)
     requires { FrameBytes goals frame.old }
     ensures { FrameChanged goals (reach_frame overflow reached) frame.old frame.new }
 {
-    frame[offsets::FRAME_OVERFLOW] = marked(frame[offsets::FRAME_OVERFLOW], overflow);
-    frame[offsets::FRAME_REACHED] = lesser(frame[offsets::FRAME_REACHED], reached);
+    let met = frame::overflow(frame, goals) || overflow;
+    frame[offsets::FRAME_OVERFLOW] = u8::from(met);
+    let before = usize::from(frame[offsets::FRAME_REACHED]);
+    frame[offsets::FRAME_REACHED] = before.min(reached) as u8;
 }
 
 // Paths to a nested goal.
@@ -274,7 +205,7 @@ pub fn add_cycle(frame: &mut [u8], goals: usize, step: PathKind, goal: usize, re
         frame.new }
 {
     reach(frame, goals, false, reached);
-    let paths = PathsToNested::from_kind(step);
+    let paths = PathsToNested::from(step);
     insert_nested(frame, goals, goal, paths.bits);
     insert_itself(frame, goals);
 }

@@ -1,12 +1,13 @@
 // The fields of a frame, its first eight bytes, as a record that is lent and changed in
-// place.
+// place. One write of the byte would do: the form is kept as one of those that the product is
+// to show (docs/DECISIONS.md, 17).
 ghost use Rattle.std.specs.Prelude.{◌≡◌, length, set};
 ghost use Rattle.layout.specs.Frame.{frame_overflow};
-ghost use Rattle.stack.specs.Records.{record_of, bytes_of, flag_byte, overflowed};
+ghost use Rattle.stack.specs.Records.{record_of, bytes_of, overflowed};
 
 use layout::offsets;
 
-#[derive(Clone, Copy)]
+#[derive(Debug, Clone, Copy, PartialEq, Eq)]
 pub struct FrameRecord {
     pub input: u8,
     pub step: u8,
@@ -34,15 +35,6 @@ pub fn load(b: &[u8]) -> FrameRecord
     }
 }
 
-fn flag(b: bool) -> u8
-    ensures { result ≡ flag_byte b }
-{
-    if b {
-        return 1;
-    }
-    0
-}
-
 pub fn store(b: &mut [u8], f: FrameRecord)
     requires { length b.old ≡ 8 }
     ensures { b.new ≡ bytes_of f }
@@ -52,7 +44,7 @@ pub fn store(b: &mut [u8], f: FrameRecord)
     b[offsets::FRAME_AVAILABLE] = f.available;
     b[offsets::FRAME_REACHED] = f.reached;
     b[offsets::FRAME_PROVISIONAL] = f.provisional;
-    b[offsets::FRAME_OVERFLOW] = flag(f.overflow);
+    b[offsets::FRAME_OVERFLOW] = u8::from(f.overflow);
     b[offsets::FRAME_IS_HEAD] = f.head;
     b[offsets::FRAME_TRACKS] = f.tracks;
 }

@@ -7,10 +7,7 @@ use Rattle.book.proofs.grammar.+part_size.Given as goal
 abbrev pub decreases-part_size : goal.decreases-part_size
 decreases-part_size l = l.nest
 
-abbrev pub invariant-loop-left : goal.invariant-loop-left
-invariant-loop-left l =
-    (l.at ≤ length l.s) × ((16 ≤ l.at)
-    × (after_parts (read_parts (read_part l.goals (l.nest - 1) l.inside) l.left (lines_in (drop l.at l.s))) ≡ after_part (read_part l.goals l.nest l.in_pick (lines_in l.s))))
-
-abbrev pub decreases-loop-left : goal.decreases-loop-left
-decreases-loop-left l = l.left
+abbrev pub invariant-loop : goal.invariant-loop
+invariant-loop l =
+    (l.at ≤ length l.s)
+    × (after_parts (read_parts (read_part l.goals (l.nest - 1) l.first.in_pick) (l.first.parts - l.counter) (lines_in (drop l.at l.s))) ≡ after_part (read_part l.goals l.nest l.in_pick (lines_in l.s)))

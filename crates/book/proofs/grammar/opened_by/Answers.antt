@@ -1,7 +1,7 @@
 use mathlib.Core.Path.{refl, ap, ◌∙◌}
 use Rattle.book.specs.Lines.{line_in}
 use Rattle.book.specs.Codes.{code_of}
-use Rattle.book.proofs.Sizes.{goal_opens, call_line, group_line, pick_line, undecided_line, unknown_line}
+use Rattle.book.proofs.Sizes.{nothing_opens, call_line, group_line, pick_line, undecided_line}
 use Rattle.book.proofs.grammar.opened_by.Goals as goal
 
 pub returns-in-Goal : goal.returns-in-Goal
@@ -10,8 +10,8 @@ returns-in-Goal c =
     λ inner ls.
     let a = c.args in
     let number = c.field_at-number in
-    let is = c.of_number-code.ensures ∙ ap code_of number.ensures in
-    goal_opens a.goals a.in_pick inner (line_in a.s.now) ls _ is _ refl c.in-Goal.is
+    let is = c.from-code.ensures ∙ ap code_of number.ensures in
+    nothing_opens a.goals a.in_pick inner (line_in a.s.now) ls _ is _ refl c.in-Goal.is
 
 pub returns-in-Call : goal.returns-in-Call
 unfolding line_in
@@ -19,9 +19,9 @@ returns-in-Call c =
     λ inner ls.
     let a = c.args in
     let number = c.field_at-number in
-    let is = c.of_number-code.ensures ∙ ap code_of number.ensures in
+    let is = c.from-code.ensures ∙ ap code_of number.ensures in
     let fits = c.call_fits in
-    call_line a.goals a.in_pick inner (line_in a.s.now) ls _ is c.opened_if.result fits.result c.opened_if.ensures
+    call_line a.goals a.in_pick inner (line_in a.s.now) ls _ is c.then_some.result fits.result c.then_some.ensures
     fits.ensures c.in-Call.is
 
 pub returns-in-Group : goal.returns-in-Group
@@ -30,10 +30,10 @@ returns-in-Group c =
     λ inner ls.
     let a = c.args in
     let number = c.field_at-number in
-    let is = c.of_number-code.ensures ∙ ap code_of number.ensures in
+    let is = c.from-code.ensures ∙ ap code_of number.ensures in
     let fits = c.uses_first in
-    group_line a.goals a.in_pick inner (line_in a.s.now) ls _ is c.opened_if-in-Group.result fits.result _
-    c.field_at.ensures _ c.opened_if-in-Group.ensures fits.ensures c.in-Group.is
+    group_line a.goals a.in_pick inner (line_in a.s.now) ls _ is c.then_some-in-Group.result fits.result _
+    c.field_at-parts.ensures _ c.then_some-in-Group.ensures fits.ensures c.in-Group.is
 
 pub returns-in-Pick : goal.returns-in-Pick
 unfolding line_in
@@ -41,10 +41,10 @@ returns-in-Pick c =
     λ inner ls.
     let a = c.args in
     let number = c.field_at-number in
-    let is = c.of_number-code.ensures ∙ ap code_of number.ensures in
+    let is = c.from-code.ensures ∙ ap code_of number.ensures in
     let fits = c.pick_fits in
-    pick_line a.goals a.in_pick inner (line_in a.s.now) ls _ is c.opened_if-in-Pick.result fits.result _
-    c.field_at-in-Pick.ensures c.opened_if-in-Pick.ensures fits.ensures c.in-Pick.is
+    pick_line a.goals a.in_pick inner (line_in a.s.now) ls _ is c.then_some-in-Pick.result fits.result _
+    c.field_at-parts-in-Pick.ensures c.then_some-in-Pick.ensures fits.ensures c.in-Pick.is
 
 pub returns-in-Undecided : goal.returns-in-Undecided
 unfolding line_in
@@ -52,16 +52,7 @@ returns-in-Undecided c =
     λ inner ls.
     let a = c.args in
     let number = c.field_at-number in
-    let is = c.of_number-code.ensures ∙ ap code_of number.ensures in
+    let is = c.from-code.ensures ∙ ap code_of number.ensures in
     let fits = c.undecided_fits in
-    undecided_line a.goals a.in_pick inner (line_in a.s.now) ls _ is c.opened_if-in-Undecided.result fits.result
-    c.opened_if-in-Undecided.ensures fits.ensures c.in-Undecided.is
-
-pub returns-in-Unknown : goal.returns-in-Unknown
-unfolding line_in
-returns-in-Unknown c =
-    λ inner ls.
-    let a = c.args in
-    let number = c.field_at-number in
-    let is = c.of_number-code.ensures ∙ ap code_of number.ensures in
-    unknown_line a.goals a.in_pick inner (line_in a.s.now) ls _ is _ refl c.in-Unknown.is
+    undecided_line a.goals a.in_pick inner (line_in a.s.now) ls _ is c.then_some-in-Undecided.result fits.result
+    c.then_some-in-Undecided.ensures fits.ensures c.in-Undecided.is

@@ -5,9 +5,6 @@ use Rattle.delegate.proofs.group.start.Goals as goal
 pub enum_told-1 : goal.enum_told-1
 enum_told-1 c = search rules
 
-pub enum_told-in-Any : goal.enum_told-in-Any
-enum_told-in-Any c = search rules
-
 pub returns-in-All : goal.returns-in-All
 returns-in-All c =
     started_all c.args.op c.args.entries c.in-All.is

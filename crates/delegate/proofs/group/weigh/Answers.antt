@@ -1,20 +1,14 @@
-use borrow.Author.Rules.{rules}
-use Rattle.delegate.proofs.Groups.{weighed_stopped, weighed_done}
+use Rattle.book.specs.declared.code.Op.TheVariants.{All, Any}
+use Rattle.delegate.proofs.Groups.{weighed, weighed_refused}
 use Rattle.delegate.proofs.group.weigh.Goals as goal
 
-pub enum_known-o : goal.enum_known-o
-enum_known-o c = search rules
+pub returns-in-Err : goal.returns-in-Err
+returns-in-Err c = weighed_refused c.args.group c.args.o _ c.in-Err.is
 
-pub enum_known-o-in-Done-1 : goal.enum_known-o-in-Done-1
-enum_known-o-in-Done-1 c = search rules
+pub returns-in-All : goal.returns-in-All
+returns-in-All c =
+    weighed c.args.group _ All c.args.o c.in-Ok.is c.unless.result c.in-All.is c.unless.ensures
 
-pub weigh_answer-requires : goal.weigh_answer-requires
-weigh_answer-requires c = search rules
-
-pub returns-in-Stopped : goal.returns-in-Stopped
-returns-in-Stopped c =
-    weighed_stopped c.args.o c.args.group _ c.in-Stopped.is
-
-pub returns-in-Done : goal.returns-in-Done
-returns-in-Done c =
-    weighed_done c.args.o c.args.group _ _ c.weigh_answer.result c.in-Done.is c.weigh_answer.ensures
+pub returns-in-Any : goal.returns-in-Any
+returns-in-Any c =
+    weighed c.args.group _ Any c.args.o c.in-Ok.is c.unless-in-Any.result c.in-Any.is c.unless-in-Any.ensures

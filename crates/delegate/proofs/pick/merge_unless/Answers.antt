@@ -1,16 +1,9 @@
-use borrow.Author.Rules.{rules}
 use Rattle.delegate.proofs.Picks.{unmerged, merged}
 use Rattle.delegate.proofs.pick.merge_unless.Goals as goal
 
 pub returns-then-first : goal.returns-then-first
 returns-then-first c =
     unmerged c.args.goals c.args.own c.args.first c.args.work.now c.if-first.true
-
-pub merge-requires : goal.merge-requires
-merge-requires c = search rules
-
-pub shape_of-work : goal.shape_of-work
-shape_of-work c = search rules
 
 pub returns : goal.returns
 returns c =

@@ -1,11 +1,7 @@
 use mathlib.Core.Path.{◌≡◌}
 use mathlib.Core.Bool.{true}
-use Prim.Native.Nat.{◌-◌, ◌≤◌}
 use Rattle.definition.specs.CacheForm.{goals_fit}
 use Rattle.global_cache.proofs.form.cache_fits.Given as goal
 
 abbrev pub invariant-loop-goal : goal.invariant-loop-goal
-invariant-loop-goal l = (l.goal ≤ l.h.goals) × (true ≡ goals_fit l.h l.cache l.goal)
-
-abbrev pub decreases-loop-goal : goal.decreases-loop-goal
-decreases-loop-goal l = l.h.goals - l.goal
+invariant-loop-goal l = true ≡ goals_fit l.h l.cache l.goal

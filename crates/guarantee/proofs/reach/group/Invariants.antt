@@ -1,10 +1,6 @@
-use Prim.Native.Nat.{◌-◌, ◌≤◌}
 use Rattle.guarantee.proofs.Masks.{Upto}
 use Rattle.guarantee.proofs.Rounds.{nobody, together}
 use Rattle.guarantee.proofs.reach.group.Given as goal
 
 abbrev pub invariant-loop-k : goal.invariant-loop-k
-invariant-loop-k l = Upto nobody (together l.reach l.g) l.k l.m × (l.k ≤ 64)
-
-abbrev pub decreases-loop-k : goal.decreases-loop-k
-decreases-loop-k l = 64 - l.k
+invariant-loop-k l = Upto nobody (together l.reach l.g) l.k l.m

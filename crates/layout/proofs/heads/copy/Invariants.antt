@@ -1,8 +1,5 @@
 use Rattle.layout.proofs.Copied.{Copying}
 use Rattle.layout.proofs.heads.copy.Given as goal
 
-abbrev pub invariant-loop-left : goal.invariant-loop-left
-invariant-loop-left l = Copying l.goals l.from l.to l.initial.s l.m l.left l.s
-
-abbrev pub decreases-loop-left : goal.decreases-loop-left
-decreases-loop-left l = l.left
+abbrev pub invariant-loop-i : goal.invariant-loop-i
+invariant-loop-i l = Copying l.goals l.from l.to l.initial.s l.m l.i-iterator.mask l.s

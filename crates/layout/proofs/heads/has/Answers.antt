@@ -5,14 +5,7 @@ use lib.ListN.{get_or}
 use Rattle.bits.specs.Masks.{flags}
 use Rattle.layout.specs.Blocks.{flag_at}
 use Rattle.layout.proofs.Present.{present_at}
-use borrow.Author.Rules.{rules}
 use Rattle.layout.proofs.heads.has.Goals as goal
-
-pub read_u64-requires : goal.read_u64-requires
-read_u64-requires c = search rules
-
-pub has-requires : goal.has-requires
-has-requires c = search rules
 
 pub returns : goal.returns
 unfolding flag_at

@@ -2,14 +2,7 @@ use mathlib.Core.Path.{◌∙◌}
 use Prim.Native.Nat.{◌-◌}
 use Rattle.layout.specs.Blocks.{heads_of}
 use Rattle.layout.proofs.Present.{mask_highest}
-use borrow.Author.Rules.{rules}
 use Rattle.layout.proofs.heads.highest.Goals as goal
-
-pub mask-requires : goal.mask-requires
-mask-requires c = search rules
-
-pub highest-requires : goal.highest-requires
-highest-requires c = search rules
 
 pub returns : goal.returns
 returns c =

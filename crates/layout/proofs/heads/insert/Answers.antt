@@ -1,33 +1,30 @@
-use mathlib.Core.Path.{◌≡◌, sym, ap, ◌∙◌}
-use Prim.Native.Nat.{ℕ, ◌+◌, ◌*◌, ◌-◌, ◌≤◌}
-use mathlib.Core.List.{List, ◌++◌}
-use mathlib.Core.Option.{some}
+use mathlib.Core.Path.{sym, ap, ◌∙◌}
+use Prim.Native.Nat.{ℕ, ◌+◌, ◌*◌, ◌≤◌}
+use mathlib.Core.List.{List}
 use native.Mathlib.Omega.{arith}
-use lib.ListN.{length, take, drop}
-use Rattle.buffer.specs.Regions.{region}
-use Rattle.buffer.proofs.Regions.{overwrite_part, length_region}
+use lib.ListN.{length, set}
+use Rattle.definition.specs.declared.usages.HeadUsages.{HeadUsages}
+use Rattle.layout.specs.Blocks.{heads_of}
+use mathlib.Core.Option.{some}
 use Rattle.definition.specs.Heads.{join_head}
 use Rattle.layout.specs.Blocks.{head_of}
+use Rattle.layout.proofs.Placed.{part_is, part_long, part_written}
 use Rattle.layout.proofs.Present.{insert_unknown, head_inserted}
 use Rattle.layout.proofs.heads.insert.Goals as goal
 
 pub returns-then-has : goal.returns-then-has
-returns-then-has c =
-    let s = c in
-    let bs : List ℕ = s.args.b.now in
-    let at : ℕ = 8 + s.args.i * 33 in
+returns-then-has g c =
+    let bs : List ℕ = c.args.b.now in
     let ys : List ℕ = c.join_head.new.b in
-    let room : at + 33 ≤ length bs = omega (arith, s.requires.0.long) in
-    let e : at + 33 - at ≡ 33 = omega arith in
-    let here : region at (at + 33 - at) bs ≡ region at 33 bs = ap (λ (n : ℕ). region at n bs) e in
-    let whole : length ys ≡ 33 = c.join_head.auto.b ∙ ap length here ∙ length_region at 33 bs room in
-    head_inserted s.args.goals bs s.args.i s.requires.1 ys s.args.paths s.args.usages s.requires.0.few room whole
-    (sym c.has.ensures ∙ c.if-has.true)
-    (take at bs ++ (ys ++ drop (at + 33 - at) (drop at bs))) (overwrite_part bs at (at + 33) ys (whole ∙ sym e))
-    (c.join_head.ensures ∙ ap (λ (l : List ℕ). join_head (some (head_of l)) s.args.paths s.args.usages) here)
+    let at = c.place.ensures in
+    let room : 8 + c.args.i * 33 + 33 ≤ length bs = omega (arith, c.requires.0.long) in
+    let whole = part_long bs c.place.result.start c.place.result.end (8 + c.args.i * 33) 33 at.start at.end ys c.join_head.auto.b room in
+    let written = part_written bs c.place.result.start c.place.result.end (8 + c.args.i * 33) 33 at.start at.end ys whole in
+    head_inserted c.args.goals bs c.args.i c.requires.1 ys c.args.paths (g.U.Used.uses c.args.used) c.requires.0.few room whole (sym c.has.ensures ∙ c.if-has.true) _ written
+    (c.join_head.ensures ∙ ap (λ (l : List ℕ). join_head (some (head_of l)) c.args.paths (g.U.Used.uses c.args.used)) (part_is bs c.place.result.start c.place.result.end (8 + c.args.i * 33) 33 at.start at.end))
 
 pub returns : goal.returns
-returns c =
-    let s = c in
+returns g c =
     c.put.ensures
-    ∙ insert_unknown s.args.goals s.args.b.now s.args.i s.requires.1 s.args.paths s.args.usages (sym c.has.ensures ∙ c.if-has.false)
+    ∙ ap (λ (u : HeadUsages). set (heads_of c.args.goals c.args.b.now) c.args.i (some (record { paths = c.args.paths; usages = u }))) c.usages-usages.ensures
+    ∙ insert_unknown c.args.goals c.args.b.now c.args.i c.requires.1 c.args.paths (g.U.Used.uses c.args.used) (sym c.has.ensures ∙ c.if-has.false)

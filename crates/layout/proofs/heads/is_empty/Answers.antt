@@ -4,9 +4,6 @@ use Rattle.layout.proofs.Present.{mask_empty}
 use borrow.Author.Rules.{rules}
 use Rattle.layout.proofs.heads.is_empty.Goals as goal
 
-pub mask-requires : goal.mask-requires
-mask-requires c = search rules
-
 pub returns : goal.returns
 returns c =
     let s = c in

@@ -5,14 +5,7 @@ use Prim.Native.Nat.{ℕ, ◌-◌}
 use lib.ListN.{take, replicate}
 use Rattle.bits.specs.Masks.{flags}
 use Rattle.layout.proofs.Present.{present_mask}
-use borrow.Author.Rules.{rules}
 use Rattle.layout.proofs.heads.mask.Goals as goal
-
-pub read_u64-requires : goal.read_u64-requires
-read_u64-requires c = search rules
-
-pub below-requires : goal.below-requires
-below-requires c = search rules
 
 pub returns : goal.returns
 returns c =

@@ -2,19 +2,12 @@ use mathlib.Core.Path.{sym, ap, ◌∙◌}
 use mathlib.Core.Option.{Option, none, some}
 use Rattle.definition.specs.declared.heads.CycleHead.{CycleHead}
 use Rattle.layout.proofs.Present.{head_known, head_unknown}
-use borrow.Author.Rules.{rules}
 use Rattle.layout.proofs.heads.paths.Goals as goal
-
-pub has-requires : goal.has-requires
-has-requires c = search rules
-
-pub record-head-requires : goal.record-head-requires
-record-head-requires c = search rules
 
 pub returns-then-has : goal.returns-then-has
 returns-then-has c =
     let s = c in
-    ap (λ (h : CycleHead). h.paths) c.record-head.ensures
+    ap (λ (h : CycleHead). h.paths) c.record.ensures
     ∙ sym (ap (λ (o : Option CycleHead). elim o [ none ↦ 0 | some h ↦ h.paths ]) (head_known s.args.goals s.args.b.now s.args.i s.requires.1 (sym c.has.ensures ∙ c.if-has.true)))
 
 pub returns : goal.returns

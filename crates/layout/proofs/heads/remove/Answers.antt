@@ -10,18 +10,6 @@ use mathlib.Core.Bool.{false}
 use borrow.Author.Rules.{rules}
 use Rattle.layout.proofs.heads.remove.Goals as goal
 
-pub read_u64-m-requires : goal.read_u64-m-requires
-read_u64-m-requires c = search rules
-
-pub without-requires : goal.without-requires
-without-requires c = search rules
-
-pub write_u64-requires : goal.write_u64-requires
-write_u64-requires c = search rules
-
-pub shape_of-b : goal.shape_of-b
-shape_of-b c = search rules
-
 pub returns : goal.returns
 unfolding heads_of
 returns c =

@@ -1,9 +1,5 @@
 use Rattle.layout.proofs.Counts.{with_room, with_step}
-use borrow.Author.Rules.{rules}
 use Rattle.layout.proofs.steps.with.Goals as goal
-
-pub one-requires : goal.one-requires
-one-requires c = search rules
 
 pub overflow_add-result : goal.overflow_add-result
 overflow_add-result c =

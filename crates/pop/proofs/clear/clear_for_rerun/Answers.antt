@@ -18,11 +18,6 @@ loop-i-init c =
       whole_start (survivors c.args.rerun) c.args.goals base c.args.entries c.args.graph.now,
     )
 
-pub entry_from-entry-requires : goal.entry_from-entry-requires
-entry_from-entry-requires c =
-    let s = c in let most = s.requires.1.1 in
-    ((let it : EntriesBytes c.args.goals c.entries_start-base.result c.loop-i.graph = entries_bytes c.args.goals c.entries_start-base.result c.args.graph.now c.loop-i.graph (entries_from c.args.goals c.entries_start-base.result c.args.graph.now c.requires.0 c.entries_start-base.ensures.0) c.loop-i.invariant.0.same_length in it), omega arith)
-
 pub survives_rerun-keep-requires : goal.survives_rerun-keep-requires
 survives_rerun-keep-requires c =
     let s = c in
@@ -31,18 +26,6 @@ survives_rerun-keep-requires c =
           c.entry_from-entry.result.now c.loop-i.i ((let it : EntriesBytes c.args.goals c.entries_start-base.result c.loop-i.graph = entries_bytes c.args.goals c.entries_start-base.result c.args.graph.now c.loop-i.graph (entries_from c.args.goals c.entries_start-base.result c.args.graph.now c.requires.0 c.entries_start-base.ensures.0) c.loop-i.invariant.0.same_length in it)) lt c.entry_from-entry.ensures,
       c.requires.1.0,
     )
-
-pub keep_if-kept-requires : goal.keep_if-kept-requires
-keep_if-kept-requires c =
-    let s = c in
-    let most = s.requires.1.1 in
-    ((let it : EntriesBytes c.args.goals c.entries_start-base.result c.loop-i.graph = entries_bytes c.args.goals c.entries_start-base.result c.args.graph.now c.loop-i.graph (entries_from c.args.goals c.entries_start-base.result c.args.graph.now c.requires.0 c.entries_start-base.ensures.0) c.loop-i.invariant.0.same_length in it), (c.loop-i.invariant.0.kept_few, omega arith))
-
-pub overflow_add-i : goal.overflow_add-i
-overflow_add-i c = omega arith
-
-pub loop-i-smaller : goal.loop-i-smaller
-loop-i-smaller c = omega arith
 
 pub loop-i-preserved : goal.loop-i-preserved
 loop-i-preserved c =
@@ -58,9 +41,6 @@ loop-i-preserved c =
           (survivor_first c.args.rerun (entry_from c.args.goals base c.loop-i.i c.loop-i.graph) c.survives_rerun-keep.result is)
           c.keep_if-kept.ensures,
     )
-
-pub shape_of-graph : goal.shape_of-graph
-shape_of-graph c = c.loop-i.invariant.0.same_length
 
 pub returns : goal.returns
 returns c =

@@ -1,13 +1,7 @@
-use Rattle.pop.proofs.Entries.{gained_through, gained_unused}
+use mathlib.Core.Path.{refl}
+use Rattle.definition.proofs.Extensions.{table_rule}
 use Rattle.pop.proofs.moved.gained.Goals as goal
 
-pub returns-then-used : goal.returns-then-used
-returns-then-used c =
-    gained_through c.args.used c.args.eps.bits c.args.head c.extend_with_paths-ephs.result.bits c.if-used.true
-    c.extend_with_paths-ephs.ensures
-
-pub returns : goal.returns
-returns c =
-    gained_unused c.args.used c.args.eps.bits c.args.head c.empty_path-empty.result.bits c.if-used.false
-    c.empty_path-empty.ensures
-    c.none-usages.result c.none-usages.ensures
+-- the table's rule is proved here, by one test of all its entries
+pub extend_with_paths-ephs-requires : goal.extend_with_paths-ephs-requires
+extend_with_paths-ephs-requires c = table_rule _ refl tt

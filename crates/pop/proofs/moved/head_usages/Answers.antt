@@ -1,22 +1,20 @@
 use mathlib.Core.Path.{ap, ◌∙◌}
 use Rattle.definition.specs.Heads.{CycleHeads, usages_at}
 use Rattle.pop.proofs.Writes.{entry_heads_at, entry_block}
-use borrow.Author.Rules.{rules}
+use Prim.Native.Nat.{◌<◌}
+use native.Mathlib.Omega.{arith}
 use Rattle.pop.proofs.moved.head_usages.Goals as goal
-
-pub entry_heads-requires : goal.entry_heads-requires
-entry_heads-requires c = search rules
 
 pub usages-requires : goal.usages-requires
 usages-requires c = (
-  entry_heads_at c.args.goals c.args.base c.args.k c.args.rest.now c.entry_heads.result.now
-      c.requires.0 c.requires.1.0
+  entry_heads_at c.args.p.now.goals c.args.p.now.base c.args.k c.args.rest.now c.entry_heads.result.now
+      c.requires.0 c.requires.1
       c.entry_heads.ensures,
-  c.requires.1.1,
+  (let it : c.args.p.now.index < c.args.p.now.goals = omega arith in it),
 )
 
 pub returns : goal.returns
 returns c =
     c.usages.ensures
-    ∙ ap (λ (hs : CycleHeads). usages_at hs c.args.i)
-    (entry_block c.args.goals c.args.base c.args.k c.args.rest.now c.entry_heads.result.now c.entry_heads.ensures)
+    ∙ ap (λ (hs : CycleHeads). usages_at hs c.args.p.now.index)
+    (entry_block c.args.p.now.goals c.args.p.now.base c.args.k c.args.rest.now c.entry_heads.result.now c.entry_heads.ensures)

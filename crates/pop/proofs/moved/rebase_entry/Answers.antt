@@ -7,72 +7,49 @@ use Rattle.layout.specs.Work.{entry_from}
 use Rattle.provisional_cache.proofs.Entries.{entry_bytes_lem}
 use Rattle.pop.specs.Popped.{popped_frame}
 use Rattle.pop.specs.Rebased.{kept_entry}
-use Rattle.pop.proofs.Writes.{rest_bytes, others_same, others_then, frame_after}
-use Rattle.pop.proofs.Entries.{entry_other, entry_dropped, entry_under}
+use Rattle.pop.proofs.Writes.{others_then, frame_after}
+use Rattle.pop.proofs.Entries.{entry_dropped, entry_under}
 use Rattle.pop.proofs.moved.rebase_entry.Goals as goal
 use Rattle.std.proofs.Common.{ap, not}
 
-pub entry_from-entry-requires : goal.entry_from-entry-requires
-entry_from-entry-requires c = (c.requires.0.entries, c.requires.1.1.0)
-
 pub highest_head-requires : goal.highest_head-requires
 highest_head-requires c =
-    entry_bytes_lem c.args.goals c.args.base c.args.rest.now c.entry_from-entry.result.now c.args.k
-    c.requires.0.entries c.requires.1.1.0 c.entry_from-entry.ensures
-
-pub returns-then-highest_head-popped : goal.returns-then-highest_head-popped
-returns-then-highest_head-popped c =
-    record {
-      entry = λ s m.
-          entry_other s (popped_frame c.args.goals c.args.rest.now) c.args.reason
-          (entry_from c.args.goals c.args.base c.args.k c.args.rest.now) c.args.popped m.height
-          c.highest_head.result
-          (c.highest_head.ensures
-          ∙ ap (λ (l : List ℕ). highest_index (entry_of c.args.goals l).heads) c.entry_from-entry.ensures)
-          c.if-highest_head-popped.true;
-      others = others_same c.args.goals c.args.base c.args.k c.args.rest.now;
-    }
+    entry_bytes_lem c.args.p.now.goals c.args.p.now.base c.args.rest.now c.entry_from-entry.result.now c.args.k
+    c.requires.0.entries c.requires.1 c.entry_from-entry.ensures
 
 pub returns-then-not-rebase_heads : goal.returns-then-not-rebase_heads
 returns-then-not-rebase_heads c =
     record {
       entry = λ s m.
-          entry_dropped s (popped_frame c.args.goals c.args.rest.now) c.args.reason
-          (entry_from c.args.goals c.args.base c.args.k c.args.rest.now) c.args.popped m.height
+          entry_dropped s (popped_frame c.args.p.now.goals c.args.rest.now) c.args.p.now.reason
+          (entry_from c.args.p.now.goals c.args.p.now.base c.args.k c.args.rest.now) c.args.p.now.index m.height
           c.highest_head.result
           (c.highest_head.ensures
-          ∙ ap (λ (l : List ℕ). highest_index (entry_of c.args.goals l).heads) c.entry_from-entry.ensures)
-          c.if-highest_head-popped.false c.rebase_heads.result (entry_from c.args.goals c.args.base c.args.k c.rebase_heads.new.rest) (c.rebase_heads.ensures.entry s m)
+          ∙ ap (λ (l : List ℕ). highest_index (entry_of c.args.p.now.goals l).heads) c.entry_from-entry.ensures)
+          c.if-highest_head-p.false c.rebase_heads.result (entry_from c.args.p.now.goals c.args.p.now.base c.args.k c.rebase_heads.new.rest) (c.rebase_heads.ensures.entry s m)
           (ap not c.if-not-rebase_heads.true);
       others = c.rebase_heads.ensures.others;
     }
-
-pub rebase_path-requires : goal.rebase_path-requires
-rebase_path-requires c = (
-  rest_bytes c.args.goals c.args.base c.args.rest.now c.requires.0 c.rebase_heads.new.rest
-      c.rebase_heads.auto.rest,
-  c.requires.1.1.0,
-)
 
 pub returns : goal.returns
 returns c =
     let s = c in
     let a = s.args in
     let is-p =
-    frame_after a.goals a.base a.rest.now c.rebase_heads.new.rest s.requires.0.wide c.rebase_heads.ensures.others.below in
+    frame_after a.p.now.goals a.p.now.base a.rest.now c.rebase_heads.new.rest s.requires.0.wide c.rebase_heads.ensures.others.below in
     record {
       entry = λ s m.
-          entry_under s (popped_frame a.goals a.rest.now) a.reason
-          (entry_from a.goals a.base a.k a.rest.now) a.popped m.height
+          entry_under s (popped_frame a.p.now.goals a.rest.now) a.p.now.reason
+          (entry_from a.p.now.goals a.p.now.base a.k a.rest.now) a.p.now.index m.height
           c.highest_head.result
           (c.highest_head.ensures
-          ∙ ap (λ (l : List ℕ). highest_index (entry_of a.goals l).heads) c.entry_from-entry.ensures)
-          c.if-highest_head-popped.false c.rebase_heads.result (entry_from a.goals a.base a.k c.rebase_heads.new.rest) (c.rebase_heads.ensures.entry s m)
+          ∙ ap (λ (l : List ℕ). highest_index (entry_of a.p.now.goals l).heads) c.entry_from-entry.ensures)
+          c.if-highest_head-p.false c.rebase_heads.result (entry_from a.p.now.goals a.p.now.base a.k c.rebase_heads.new.rest) (c.rebase_heads.ensures.entry s m)
           (ap not c.if-not-rebase_heads.false)
-          (kept_entry c.rebase_path.result (entry_from a.goals a.base a.k c.rebase_path.new.rest))
-          (popped_frame a.goals c.rebase_heads.new.rest) is-p
+          (kept_entry c.rebase_path.result (entry_from a.p.now.goals a.p.now.base a.k c.rebase_path.new.rest))
+          (popped_frame a.p.now.goals c.rebase_heads.new.rest) is-p
           (c.rebase_path.ensures.entry s (rw is-p m.from));
       others =
-          others_then a.goals a.base a.k a.rest.now c.rebase_heads.new.rest c.rebase_path.new.rest c.rebase_heads.ensures.others
+          others_then a.p.now.goals a.p.now.base a.k a.rest.now c.rebase_heads.new.rest c.rebase_path.new.rest c.rebase_heads.ensures.others
           c.rebase_path.ensures.others;
     }

@@ -1,20 +1,16 @@
-use Rattle.pop.proofs.Writes.{rest_bytes}
+use Rattle.definition.specs.Graph.{Entry}
+use Rattle.provisional_cache.specs.Entries.{without_head}
+use Rattle.pop.proofs.Writes.{entry_room, written}
 use Rattle.pop.proofs.Entries.{replaced}
 use Rattle.pop.proofs.moved.replace_head.Goals as goal
 
-pub remove_head-requires : goal.remove_head-requires
-remove_head-requires c =
-    (c.requires.0.entries, (c.requires.1.1.0, c.requires.1.0))
-
-pub gain_heads-requires : goal.gain_heads-requires
-gain_heads-requires c = (
-  rest_bytes c.args.goals c.args.base c.args.rest.now c.requires.0 c.remove_head.new.rest
-      c.remove_head.auto.rest,
-  c.requires.1.1,
-)
+pub slice_bounds-entry-end : goal.slice_bounds-entry-end
+slice_bounds-entry-end c = entry_room c.requires.0.entries c.requires.1 c.entry_from.ensures.start c.entry_from.ensures.end
 
 pub returns : goal.returns
 returns c =
-    replaced c.args.goals c.args.base c.args.popped c.args.k c.args.used c.args.eps.bits c.args.rest.now c.remove_head.new.rest
-    c.gain_heads.new.rest
-    c.requires.0.wide c.remove_head.ensures c.gain_heads.ensures
+    replaced c.args.p.now.goals c.args.p.now.base c.args.p.now.index c.args.k c.args.used c.args.eps.bits c.args.rest.now _
+    c.gain_heads.new.rest c.requires.0.wide
+    (written c.requires.0.entries c.requires.1 c.entry_from.ensures.start c.entry_from.ensures.end
+    (λ (e : Entry). without_head e c.args.p.now.index) c.remove_head.new.entry c.remove_head.auto.entry c.remove_head.ensures)
+    c.gain_heads.ensures

@@ -3,42 +3,22 @@ use mathlib.Core.List.{List}
 use Prim.Native.Nat.{ℕ, ◌<◌}
 use native.Mathlib.Omega.{arith}
 use Rattle.definition.specs.declared.paths.PathKind.{PathKind}
-use Rattle.definition.specs.Paths.{kind_number}
 use Rattle.definition.specs.Stack.{cycle_path_kind}
 use Rattle.layout.specs.Frame.{frame_of}
 use Rattle.layout.specs.Work.{stack_of}
 use Rattle.layout.proofs.Graphs.{length_stack}
 use Rattle.stack.specs.Bytes.{frame_at}
 use Rattle.stack.proofs.Counts.{path_outside}
-use Rattle.stack.proofs.Graph.{frame_bytes_lem}
 use Rattle.pop.proofs.Filled.{filling_start, filling_next, filling_done}
 use Rattle.pop.proofs.popped.paths_to_popped.Goals as goal
 
-pub step_kind-step-requires : goal.step_kind-step-requires
-step_kind-step-requires c =
-    frame_bytes_lem c.args.goals c.args.graph.now c.frame_at.result.now c.args.popped c.requires.0.bytes
-    c.requires.1
-    c.frame_at.ensures
-
 pub loop-i-init : goal.loop-i-init
-loop-i-init c =
-    filling_start (stack_of c.args.goals c.args.popped c.args.graph.now) c.step_kind-step.result c.args.popped c.number-paths.result
-    c.number-paths.ensures
-
-pub bounds-paths-i : goal.bounds-paths-i
-bounds-paths-i c = (let it : c.loop-i.i < 64 = omega arith in it)
-
-pub overflow_add-i : goal.overflow_add-i
-overflow_add-i c = let lt = (let it : c.loop-i.i < 64 = omega arith in it) in omega arith
-
-pub loop-i-smaller : goal.loop-i-smaller
-loop-i-smaller c = omega arith
+loop-i-init c = filling_start (stack_of c.args.goals c.args.popped c.args.graph.now) c.step_kind-step.result c.args.popped
 
 pub loop-i-preserved : goal.loop-i-preserved
 loop-i-preserved c =
     filling_next (stack_of c.args.goals c.args.popped c.args.graph.now) c.step_kind-step.result c.args.popped c.loop-i.paths c.loop-i.i
-    c.number.result c.cycle_path_kind-kind.result
-    c.loop-i.invariant c.loop-i-test.true (let it : c.loop-i.i < 64 = omega arith in it) c.cycle_path_kind-kind.ensures c.number.ensures
+    c.cycle_path_kind.result c.loop-i.invariant c.loop-i-test.true (let it : c.loop-i.i < 64 = omega arith in it) c.cycle_path_kind.ensures
 
 pub returns : goal.returns
 returns c i lt =
@@ -48,4 +28,4 @@ returns c i lt =
     (λ j up. path_outside (stack_of c.args.goals c.args.popped c.args.graph.now) c.step_kind-step.result j (rw length_stack up))
     c.loop-i.paths c.loop-i.i c.loop-i.invariant
     c.loop-i-test.false i lt
-    ∙ ap (λ (k : PathKind). kind_number (cycle_path_kind (stack_of c.args.goals c.args.popped c.args.graph.now) k i)) is
+    ∙ ap (λ (k : PathKind). cycle_path_kind (stack_of c.args.goals c.args.popped c.args.graph.now) k i) is

@@ -4,11 +4,7 @@ use lib.ListN.{get_or}
 use Rattle.definition.specs.Heads.{CycleHeads}
 use Rattle.layout.proofs.Present.{head_bytes}
 use Rattle.pop.proofs.Writes.{popped_heads_block, popped_block}
-use borrow.Author.Rules.{rules}
 use Rattle.pop.proofs.popped.popped_head.Goals as goal
-
-pub popped_heads-requires : goal.popped_heads-requires
-popped_heads-requires c = search rules
 
 pub record-requires : goal.record-requires
 record-requires c = (

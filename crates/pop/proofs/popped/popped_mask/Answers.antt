@@ -6,11 +6,7 @@ use lib.ListN.{replicate}
 use Rattle.definition.specs.Heads.{CycleHeads}
 use Rattle.layout.specs.Blocks.{present}
 use Rattle.pop.proofs.Writes.{popped_heads_block, popped_block}
-use borrow.Author.Rules.{rules}
 use Rattle.pop.proofs.popped.popped_mask.Goals as goal
-
-pub popped_heads-requires : goal.popped_heads-requires
-popped_heads-requires c = search rules
 
 pub mask-requires : goal.mask-requires
 mask-requires c =

@@ -1,30 +1,14 @@
-use mathlib.Core.Path.{refl}
-use mathlib.Core.List.{List}
+use Rattle.std.proofs.Common.{rules, tests, ◌∙◌, not, ◌||◌}
+use lib.Dec.{leb}
+use Rattle.std.proofs.lemmas.Iterator.{YieldsList-from_slice}
+use Rattle.std.proofs.lemmas.Iterator.Search.{all_from_yields_List}
 use Rattle.definition.specs.declared.paths.PathKind.{PathKind}
-use Rattle.definition.specs.Paths.{contained_in}
-use Rattle.pop.specs.Popped.{bound_keeps}
-use Rattle.pop.proofs.Tests.{fails_1, fails_2, fails_3, last_4}
+use Rattle.definition.specs.Paths.{kind_number, extend, contains_path, path_kinds}
+use Rattle.pop.proofs.Tests.{keeps_each}
 use Rattle.pop.proofs.stays.paths_keep_kind.Goals as goal
-use Rattle.std.proofs.Common.{ap, not}
-
-pub returns-then-not-ep_keeps : goal.returns-then-not-ep_keeps
-returns-then-not-ep_keeps c =
-    fails_1 (λ (ks : List PathKind). bound_keeps c.args.lowest c.args.path (contained_in c.args.eps.bits ks)) refl c.ep_keeps.result
-    c.ep_keeps.ensures (ap not c.if-not-ep_keeps.true)
-
-pub returns-then-not-ep_keeps-2 : goal.returns-then-not-ep_keeps-2
-returns-then-not-ep_keeps-2 c =
-    fails_2 (λ (ks : List PathKind). bound_keeps c.args.lowest c.args.path (contained_in c.args.eps.bits ks)) refl c.ep_keeps.result
-    c.ep_keeps.ensures (ap not c.if-not-ep_keeps.false) c.ep_keeps-2.result c.ep_keeps-2.ensures (ap not c.if-not-ep_keeps-2.true)
-
-pub returns-then-not-ep_keeps-3 : goal.returns-then-not-ep_keeps-3
-returns-then-not-ep_keeps-3 c =
-    fails_3 (λ (ks : List PathKind). bound_keeps c.args.lowest c.args.path (contained_in c.args.eps.bits ks)) refl c.ep_keeps.result
-    c.ep_keeps.ensures (ap not c.if-not-ep_keeps.false) c.ep_keeps-2.result c.ep_keeps-2.ensures (ap not c.if-not-ep_keeps-2.false) c.ep_keeps-3.result
-    c.ep_keeps-3.ensures (ap not c.if-not-ep_keeps-3.true)
 
 pub returns : goal.returns
 returns c =
-    last_4 (λ (ks : List PathKind). bound_keeps c.args.lowest c.args.path (contained_in c.args.eps.bits ks)) refl c.ep_keeps.result
-    c.ep_keeps.ensures (ap not c.if-not-ep_keeps.false) c.ep_keeps-2.result c.ep_keeps-2.ensures (ap not c.if-not-ep_keeps-2.false) c.ep_keeps-3.result c.ep_keeps-3.ensures
-    (ap not c.if-not-ep_keeps-3.false) c.ep_keeps-4.result c.ep_keeps-4.ensures
+    all_from_yields_List (λ (ep : PathKind). not (contains_path c.args.eps.bits ep) || leb (kind_number (extend ep c.args.path)) (kind_number c.args.lowest))
+    _ _ _ c.all.ensures.ran (YieldsList-from_slice path_kinds cc) (λ x b q k. search (rules, tests))
+    ∙ keeps_each c.args.eps.bits (kind_number c.args.lowest) c.args.path path_kinds

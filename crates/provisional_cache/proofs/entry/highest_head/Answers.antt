@@ -5,11 +5,7 @@ use Rattle.definition.specs.Heads.{highest_index}
 use Rattle.layout.specs.Blocks.{heads_of}
 use Rattle.layout.specs.Entry.{entry_of}
 use Rattle.provisional_cache.proofs.Entries.{entry_heads_block}
-use borrow.Author.Rules.{rules}
 use Rattle.provisional_cache.proofs.entry.highest_head.Goals as goal
-
-pub heads-requires : goal.heads-requires
-heads-requires c = search rules
 
 pub highest-requires : goal.highest-requires
 highest-requires c =

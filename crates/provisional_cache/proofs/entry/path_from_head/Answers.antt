@@ -1,13 +1,6 @@
 use Rattle.layout.specs.Entry.{entry_of}
-use borrow.Author.Rules.{rules}
 use Rattle.provisional_cache.proofs.entry.path_from_head.Goals as goal
-
-pub bounds-entry-2 : goal.bounds-entry-2
-bounds-entry-2 c = search rules
-
-pub from_number-requires : goal.from_number-requires
-from_number-requires c = search rules
 
 pub returns : goal.returns
 unfolding entry_of
-returns c = c.from_number.ensures
+returns c = c.from.ensures

@@ -1,3 +1,4 @@
+use Rattle.definition.specs.Stack.{Stack}
 use Rattle.evaluation.specs.Outcomes.{CountsIn}
 use Rattle.evaluation.proofs.Lent.{lent_bytes}
 use Rattle.search_graph.proofs.Lending.{lent_stack, iteration_ended}
@@ -9,10 +10,10 @@ end_iteration-requires c =
       bytes = lent_bytes c.args.goals c.args.work.now c.requires.work_bytes.0 c.graph_length-n.result c.graph_length-n.ensures.0;
       low = c.requires.le_height.0;
       high = c.requires.le_height.1.0;
-      few = c.requires.le_height.1.1;
       counts =
           lent_stack c.args.goals c.args.work.now c.graph_length-n.result c.requires.work_bytes.0 c.graph_length-n.ensures.0
-          (λ st. CountsIn st c.args.o) c.args.height c.requires.work_bytes.1;
+          (λ (st : Stack). CountsIn st c.args.o) c.args.height c.requires.work_bytes.1;
+      few = c.requires.le_height.1.1;
     }
 
 pub returns : goal.returns

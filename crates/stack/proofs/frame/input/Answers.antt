@@ -1,13 +1,7 @@
 use Rattle.layout.specs.Frame.{frame_of}
-use borrow.Author.Rules.{rules}
+use native.Mathlib.Omega.{arith}
 use Rattle.stack.proofs.frame.input.Goals as goal
-
-pub bounds-frame-0 : goal.bounds-frame-0
-bounds-frame-0 c = search rules
-
-pub wide-requires : goal.wide-requires
-wide-requires c = search rules
 
 pub returns : goal.returns
 unfolding frame_of
-returns c = c.wide.ensures
+returns c = (c.from.ensures, omega arith)

@@ -1,12 +1,5 @@
 use Rattle.stack.proofs.Counts.{frame_steps}
-use borrow.Author.Rules.{rules}
 use Rattle.stack.proofs.frame.steps.Goals as goal
-
-pub counts_start-requires : goal.counts_start-requires
-counts_start-requires c = search rules
-
-pub read_u64-requires : goal.read_u64-requires
-read_u64-requires c = search rules
 
 pub returns : goal.returns
 returns c =

@@ -3,11 +3,7 @@ use Rattle.buffer.specs.Regions.{region}
 use Rattle.layout.specs.Blocks.{block_size, candidate_of}
 use Rattle.layout.specs.Frame.{candidate_start, frame_of}
 use Rattle.stack.proofs.Values.{test_some}
-use borrow.Author.Rules.{rules}
 use Rattle.stack.proofs.frame.tracks.Goals as goal
-
-pub bounds-frame-7 : goal.bounds-frame-7
-bounds-frame-7 c = search rules
 
 pub returns : goal.returns
 unfolding frame_of

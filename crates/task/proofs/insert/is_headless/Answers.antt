@@ -2,11 +2,7 @@ use mathlib.Core.Path.{◌∙◌}
 use Rattle.stack.proofs.Graph.{frame_bytes_lem}
 use Rattle.stack.proofs.Blocks.{heads_block}
 use Rattle.task.proofs.Nested.{headless_is}
-use borrow.Author.Rules.{rules}
 use Rattle.task.proofs.insert.is_headless.Goals as goal
-
-pub frame_at-requires : goal.frame_at-requires
-frame_at-requires c = search rules
 
 pub heads-requires : goal.heads-requires
 heads-requires c =

@@ -3,11 +3,7 @@ use mathlib.Core.List.{List}
 use Prim.Native.Nat.{ℕ}
 use Rattle.layout.specs.Frame.{frame_of}
 use Rattle.stack.proofs.Graph.{frame_bytes_lem}
-use borrow.Author.Rules.{rules}
 use Rattle.task.proofs.insert.nested_at.Goals as goal
-
-pub frame_at-requires : goal.frame_at-requires
-frame_at-requires c = search rules
 
 pub nested-requires : goal.nested-requires
 nested-requires c =

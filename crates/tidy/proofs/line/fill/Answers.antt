@@ -1,4 +1,4 @@
-use mathlib.Core.Path.{◌∙◌, ◌≡◌, ap, refl, sym}
+use mathlib.Core.Path.{◌∙◌, ◌≡◌, ap, refl}
 use mathlib.Core.List.{List}
 use Prim.Native.Nat.{ℕ}
 use lib.ListN.{length, set}
@@ -16,8 +16,6 @@ filled bs h l =
     (λ bs. set (put_columns (put_columns (put_columns (put_columns (put_columns bs 0 l.code) 3 l.first) 6 l.second) 9 l.third) 12 l.fourth) 15 10 ≡ write_line l)
     (λ b0 b1 b2 b3 b4 b5 b6 b7 b8 b9 b10 b11 b12 b13 b14 b15. refl) bs h
 
-pub shape_of-s : goal.shape_of-s
-shape_of-s c = ap length ((let it : set c.put-5.new.s 15 10 ≡ write_line c.args.l = ap (λ s. set s 15 10) (c.put-5.ensures ∙ ap (λ s. put_columns s 12 c.args.l.fourth) (c.put-4.ensures ∙ ap (λ s. put_columns s 9 c.args.l.third) (c.put-3.ensures ∙ ap (λ s. put_columns s 6 c.args.l.second) (c.put-2.ensures ∙ ap (λ s. put_columns s 3 c.args.l.first) c.put.ensures)))) ∙ filled c.args.s.now c.requires c.args.l in it)) ∙ sym c.requires
-
 pub returns : goal.returns
-returns c = (let it : set c.put-5.new.s 15 10 ≡ write_line c.args.l = ap (λ s. set s 15 10) (c.put-5.ensures ∙ ap (λ s. put_columns s 12 c.args.l.fourth) (c.put-4.ensures ∙ ap (λ s. put_columns s 9 c.args.l.third) (c.put-3.ensures ∙ ap (λ s. put_columns s 6 c.args.l.second) (c.put-2.ensures ∙ ap (λ s. put_columns s 3 c.args.l.first) c.put.ensures)))) ∙ filled c.args.s.now c.requires c.args.l in it)
+returns c =
+    ap (λ s. set s 15 10) (c.put-5.ensures ∙ ap (λ s. put_columns s 12 c.args.l.fourth) (c.put-4.ensures ∙ ap (λ s. put_columns s 9 c.args.l.third) (c.put-3.ensures ∙ ap (λ s. put_columns s 6 c.args.l.second) (c.put-2.ensures ∙ ap (λ s. put_columns s 3 c.args.l.first) c.put.ensures)))) ∙ filled c.args.s.now c.requires c.args.l

@@ -1,16 +1,6 @@
 use Rattle.layout.specs.Frame.{frame_of}
 use Rattle.stack.proofs.Child as frames
-use borrow.Author.Rules.{rules}
 use Rattle.stack.proofs.frame.child.add_entry.Goals as goal
-
-pub reach-requires : goal.reach-requires
-reach-requires c = search rules
-
-pub insert_itself-requires : goal.insert_itself-requires
-insert_itself-requires c = search rules
-
-pub shape_of-frame : goal.shape_of-frame
-shape_of-frame c = search rules
 
 pub returns : goal.returns
 returns c = let s = c in frames.entry_added s.args.step s.args.overflow s.args.reached (frame_of s.args.goals s.args.frame.now) (frame_of s.args.goals c.reach.new.frame) c.reach.ensures (frame_of s.args.goals c.insert_itself.new.frame) c.insert_itself.ensures

@@ -2,23 +2,10 @@ use mathlib.Core.Path.{sym, ap, ◌∙◌}
 use mathlib.Core.Bool.{Bool}
 use Rattle.layout.specs.Frame.{frame_of}
 use Rattle.stack.specs.Child.{insert_own, finish_nested}
-use borrow.Author.Rules.{rules}
 use Rattle.stack.proofs.frame.child.add_evaluated.Goals as goal
-
-pub reach-requires : goal.reach-requires
-reach-requires c = search rules
-
-pub shape_of-frame-then-none : goal.shape_of-frame-then-none
-shape_of-frame-then-none c = search rules
 
 pub returns-then-none : goal.returns-then-none
 returns-then-none c = let s = c in c.reach.ensures ∙ sym (ap (λ (t : Bool). finish_nested s.args.overflow t s.args.reached (frame_of s.args.goals s.args.frame.now)) c.if-none.true)
-
-pub insert_itself-requires : goal.insert_itself-requires
-insert_itself-requires c = search rules
-
-pub shape_of-frame : goal.shape_of-frame
-shape_of-frame c = search rules
 
 pub returns : goal.returns
 returns c = let s = c in c.insert_itself.ensures ∙ ap insert_own c.reach.ensures ∙ sym (ap (λ (t : Bool). finish_nested s.args.overflow t s.args.reached (frame_of s.args.goals s.args.frame.now)) c.if-none.false)

@@ -1,13 +1,24 @@
-use native.Mathlib.Omega.{arith}
-use lib.ListN.{length-set}
+use Prim.Native.Nat.{min}
+use mathlib.Core.Bool.{◌||◌}
+use mathlib.Core.Path.{◌≡◌, sym, ap, ◌∙◌}
+use Rattle.layout.specs.Frame.{truth, frame_of}
 use Rattle.stack.proofs.Child as frames
+use Rattle.stack.proofs.Values.{truth_byte}
 use Rattle.stack.proofs.frame.child.reach.Goals as goal
+use Rattle.stack.proofs.frame.child.reach.Goals.{then-overflow, else-overflow}
 
-pub bounds-frame-3 : goal.bounds-frame-3
-bounds-frame-3 c = simp length-set (omega arith)
-
-pub bounds-frame-3-2 : goal.bounds-frame-3-2
-bounds-frame-3-2 c = simp length-set (omega arith)
+-- whether overflow was met, before or now
+met : (c : goal.After-min) → c.if-overflow.met ≡ ((frame_of c.args.goals c.args.frame.now).encountered_overflow || c.args.overflow)
+met c =
+    elim c.if-overflow.branch [
+      | then-overflow w ↦ w.met-is ∙ w.if-overflow.true ∙ sym (ap (λ t. t || c.args.overflow) (sym c.overflow.ensures ∙ w.if-overflow.true))
+      | else-overflow w ↦ w.met-is ∙ sym (ap (λ t. t || c.args.overflow) (sym c.overflow.ensures ∙ w.if-overflow.false))
+    ]
 
 pub returns : goal.returns
-returns c = let s = c in frames.reach_frame_lem s.args.goals s.args.frame.now c.marked.result c.lesser.result s.args.overflow s.args.reached s.requires.long c.marked.ensures c.lesser.ensures
+unfolding frame_of
+returns c =
+    let a = c.args in
+    frames.reach_frame_lem a.goals a.frame.now c.from.result c.min.result a.overflow a.reached c.requires.long
+    (ap truth c.from.ensures ∙ truth_byte c.if-overflow.met ∙ met c)
+    (c.min.ensures ∙ ap (λ x. min x a.reached) c.from-before.ensures)

@@ -1,6 +1,0 @@
-use mathlib.Core.Path.{ap₂}
-use lib.Dec.{eqb}
-use Rattle.definition.proofs.paths.PathKind.same.Goals as goal
-
-pub returns : goal.returns
-returns c = ap₂ eqb c.number.ensures c.number-2.ensures
