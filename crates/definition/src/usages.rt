@@ -17,7 +17,7 @@ pub struct HeadUsages {
 const LIMIT: u64 = 4294967296;
 
 // The sum of two counters, or the limit; a counter at the limit keeps its value. (By `saturating_add`
-// and `min` the compiler adds the four counters of a head one by one: books with picks take 3 to 7 % more
+// and `min` the compiler adds the four counters of a head one by one: books with picks take 2 to 3 % more
 // instructions.)
 #[tactic(auto, using(crate::proofs::Counters::by_limit), unfolding(crate::specs::Usages::counter_limit))]
 fn add(a: u64, b: u64) -> u64

@@ -55,7 +55,7 @@ fn unless(op: Op, combined: Answer, deciding: Answer, answer: Answer, entries: u
 }
 
 // After each part. A refusal of the part is the group's. (As a Result of a `Weighed`, for `?`, books
-// of many groups take 3 to 4 % more instructions.)
+// of many groups take 1 % more instructions.)
 pub fn weigh(o: Outcome, group: Group) -> Weighed
     ensures { GroupWeighed o group result }
 {
