@@ -3,13 +3,15 @@
 // number more: how often the goal's part was run for the answer.
 #![tactic(auto)]
 
-ghost use Rattle.std.specs.Prelude.{◌≡◌, Ok};
+ghost use Rattle.std.specs.Prelude.{◌≡◌, Ok, List, ℕ};
+ghost use Rattle.definition.specs.Line.{columns};
 ghost use Rattle.definition.specs.Reader.{read_book};
 ghost use Rattle.definition.specs.Query.{query};
 ghost use Rattle.query.specs.Carried.{Carried};
 ghost use Rattle.question.specs.Lines.{read_question};
 ghost use Rattle.ask.specs.Program.{opened, replied, turned, turn, passes_asked, Lent, Ready};
 
+use book::columns;
 use definition::format::Header;
 use question::{Ending, Question};
 use std::env::{Env, FillError};
@@ -59,6 +61,20 @@ fn answer_line(
     Ok(reply(book, cache, work, q))
 }
 
+// The line that is printed for what a question line came to.
+fn printed(came: Result<[u8; 13], Ending>) -> [u8; 13]
+    ensures { (cache work : List ℕ) → result ≡ (turned came cache work).line }
+{
+    came.unwrap_or_else(question::ending_line)
+}
+
+// Whether another question line is read after it.
+fn goes_on(came: Result<[u8; 13], Ending>) -> bool
+    ensures { (cache work : List ℕ) → result ≡ (turned came cache work).more }
+{
+    came.is_ok()
+}
+
 // How often the part of the goal that a question line asks was run for the answer, after it.
 fn passes(book: &[u8], cache: &[u8], line: &[u8]) -> u8
     ensures { result ≡ passes_asked book.now cache.now (read_question line.now) }
@@ -76,13 +92,21 @@ fn has_argument(env: &impl Env) -> bool {
     !matches!(env.arg(1, &mut [0u8; 1]), Err(FillError::NotPresent))
 }
 
+// A number of passes in three columns.
+fn passes_columns(n: u8) -> [u8; 3]
+    ensures { result ≡ columns n }
+{
+    columns::of_number(u16::from(n))
+}
+
 // Prints a line, with the number of passes where that is asked for.
 fn print(rt: &impl Print, line: [u8; 13], passes: Option<u8>) -> io::Result<()> {
     let Some(n) = passes else {
         return rt.write_all(&line);
     };
     rt.write_all(&line[..12])?;
-    println!(rt; "{n:3}")
+    rt.write_all(&passes_columns(n))?;
+    rt.write_all(b"\n")
 }
 
 // Reads a question line and prints its reply; false where no more is read. Cache and workspace are ready for the
@@ -104,10 +128,10 @@ fn ask_once(
         return Ok(false);
     }
     let line = &line[..n];
-    let reply = answer_line(book, cache, work, line);
+    let came = answer_line(book, cache, work, line);
     let passes = shows.then(|| passes(book, cache, line));
-    print(rt, reply.unwrap_or_else(question::ending_line), passes)?;
-    Ok(reply.is_ok())
+    print(rt, printed(came), passes)?;
+    Ok(goes_on(came))
 }
 
 // Answers all questions over a book that was accepted, from a cache of zeros. A proved

@@ -3,12 +3,21 @@
 // inductive and a coinductive step inside one group, and the goals of that group.
 #![tactic(auto)]
 
+ghost use Rattle.std.specs.Prelude.{◌≡◌, ◌%◌};
+ghost use Rattle.definition.specs.Line.{columns};
+
+use book::columns;
 use std::io;
 
-// The last three digits of a number; no line has a longer one.
+// The last three digits of a number in three columns; no line has a longer one.
+fn last_columns(n: u64) -> [u8; 3]
+    ensures { result ≡ columns (n % 1000) }
+{
+    columns::of_number((n % 1000) as u16)
+}
+
 fn print(rt: &impl Print, n: u64) -> io::Result<()> {
-    let low = n % 1000;
-    print!(rt; "{low:3}")
+    rt.write_all(&last_columns(n))
 }
 
 fn print_goals(rt: &impl Print, group: u64) -> io::Result<()> {
