@@ -45,8 +45,8 @@ pub fn entry_at(graph: &[u8], goals: usize, i: usize) -> &[u8]
 }
 
 // The same in bytes that hold the entries from `base` on. `entry_at` is not this at a graph's
-// base: with that the frame of `evaluate` is 16 bytes longer, and a query needs 294 KB of the
-// machine's stack (measured; docs/DECISIONS.md, 40).
+// base: with that the frame of `evaluate` is longer, and a query needs more of the machine's
+// stack (measured; docs/DECISIONS.md, 40).
 pub fn entry_from(bytes: &[u8], goals: usize, base: usize, i: usize) -> &[u8]
     requires { EntriesBytes goals base bytes.now × (i < 2 * goals) }
     ensures { result.now ≡ entry_bytes_from goals base i bytes.now }

@@ -82,7 +82,7 @@ pub fn end_iteration(
     let ending = ending::ending_of(f, goals, left, done.answer);
     let entries = done.entries;
     // Two calls, as one would be no function of its own in the machine code: it would stand inside
-    // the cycle of calls, where a query took 383,248 bytes of stack in place of 294,848.
+    // the cycle of calls, where a query takes more of the machine's stack (docs/DECISIONS.md, 51).
     match ending {
         Ending::Overflow => {
             let limit = Ending::Overflow;
